@@ -1,4 +1,4 @@
--- A client's record that is sent over a stream, and what comes of it.
+-- A client's record that is sent over a stream, and its outcome.
 use Rattle.std.proofs.Common.{◌≡◌, ℕ, List, Option, Some, None, Result, Err, inl, inr, refl, sym, ap, ◌∙◌}
 use Rattle.std.specs.Global.{Vec}
 use Rattle.model.specs.Wire.Record.{Front, Partial, Refused, Whole, front}

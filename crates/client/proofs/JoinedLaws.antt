@@ -1,4 +1,4 @@
--- What a client sends is what the server runs, and what that replies is what the client tells.
+-- What a client sends is what the server runs, and what that replies is what the client returns.
 use Rattle.std.proofs.Common.{◌≡◌, ◌+◌, ◌<◌, ◌^◌, ◌==◌, ℕ, false, cond, List, [], ◌++◌, length, Option, Some, Ok, refl, sym, ap, ◌∙◌, subst, arith, append_assoc, append-nil, ne_eqb}
 use Rattle.std.proofs.lemmas.Bool.{eq-eqb}
 use Rattle.std.specs.Prelude.{option_map}
@@ -72,7 +72,7 @@ module _ (xid : ℕ) (cred : Cred) (tag : List ℕ) (operations : List Argument)
   unfolding request_of
   runs = ap (by_cred call) known ∙ (ap (by_head cred) head_read ∙ rw counted refl)
 
-  -- where it arrives
+  -- when it arrives
   module _ (world : World) (number : ℕ) (within : IsWithin world text) (piece : List ℕ)
       (is : IsWhole (record_text xid (credential_text cred) tag operations) world number piece) where
     came : arrives_at world.limits.records piece (Quiet is.so_far) ≡ Waiting text

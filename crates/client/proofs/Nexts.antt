@@ -1,4 +1,4 @@
--- Where an operation's spelling stands next, it is read, or refused under its own number.
+-- If an operation's encoding comes next, the operation is read, or refused under its own number.
 use Rattle.std.proofs.Common.{◌≡◌, ◌==◌, ◌&&◌, ◌||◌, not, ℕ, Bool, true, false, cond, List, ◌++◌, Result, Ok, refl, sym, ap, ◌∙◌, subst, nat_lt, append_assoc}
 use Rattle.std.proofs.lemmas.Bool.{true≢false}
 use Rattle.std.specs.Int.{w32}

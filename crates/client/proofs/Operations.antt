@@ -26,7 +26,7 @@ count : (list : List Argument) → length (map argument_view list) ≡ length li
 count [] = refl
 count (a ∷ list) = ap suc (count list)
 
--- the call of operations alone, and after a SEQUENCE, in the parts that are written
+-- the call of just the operations, and of them after a SEQUENCE, in the parts that are written
 
 pub alone_text : (xid : ℕ) (credential tag : List ℕ) (list : List Argument)
     → head_text xid credential tag (length list) ++ operations_text (map argument_view list) ≡ call_text xid credential tag (map argument_view list)

@@ -1,4 +1,4 @@
--- A call is answered: by induction over what happens.
+-- A call gets its reply: by induction over what happens.
 use Rattle.std.proofs.Common.{◌≡◌, ◌+◌, ◌<◌, ◌≤◌, inl, inr, ℕ, zero, suc, Bool, true, false, cond, not, ◌==◌, List, Option, None, Some, Result, Ok, Err, refl, sym, ap, ◌∙◌, subst, arith}
 use Rattle.std.proofs.lemmas.Bool.{true≢false}
 use Rattle.std.proofs.lemmas.Option.{same_Some}
@@ -52,7 +52,7 @@ call_some call =
     (some_of (call.procedure == 1) _ _
     (some_of (call.flavour == 0) _ _ tt (some_of (call.flavour == 1) _ _ (cred_some call (cred_of call.credential)) tt)) tt)))
 
--- What is answered without an operation
+-- What is replied to without an operation
 
 abbrev IsShort : Request → Type 0
 IsShort (Answers reply) = Unit {0}

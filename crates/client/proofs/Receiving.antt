@@ -59,7 +59,7 @@ too_many old new size count header room h small many =
       long = refl;
     }
 
--- the reader ends in the midst of the fragment
+-- the reader ends in the middle of the fragment
 pub cut_short : (old mid new : Option (List ℕ)) (size count header : ℕ) (before room body : List ℕ) → ReadsHeader old mid (Some header) → Consumes mid new body
     → size + header % 2 ^ 31 ≤ 16384 → count < 64 → length body < header % 2 ^ 31 → take (4 + size) room ≡ take (4 + size) before → length room ≡ length before
     → Fetches old new size count before room fetched.Ended
@@ -102,7 +102,7 @@ is_whole old mid new size count header is_last before room body h reads small fe
       long = long;
     }
 
--- One after the other: what is gathered stands in the room, after the place of a header
+-- One after the other: what is gathered is in the room, after the place of a header
 
 abbrev pub gathered_in : (room : List ℕ) → (size fragments : ℕ) → Gathered
 gathered_in room size fragments = record { bytes = take size (drop 4 room); fragments = fragments }
@@ -153,7 +153,7 @@ refused old now new size fragments room after g f =
       long = f.long ∙ g.long;
     }
 
--- the front of the room, after the place of a header
+-- the beginning of the room, after the place of a header
 front_of : (size : ℕ) (room : List ℕ) → take size (drop 4 room) ≡ drop 4 (take (4 + size) room)
 front_of size room = sym (drop-take 4 size room)
 
@@ -164,7 +164,7 @@ joins size more room after part front is =
     ∙ ap (λ (bytes : List ℕ). take size (drop 4 after) ++ bytes) (is ∙ ap (λ (n : ℕ). take more (drop n after)) (omega arith) ∙ ap (take more) (sym (drop-drop size 4 after)))
     ∙ sym (take-add size more (drop 4 after))
 
--- the fragment that was fetched, at the front of what follows it
+-- the fragment that was fetched, as the prefix of what follows it
 part_is : (read rest : List ℕ) (more : ℕ) → length read ≡ 4 + more → part_of more (read ++ rest) ≡ drop 4 read
 part_is read rest more long =
     ap (take more) (drop-append-le 4 read rest (omega arith)) ∙ take-append-le more (drop 4 read) rest (omega (arith, length-drop 4 read)) ∙ take_all more (drop 4 read) (omega (arith, length-drop 4 read))
@@ -242,7 +242,7 @@ pub none_yet : front record_limits [] ≡ Partial
 unfolding front_from
 none_yet = refl
 
--- The header that stands before the record in the end
+-- The header that is before the record in the end
 
 -- a slice of a whole vector is the vector
 pub lent : (n : ℕ) (room items : List ℕ) → length room ≡ n → take n (room ++ drop (length room) items) ≡ room

@@ -1,4 +1,4 @@
--- What becomes of a record that is sent again.
+-- What happens to a record that is sent again.
 use Rattle.std.proofs.Common.{◌≡◌, ◌==◌, ◌&&◌, not, ℕ, suc, Bool, true, cond, List, [], ◌∷◌, ◌++◌, length, Option, None, Some, Result, Ok, refl, sym, ap, ap₂, ◌∙◌, subst, append_assoc, ne_eqb, arith}
 use Rattle.std.proofs.lemmas.Bool.{eq-eqb}
 use Rattle.std.specs.Int.{w32}
@@ -102,7 +102,7 @@ every_held_is_found uid count sequence table result is =
         ap (begin_held uid sequence) held
         ∙ ap₂ (λ (number caller : Bool). cond (number && caller) (sessions.Replays result) (sessions.Refuses status.DeadSession)) same user
 
--- The client is told the same again
+-- The client returns the same again
 
 pub every_outcome_is_told_again : EveryOutcomeIsToldAgain
 every_outcome_is_told_again client cred sequence others xid first place outcomes result later number now piece exchange sent = (

@@ -1,4 +1,4 @@
--- The client tells the outcomes of its record's operations: by induction over the turns.
+-- The client returns the outcomes of its record's operations: by induction over the turns.
 use Rattle.std.proofs.Common.{◌≡◌, ◌+◌, ◌<◌, ◌≤◌, ◌^◌, ◌||◌, not, ◌⊎◌, inl, inr, ℕ, Bool, true, false, cond, List, [], ◌∷◌, ◌++◌, length, Option, None, Some, refl, sym, ap, ◌∙◌, subst, arith, append_assoc, length-append}
 use Rattle.std.specs.Int.{w32, to_be_bytes}
 use Rattle.std.specs.List.{AllByRecursion}
@@ -38,7 +38,7 @@ code_small : (reason : Status) → code_of reason < 2 ^ 32
 code_small status.Ok = omega arith
 code_small reason = omega arith
 
--- What stands next, and its outcome
+-- What comes next, and its outcome
 
 behind_is : (asked : Argument) (rest bytes : List ℕ) (next : Next) → IsNext asked rest next → IsBehind next bytes → bytes ≡ rest
 behind_is asked rest bytes (Refuses operation reason) is_next behind = absurd behind
@@ -103,7 +103,7 @@ module _ (xid : ℕ) (tag : List ℕ) where
   abbrev StandsAt : ℕ → World → List Outcome → List Argument → Type 0
   StandsAt number world done left = Goes (IsOn done left) (request_at world (at number world.connections))
 
-  -- the reply tells these outcomes after the others, of which the last has this status
+  -- the reply has these outcomes after the others, of which the last has this status
   record IsEnd (done : List Outcome) (left : List Argument) (outcomes : List Outcome) (reply : List ℕ) : Type 0 where
     request : InProgress
     last : Status

@@ -1,4 +1,4 @@
--- What the definitions compute to of the exchange that is worked out by hand.
+-- The results of the definitions for the exchange that is worked out by hand.
 use Rattle.std.proofs.Common.{◌≡◌, ◌<◌, ℕ, Bool, true, false, List, [], ◌∷◌, length, get_or, Some, None, inl, inr, refl, sym, ap, subst, cond, ◌∙◌, arith, nat_lt}
 use Rattle.std.specs.List.{list_all}
 use Rattle.std.proofs.lemmas.Bool.{cases_lt, ltb-true, true≢false}
@@ -72,7 +72,7 @@ sent = record_text 5 (credential_text caller) [] operations
 whole : IsWhole sent world 0 sent
 whole = record { so_far = []; has = refl; joins = refl }
 
--- What a turn comes to, by what it reads
+-- The outcome of a turn, by what it reads
 
 module _ (world : World) (number now : ℕ) (request : InProgress) (operation : Argument) (rest : List ℕ) (given : Outcome) (after : World) (left : InProgress)
     (asks : request_at world (at number world.connections) ≡ Some request) (reads : next_operation request ≡ Reads operation rest)

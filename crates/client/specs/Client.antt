@@ -2,7 +2,7 @@
 -- RFC 5531, section 9.
 use Rattle.std.specs.Prelude.{ℕ, Bool, List, Option}
 
--- the session that was answered last, and the number of the next request on its slot 0
+-- the session that CREATE_SESSION returned last, and the number of the next request on its slot 0
 pub record Session : Type 0 where
   pub id : List ℕ
   pub number : ℕ
@@ -15,7 +15,7 @@ pub record Sent : Type 0 where
   -- as it is sent, its header included
   pub bytes : List ℕ
   pub is_answered : Bool
-  -- a reply told that its SEQUENCE ended well
+  -- a reply said that its SEQUENCE succeeded
   pub is_counted : Bool
 
 pub record Client : Type 0 where

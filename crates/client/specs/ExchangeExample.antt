@@ -88,7 +88,7 @@ world =
       connections = (0, Quiet []) ∷ [];
     }
 
--- what is answered
+-- the outcomes in the reply
 abbrev pub outcomes : List Outcome
 outcomes =
     Outcome.Done

@@ -1,4 +1,4 @@
--- What a client's record that is sent over a stream comes to, and what the client knows then.
+-- The outcome of a client's record that is sent over a stream, and what the client knows then.
 use Rattle.std.specs.Prelude.{◌≡◌, ◌⊎◌, ℕ, List, [], map, Option, None, Some, Result, Ok, Err}
 use Rattle.std.specs.Global.{Vec}
 use Rattle.model.specs.Wire.Record.{Front, Partial, Refused, Whole, front, framed}
@@ -19,8 +19,8 @@ reply_in client Partial = NoReply
 reply_in client (Refused fault) = NoReply
 reply_in client (Whole bytes rest) = reply_to client (framed bytes)
 
--- What the bytes read tell: Io while they are no whole record, Garbled where a header is refused,
--- and else what `reply` answers of the record, after which nothing is read.
+-- The result for the bytes read: Io while they are no whole record, Garbled if a header is refused,
+-- and otherwise what `reply` returns for the record, after which nothing is read.
 abbrev pub Tells : Client → Front → Result (Vec Outcome) ClientFault → Type 0
 Tells client Partial r = r ≡ Err faults.Io
 Tells client (Refused fault) r = r ≡ Err faults.Garbled
@@ -37,14 +37,14 @@ pub record Exchanges (client new : Client) (bytes : List ℕ) (before after : St
   pub tells : Tells client (front record_limits read) result
   pub knows : new ≡ known client (reply_in client (front record_limits read)) result
 
--- the call is refused, with nothing written, nothing read and nothing changed
+-- the call fails, with nothing written, nothing read and nothing changed
 pub record Stays (fault : ClientFault) (client new : Client) (before after : Stream)
     (result : Result (Vec Outcome) ClientFault) : Type 0 where
   pub refused : result ≡ Err fault
   pub same : new ≡ client
   pub untouched : after ≡ before
 
--- Pending where no record is kept, Memory where there is none for the reply
+-- Pending if no record is kept, Memory if there is none for the reply
 abbrev pub ResendsKept : Option (List ℕ) → (client new : Client) → (before after : Stream)
     → Result (Vec Outcome) ClientFault → Type 0
 ResendsKept None client new before after r = Stays faults.Pending client new before after r
@@ -55,7 +55,7 @@ abbrev pub Resends : (client new : Client) → (before after : Stream)
     → Result (Vec Outcome) ClientFault → Type 0
 Resends client new before after r = ResendsKept (bytes_kept client.sent) client new before after r
 
--- Pending where the client has to wait, Memory where there is none for the record
+-- Pending if the client has to wait, Memory if there is none for the record
 abbrev pub Asks : Option Client → (client new : Client) → (before after : Stream)
     → Result (Vec Outcome) ClientFault → Type 0
 Asks None client new before after r = Stays faults.Pending client new before after r

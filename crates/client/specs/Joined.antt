@@ -1,5 +1,5 @@
 -- The two ends of a connection: the record that a client sends is the COMPOUND that the server's
--- definition runs, and of the reply that this makes the client tells its results.
+-- definition runs, and from the reply that this makes the client returns its results.
 use Rattle.std.specs.Prelude.{◌≡◌, ◌<◌, ◌≤◌, ◌^◌, ℕ, List, ◌++◌, length, Some}
 use Rattle.xdr.specs.Laws.{IsBytes}
 use Rattle.model_tree.specs.declared.acl.Cred.{Cred}
@@ -73,8 +73,8 @@ EveryRecordIsAsked =
 
 -- The reply
 
--- A request that ends is replied so; where its results answer the operations that the client sent,
--- the client tells them, and no others.
+-- A request that ends gets this reply; if its results are those of the operations that the client
+-- sent, the client returns them, and no others.
 abbrev pub EveryReplyIsTold : Type 0
 EveryReplyIsTold =
     (tag : List ℕ) (sent : Sent) (request : InProgress) (outcomes : List Outcome) (last : Status)

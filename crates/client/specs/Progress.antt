@@ -22,7 +22,7 @@ pub data HasTurns (number : ℕ) : (turns : ℕ) → World → World → Type 0 
 abbrev pub HasReply : World → (number : ℕ) → Type 0
 HasReply world number = (reply : List ℕ) × (at number world.connections ≡ Some (Replied reply))
 
--- the operations of a call; none where no COMPOUND is run
+-- the operations of a call; 0 if no COMPOUND is run
 abbrev pub operations_by : Request → ℕ
 operations_by (Answers reply) = 0
 operations_by (Runs cred compound) = compound.count

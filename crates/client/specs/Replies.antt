@@ -1,4 +1,4 @@
--- What a reply tells of a record, and what the client knows from it: RFC 8881, sections 2.10.6.1,
+-- What a reply says of a record, and what the client knows from it: RFC 8881, sections 2.10.6.1,
 -- 16.2 and 18.36; RFC 5531, section 9.
 use Rattle.std.specs.Prelude.{ℕ, ◌+◌, ◌%◌, ◌^◌, Bool, true, false, not, ◌&&◌, ◌||◌, ◌==◌, List, [], ◌∷◌, length, fold, Option, None, Some, Result, Ok, Err, bytes_eq, if◌then◌else◌}
 use Rattle.std.specs.Option.{option_map}
@@ -30,9 +30,9 @@ abbrev pub is_ok : Outcome → Bool
 is_ok (Done answer) = true
 is_ok (Refused operation reason) = false
 
--- The status of the last of these results, where they answer a front of the operations of these
--- numbers: each ended well but perhaps the last, and where that one did all operations are
--- answered.
+-- The status of the last of these results, if they are the results of a prefix of the operations of
+-- these numbers: each succeeded except perhaps the last, and if that one did, there are results for
+-- all operations.
 abbrev pub ending : (operations : List ℕ) → List Outcome → Option Status
 ending [] results = None
 ending (operation ∷ operations) [] = None
@@ -67,7 +67,7 @@ result_by tag operations (Ok read) =
     then gives_by read.0.1.1 read.0.0 (ending operations read.0.1.1)
     else NoReply
 
--- the result that a reply tells; none where the call was denied or not accepted
+-- the result that a reply has; none if the call was denied or not accepted
 abbrev pub result_in : Reply → Option (List ℕ)
 result_in (Success result) = Some result
 result_in _ = None
@@ -103,7 +103,7 @@ reply_read tag sent bytes = message_by tag sent (message_of bytes)
 
 -- What the client knows then
 
--- a session that CREATE_SESSION answered: its numbers begin at 1, unless it is the one that the
+-- a session that CREATE_SESSION returned: its numbers begin at 1, unless it is the one that the
 -- client has
 abbrev pub joined : Option Session → (id : List ℕ) → Session
 joined None id = record { id = id; number = 1 }
@@ -114,7 +114,7 @@ abbrev pub session_after : Option Session → Outcome → Option Session
 session_after session (Done (Answer.CreateSession answer)) = Some (joined session answer.session)
 session_after session _ = session
 
--- the record's own SEQUENCE ended well
+-- the record's own SEQUENCE succeeded
 abbrev pub is_run : List Outcome → Bool
 is_run (Done (Answer.Sequence answer) ∷ rest) = true
 is_run _ = false
@@ -131,7 +131,7 @@ is_delayed _ = false
 abbrev pub next_request : Session → Session
 next_request session = record session { number = (session.number + 1) % 2 ^ 32 }
 
--- the number of the next request grows with the first reply that tells that SEQUENCE ended well
+-- the number of the next request grows with the first reply that says that SEQUENCE succeeded
 abbrev pub counted : Sent → List Outcome → Option Session → Option Session
 counted sent results session =
     if is_run results && not sent.is_counted then option_map next_request session else session
@@ -163,7 +163,7 @@ abbrev pub reply_to_sent : (tag : List ℕ) → Option Sent → List ℕ → Rep
 reply_to_sent tag None bytes = NoReply
 reply_to_sent tag (Some sent) bytes = reply_read tag sent bytes
 
--- what the bytes are to the client's last record: none answers a client that sent none
+-- what the bytes are to the client's last record: no bytes are a reply to a client that sent none
 abbrev pub reply_to : Client → List ℕ → ReplyRead
 reply_to client bytes = reply_to_sent client.tag client.sent bytes
 

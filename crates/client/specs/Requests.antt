@@ -1,4 +1,4 @@
--- What a client sends: a COMPOUND of minor version 1 in one record, after a SEQUENCE where it needs
+-- What a client sends: a COMPOUND of minor version 1 in one record, after a SEQUENCE if it needs
 -- one.
 use Rattle.std.specs.Prelude.{ℕ, ◌+◌, ◌%◌, ◌^◌, Bool, true, false, not, List, [], ◌∷◌, ◌++◌, map, length, Option, None, Some, if◌then◌else◌}
 use Rattle.std.specs.List.{flat_map}
@@ -41,7 +41,7 @@ compound_call xid credential =
       verifier = (0, []);
     }
 
--- up to the operations, of which there are so many
+-- up to the operations, of which there are `count`
 unfoldable pub head_text : (xid : ℕ) → (credential tag : List ℕ) → (count : ℕ) → List ℕ
 head_text xid credential tag count =
     call_head.spelling (compound_call xid credential) ++ compound_head.spelling (tag, (1, count))
@@ -81,13 +81,14 @@ sequence_of session =
       cache_this = true;
     })
 
--- EXCHANGE_ID, CREATE_SESSION, DESTROY_SESSION and DESTROY_CLIENTID alone need no SEQUENCE
+-- EXCHANGE_ID, CREATE_SESSION, DESTROY_SESSION and DESTROY_CLIENTID need no SEQUENCE if sent by
+-- themselves
 abbrev pub is_alone : List Argument → Bool
 is_alone [] = false
 is_alone (operation ∷ []) = stands_alone (operation_of operation)
 is_alone (operation ∷ further ∷ rest) = false
 
--- behind the SEQUENCE of a session, where there is one
+-- behind the SEQUENCE of a session, if there is one
 abbrev pub behind : Option Session → List Argument → List Argument
 behind None operations = operations
 behind (Some session) operations = sequence_of session ∷ operations
@@ -96,7 +97,7 @@ abbrev pub behind_sequence : Option Session → List Argument → Option (List A
 behind_sequence None operations = None
 behind_sequence (Some session) operations = Some (behind (Some session) operations)
 
--- none where there is no session yet that they need
+-- none if there is no session yet that they need
 abbrev pub in_record : Option Session → List Argument → Option (List Argument)
 in_record session operations =
     if is_alone operations then Some operations else behind_sequence session operations
@@ -123,7 +124,7 @@ abbrev pub waits : Option Sent → Bool
 waits None = false
 waits (Some sent) = not sent.is_answered
 
--- the client with the record of these operations; none where it has to wait
+-- the client with the record of these operations; none if it has to wait
 unfoldable pub requested : Client → List Argument → Option Client
 requested client operations =
     if waits client.sent

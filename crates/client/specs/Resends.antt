@@ -58,8 +58,8 @@ EveryHeldIsFound =
     (uid count : ℕ) (sequence : SequenceArguments) (table : Table) (result : List ℕ)
     → IsHeld uid sequence table result → begin uid count sequence table ≡ Replays result
 
--- So of a record that was answered once, in this run or in one that a crash ended, the client that
--- sends it again is told the outcomes of the first time, and no others.
+-- So of a record that got its reply once, in this run or in one that a crash ended, the client that
+-- sends it again returns the outcomes of the first time, and no others.
 abbrev pub EveryOutcomeIsToldAgain : Type 0
 EveryOutcomeIsToldAgain =
     (client : Client) (cred : Cred) (sequence : SequenceArguments) (others : List Argument)

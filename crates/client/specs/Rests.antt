@@ -1,4 +1,4 @@
--- What is spelled after the first fields of longer forms.
+-- What is encoded after the first fields of longer forms.
 use Rattle.std.specs.Prelude.{ℕ, Option, None, Some, List, [], ◌∷◌, ◌++◌}
 use Rattle.std.specs.Int.{w32}
 use Rattle.xdr.specs.Grammar.{number}
@@ -25,7 +25,7 @@ abbrev pub procedure_text : (credential : List ℕ) → List ℕ
 procedure_text credential =
     number w32 100003 ++ (number w32 4 ++ (number w32 1 ++ auths_text credential))
 
--- the number of an operation, and that of SEQUENCE where it stands before them
+-- the number of an operation, and that of SEQUENCE if it comes before them
 abbrev pub number_asked : Argument → ℕ
 number_asked a = operation_of (argument_view a)
 

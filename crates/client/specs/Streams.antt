@@ -25,7 +25,7 @@ stream written unread = record { written = written; unread = unread }
 
 -- Steps
 
--- the writer took a front of these bytes, perhaps all of them
+-- the writer took a prefix of these bytes, perhaps all of them
 pub record Sends (old new : Option (List ℕ)) (bytes : List ℕ) (is_whole : Bool) : Type 0 where
   pub sent : List ℕ
   pub unsent : List ℕ
@@ -33,7 +33,7 @@ pub record Sends (old new : Option (List ℕ)) (bytes : List ℕ) (is_whole : Bo
   pub writes : Appends old new sent
   pub whole : is_whole ≡ true → unsent ≡ []
 
--- the header of a fragment; none where the reader gave too few bytes
+-- the header of a fragment; none if the reader gave too few bytes
 abbrev pub IsHeader : (read : List ℕ) → Option ℕ → Type 0
 IsHeader read None = length read < 4
 IsHeader read (Some header) = (length read ≡ 4) × (header ≡ from_be_bytes w32 read)
@@ -43,8 +43,8 @@ pub record ReadsHeader (old new : Option (List ℕ)) (header : Option ℕ) : Typ
   pub reads : Consumes old new read
   pub is : IsHeader read header
 
--- what the bytes read are, after fragments that hold so many bytes; what the fragment holds stands
--- in the room after theirs
+-- what the bytes read are, after fragments that hold `size` bytes; what the fragment holds is in
+-- the room after theirs
 abbrev pub IsFetched : (size : ℕ) → (read room : List ℕ) → Gathered → Fetched → Type 0
 IsFetched size read room gathered fetched.Ended = fragment record_limits gathered read ≡ spec.Waits
 IsFetched size read room gathered fetched.Refused =
@@ -63,7 +63,7 @@ pub record Fetches (old new : Option (List ℕ)) (size fragments : ℕ) (before 
   pub front : take (4 + size) room ≡ take (4 + size) before
   pub long : length room ≡ length before
 
--- what the bytes read are: the whole record stands in the room after the place of its header
+-- what the bytes read are: the whole record is in the room after the place of its header
 abbrev pub IsReceived : (read room : List ℕ) → Received → Type 0
 IsReceived read room received.Ended = front record_limits read ≡ Partial
 IsReceived read room received.Refused =
@@ -86,8 +86,8 @@ pub record Passes (bytes : List ℕ) (before after : Stream) (read : List ℕ) :
   pub reads : Consumes before.unread after.unread read
   pub order : (unsent ≡ []) ⊎ (read ≡ [])
 
--- what came is one whole record, handed out with a header for one fragment; Io where it is none
--- yet, Garbled where it is too long
+-- what came is one whole record, returned with a header for one fragment; Io if it is none yet,
+-- Garbled if it is too long
 abbrev pub Comes : Front → (received : List ℕ) → Result ⊤ ClientFault → Type 0
 Comes Partial received r = r ≡ Err faults.Io
 Comes (Refused fault) received r = r ≡ Err faults.Garbled
@@ -99,7 +99,7 @@ pub record Talks (bytes : List ℕ) (before after : Stream) (received : List ℕ
   pub passes : Passes bytes before after read
   pub comes : Comes (front record_limits read) received result
 
--- Memory where there is none for the reply, and then nothing is written or read
+-- Memory if there is none for the reply, and then nothing is written or read
 abbrev pub Converses : (bytes : List ℕ) → (before after : Stream) → (received : List ℕ)
     → Result ⊤ ClientFault → Type 0
 Converses bytes before after received r =

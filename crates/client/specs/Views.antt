@@ -84,13 +84,13 @@ read_view reads.NoReply = replies.NoReply
 read_view reads.Rejects = replies.Rejects
 read_view (reads.Gives results last) = replies.Gives (map outcome_view results.items) last
 
--- an answered record has a result
+-- a record that has its reply has a result
 abbrev pub HasResult : ReplyRead → Type 0
 HasResult reads.NoReply = Unit {0}
 HasResult reads.Rejects = Unit {0}
 HasResult (reads.Gives results last) = 0 < length results.items
 
--- the status of a refused operation, its place, and the results before it
+-- the status of a failed operation, its place, and the results before it
 pub record IsLast (results before : List answers.Outcome) (index : ℕ) (reason : Status)
     (last : Status) : Type 0 where
   pub refused : answers.Outcome
@@ -98,23 +98,23 @@ pub record IsLast (results before : List answers.Outcome) (index : ℕ) (reason 
   pub place : index ≡ length before
   pub same : reason ≡ last
 
--- what a refusal says of the results that were read
+-- what an error says of the results that were read
 abbrev pub IsStatus : List answers.Outcome → (last : Status) → ClientFault → Type 0
 IsStatus results last (faults.Status index reason before) =
     IsLast results (map outcome_view before.items) index reason last
 IsStatus results last _ = ⊥
 
--- the refusal that is told by what was read
+-- the error for what was read
 abbrev pub Refuses : replies.ReplyRead → ClientFault → Type 0
 Refuses replies.NoReply e = e ≡ faults.Garbled
 Refuses replies.Rejects e = e ≡ faults.Rpc
 Refuses (replies.Gives results last) e = (last ≢ status.Ok) × IsStatus results last e
 
--- the results that are told by what was read: every operation ended well
+-- the results for what was read: every operation succeeded
 abbrev pub AnswersOk : replies.ReplyRead → List answers.Outcome → Type 0
 AnswersOk read results = read ≡ replies.Gives results status.Ok
 
--- what the client knows after a call of `reply`: all that the reply tells, but where there was no
+-- what the client knows after a call of `reply`: all that the reply says, unless there was no
 -- memory for it
 abbrev pub known : spec.Client → replies.ReplyRead → Result (Vec Outcome) ClientFault → spec.Client
 known client read (Ok results) = replies.replied client read

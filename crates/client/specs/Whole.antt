@@ -1,5 +1,5 @@
 -- An exchange: the record that a client sends arrives, in pieces or at once, its operations are run
--- one a turn, whatever else happens between, and of the reply the client tells the outcomes.
+-- one a turn, whatever else happens between, and from the reply the client returns the outcomes.
 use Rattle.std.specs.Prelude.{◌≡◌, ◌<◌, ◌^◌, ⊤, ℕ, List, [], ◌∷◌, length, None, Some}
 use Rattle.std.specs.List.{AllByRecursion}
 use Rattle.model_tree.specs.declared.acl.Cred.{Cred}
@@ -26,8 +26,8 @@ IsElsewhere number (Connects connection) = ⊤
 IsElsewhere number (Takes connection) = connection ≡ number → ⊥
 
 -- The turns of a connection, with whatever else happens between: the outcomes of the operations of
--- its request, one a turn, and the reply, there with the last of them, or in a turn of its own where
--- a seat holds it first. A reply that a slot keeps has no outcome of its own.
+-- its request, one a turn, and the reply, there with the last of them, or in a turn of its own if a
+-- seat holds it first. A reply that a slot keeps has no outcome of its own.
 pub data IsAnsweredBy (number : ℕ) : World → List Outcome → (reply : List ℕ) → Type 0 where
   Elsewhere : {world : World} {outcomes : List Outcome} {reply : List ℕ} (event : Event)
       → IsElsewhere number event → IsAnsweredBy number (effect_of world event) outcomes reply
@@ -52,8 +52,8 @@ pub data IsAnsweredBy (number : ℕ) : World → List Outcome → (reply : List 
       → at number (one world number now).world.connections ≡ Some (Replied reply)
       → IsAnsweredBy number world [] reply
 
--- The client's record holds these operations, arrives, and is answered by these outcomes. What is
--- sent and what is answered has a spelling, and the reply is one fragment.
+-- The client's record holds these operations, arrives, and gets these outcomes. What is sent and
+-- what is replied can be encoded, and the reply is one fragment.
 pub record IsExchange (client : Client) (cred : Cred) (operations : List Argument) (xid : ℕ)
     (world : World) (number : ℕ) (outcomes : List Outcome) (reply : List ℕ) : Type 0 where
   pub sent : client.sent
@@ -69,7 +69,7 @@ pub record IsExchange (client : Client) (cred : Cred) (operations : List Argumen
   pub short : length reply < 2 ^ 31
   pub told : AllByRecursion outcome.Fits outcomes
 
--- the client tells these outcomes, and no others
+-- the client returns these outcomes, and no others
 abbrev pub EveryExchange : Type 0
 EveryExchange =
     (client : Client) (cred : Cred) (operations : List Argument) (xid : ℕ) (world : World)

@@ -83,11 +83,11 @@ impl Client {
         })
     }
 
-    /// Makes the record of these operations, after a SEQUENCE on slot 0 unless they are
-    /// EXCHANGE_ID, CREATE_SESSION, DESTROY_SESSION or DESTROY_CLIENTID alone. The client keeps it,
-    /// and `retry` gives it.
+    /// Makes the record of these operations, after a SEQUENCE on slot 0 unless they are just one
+    /// EXCHANGE_ID, CREATE_SESSION, DESTROY_SESSION or DESTROY_CLIENTID. The client keeps it, and
+    /// `retry` gives it.
     ///
-    /// `Pending` while a record waits for its reply, and where there is no session yet that the
+    /// `Pending` while a record waits for its reply, and if there is no session yet that the
     /// operations need.
     #[tactic(auto, unfolding(crate::specs::Requests::requested))]
     pub fn request(&mut self, operations: &[Argument<'_>]) -> Result<(), ClientFault<'static>>
@@ -139,12 +139,12 @@ impl Client {
         }
     }
 
-    /// The results in a reply's record, of one fragment with its header, where every operation
-    /// ended well.
+    /// The results in a reply's record, of one fragment with its header, if every operation
+    /// succeeded.
     ///
-    /// `Garbled` where it is no reply to the last record; `Rpc` where the call was denied or not
-    /// accepted; `Status` where an operation was refused. The record is answered then, but by
-    /// `Garbled`, and by DELAY at its SEQUENCE.
+    /// `Garbled` if it is no reply to the last record; `Rpc` if the call was denied or not
+    /// accepted; `Status` if an operation failed. The record has its reply then, except after
+    /// `Garbled`, and after DELAY at its SEQUENCE.
     #[tactic(auto, unfolding(crate::specs::Replies::replied))]
     pub fn reply<'a>(&mut self, bytes: &'a [u8]) -> Result<Vec<Outcome<'a>>, ClientFault<'a>>
         ensures ok { IfOk result (λ results.
@@ -176,12 +176,12 @@ impl Client {
         }
     }
 
-    /// Sends the record of these operations, as `request` makes it, and reads its reply: what
-    /// `reply` answers of it. The reply stands in `received`, from which the results borrow.
+    /// Sends the record of these operations, as `request` makes it, and reads its reply: returns
+    /// what `reply` does. The reply is in `received`, from which the results borrow.
     ///
-    /// `Pending` and `Memory` as of `request`, and then nothing is written. `Io` where the writer
+    /// `Pending` and `Memory` as of `request`, and then nothing is written. `Io` if the writer
     /// failed, or the reader failed or ended before the reply was whole: the record is kept, and
-    /// `resend` sends it over another stream. `Garbled` also where the reply has more than 16,384
+    /// `resend` sends it over another stream. `Garbled` also if the reply has more than 16,384
     /// bytes or 64 fragments (RFC 5531, section 11).
     pub fn exchange<'a, R: Read, W: Write>(
         &mut self,
@@ -200,8 +200,7 @@ impl Client {
     }
 
     /// Sends the kept record over this stream, and reads its reply, as `exchange` does: `Pending`
-    /// where there is none, `Memory` where there is none for the reply, and then nothing is
-    /// written.
+    /// if there is none, `Memory` if there is none for the reply, and then nothing is written.
     pub fn resend<'a, R: Read, W: Write>(
         &mut self,
         reader: &mut R,

@@ -41,7 +41,7 @@ pub struct Head {
     pub verdict: Verdict,
 }
 
-/// A reply: its xid, and the result, if it tells one.
+/// A reply: its xid, and the result, if it has one.
 #[derive(Clone, Copy)]
 pub struct Message<'a> {
     pub xid: u32,

@@ -24,16 +24,15 @@ pub fn exchange_example()
     ensures { ExchangeExample }
 {}
 
-/// A call that has come has its reply after as many turns of its connection as it has operations
-/// and one, whatever else happens between; and a request under way after as many as are left and
-/// one.
+/// A call that has come has its reply after one turn of its connection more than it has operations,
+/// whatever else happens between; and a request under way after one more than are left.
 pub fn every_request_is_answered()
     ensures comes { EveryCallIsAnswered }
     ensures goes_on { EveryRequestIsAnswered }
 {}
 
 /// A record that is sent again, since its reply was lost with a connection or in a crash, runs
-/// nothing if a slot keeps its result or a seat holds it: the client is told the outcomes of the
+/// nothing if a slot keeps its result or a seat holds it: the client returns the outcomes of the
 /// first time (RFC 8881, section 2.10.6).
 pub fn every_resend_is_replayed()
     ensures replayed { EveryResendIsReplayed }

@@ -105,7 +105,7 @@ fn next_request(session: Option<Session>) -> Option<Session>
     })
 }
 
-/// The record, answered.
+/// The record, once it has its reply.
 pub(crate) fn was_answered(sent: Option<Sent>) -> Option<Sent>
     ensures { option_map sent_of result ≡ option_map answered_sent (option_map sent_of sent) }
 {

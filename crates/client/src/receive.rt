@@ -19,7 +19,7 @@ pub enum Fetched {
     Ended,
     /// Its header is refused: the record has too many bytes or fragments.
     Refused,
-    /// It holds so many bytes.
+    /// It holds `more` bytes.
     Brings { more: usize, is_last: bool },
 }
 
@@ -30,16 +30,16 @@ pub enum Received {
     Ended,
     /// It has too many bytes or fragments.
     Refused,
-    /// It has so many bytes.
+    /// It has this number of bytes.
     Whole(usize),
 }
 
-/// Writes a record as it is, and reads the record of its reply, handed out after the header of one
+/// Writes a record as it is, and reads the record of its reply, returned after the header of one
 /// fragment.
 ///
-/// `Memory` where there is none for the reply: then nothing is written. `Io` where the writer
-/// failed, or the reader failed or ended before the record was whole; `Garbled` where it has more
-/// than 16,384 bytes or 64 fragments.
+/// `Memory` if there is none for the reply: then nothing is written. `Io` if the writer failed, or
+/// the reader failed or ended before the record was whole; `Garbled` if it has more than 16,384
+/// bytes or 64 fragments.
 pub(crate) fn converse<R: Read, W: Write>(
     reader: &mut R,
     writer: &mut W,
@@ -68,7 +68,7 @@ pub(crate) fn converse<R: Read, W: Write>(
     }
 }
 
-/// Puts the header of a record of one fragment before so many bytes.
+/// Puts the header of a record of one fragment before its `size` bytes.
 fn put_header(room: &mut [u8], size: usize)
     requires small { size ≤ MAX_RECORD_BYTES }
     requires long { length room.old ≡ ROOM }
@@ -100,7 +100,7 @@ fn receive<R: Read>(reader: &mut R, room: &mut [u8]) -> Received
     }
 }
 
-/// Reads a fragment into the room, after so many bytes of the fragments before.
+/// Reads a fragment into the room, after the `size` bytes of the fragments before.
 fn fetch<R: Read>(reader: &mut R, room: &mut [u8], size: usize, fragments: usize) -> Fetched
     requires room { length room.old ≡ ROOM }
     requires small { size ≤ MAX_RECORD_BYTES }

@@ -68,8 +68,8 @@ fn each_outcome<'a>(
     Ok((list, at))
 }
 
-/// The status of the last of these results, where they answer a front of the operations of these
-/// numbers.
+/// The status of the last of these results, if they are those of a prefix of the operations of
+/// these numbers.
 pub(crate) fn ending(operations: &[u32], results: &[Outcome<'_>]) -> Option<Status>
     ensures { result ≡ ending operations.now (map outcome_view results.now) }
 {
@@ -89,7 +89,7 @@ pub(crate) fn ending(operations: &[u32], results: &[Outcome<'_>]) -> Option<Stat
     None
 }
 
-/// The status of the last result, which may be OK only where all operations are answered.
+/// The status of the last result, which may be OK only if all operations have results.
 fn ending_with(last: &Outcome<'_>, is_ok: bool, is_whole: bool) -> Option<Status>
     ensures { result ≡ (if not is_ok
         || is_whole then Some (status_of (outcome_view last.now)) else None) }

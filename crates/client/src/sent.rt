@@ -35,7 +35,7 @@ pub struct Sent {
     /// As it is sent.
     pub bytes: Vec<u8>,
     pub is_answered: bool,
-    /// A reply told that its SEQUENCE ended well.
+    /// A reply said that its SEQUENCE succeeded.
     pub is_counted: bool,
 }
 
@@ -61,7 +61,7 @@ fn stands_alone(operation: Operation) -> bool
     }
 }
 
-/// The record of these operations, after the SEQUENCE of a session where there is one. It has less
+/// The record of these operations, after the SEQUENCE of a session if there is one. It has less
 /// than 2^31 bytes.
 #[tactic(auto, unfolding(crate::specs::Requests::record_text))]
 pub(crate) fn make_record(

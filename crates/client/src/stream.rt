@@ -6,8 +6,8 @@ ghost use Rattle.client.specs.Streams.{Sends};
 
 use std::io::{ErrorKind, Read, Write};
 
-/// Writes the bytes and flushes the writer, and answers whether it took them all. Else it took a
-/// front of them.
+/// Writes the bytes and flushes the writer. If it returns true, the writer took them all; otherwise
+/// it took a prefix of them, perhaps all.
 pub(crate) fn send<W: Write>(writer: &mut W, bytes: &[u8]) -> bool
     ensures { Sends (W.contents writer.old) (W.contents writer.new) bytes.now result }
 {
@@ -38,7 +38,7 @@ fn write_bytes<W: Write>(writer: &mut W, bytes: &[u8]) -> bool
     false
 }
 
-/// Fills the buffer, and answers how many bytes the reader gave: fewer where it failed or ended
+/// Fills the buffer, and returns how many bytes the reader gave: fewer if it failed or ended
 /// before.
 pub(crate) fn fill<R: Read>(reader: &mut R, buf: &mut [u8]) -> usize
     ensures bound { result ≤ length buf.new }

@@ -1,10 +1,10 @@
--- Names that stand apart.
+-- Names that are apart.
 use Rattle.std.proofs.Common.{ℕ, zero, suc, Bool, true, false, List, [], ◌∷◌, ◌≡◌, ◌≢◌, ◌<◌, ◌≤◌, ◌+◌, ◌∙◌, inl, inr, cond, bytes_eq, length, get_or, refl, sym, ap, arith}
 use Rattle.std.proofs.lemmas.Bool.{cases_lt}
 use Rattle.directory.specs.Records.{Record, is_named, place_of, NamesApart}
 use Rattle.directory.proofs.Places.{named_there, bytes_eq-same, place_of-le}
 
--- a name stands where a record has it, or before
+-- a name's place is that of a record that has it, or one before
 pub place_of-before : (name : List ℕ) (xs : List Record) (i : ℕ) (d : Record) → i < length xs → (get_or xs i d).1.name ≡ name → place_of name xs ≤ i
 place_of-before name [] i d within named = absurd (omega arith)
 place_of-before name (x ∷ xs) zero d within named =
@@ -16,13 +16,13 @@ place_of-before name (x ∷ xs) (suc i) d within named = step (is_named name x) 
     step true low = omega arith
     step false low = omega arith
 
--- where each name stands at its own place, no two are the same
+-- if each name is at its own place, no two are the same
 pub apart_places : (xs : List Record) → ((k : ℕ) (d : Record) → k < length xs → place_of (get_or xs k d).1.name xs ≡ k) → NamesApart xs
 apart_places xs own i j d before within = λ same.
     let one : i ≡ j = sym (own i d (omega arith)) ∙ (ap (λ n. place_of n xs) same ∙ own j d within) in
     omega arith
 
--- one that stands at another place is there twice
+-- one that is at another place is there twice
 pub not_apart : (xs : List Record) (i : ℕ) (d : Record) → i < length xs → place_of (get_or xs i d).1.name xs ≢ i → NamesApart xs → ⊥
 not_apart xs i d within elsewhere apart =
     let name = (get_or xs i d).1.name in
@@ -30,7 +30,7 @@ not_apart xs i d within elsewhere apart =
     let before : place_of name xs < i = omega (arith, elsewhere) in
     apart (place_of name xs) i d before within (named_there name xs d (omega arith))
 
--- where the first that has a name stands, and where none has it
+-- the place of the first that has a name, and the place if none has it
 pub place_of-first : (name : List ℕ) (xs : List Record) (i : ℕ) (d : Record) → i < length xs → (get_or xs i d).1.name ≡ name
     → ((j : ℕ) (e : Record) → j < i → (get_or xs j e).1.name ≢ name) → i ≡ place_of name xs
 place_of-first name xs i d within named before =

@@ -1,4 +1,4 @@
--- Records in blocks: one is read, changed, put after the last, and the last goes.
+-- Records in blocks: one is read, changed, put after the last, and the last is removed.
 use Rattle.std.proofs.Common.{◌≡◌, ◌<◌, ◌≤◌, ◌+◌, ◌-◌, ◌*◌, ◌/◌, ◌%◌, ◌∙◌, ℕ, zero, suc, List, [], ◌∷◌, ◌++◌, length, get_or, set, take, map, refl, sym, ap, subst, arith, append_assoc}
 use Rattle.std.proofs.lemmas.List.{append-nil, length-append, length-take, length-set, length-map, get_or-map, map-set, map_push, take-map, map_push, take-map, length_push, get_or_append_left, get_or-append-add, set-append_left, set-append_right, take-append-le, take_all, take_at, take-take, get_or-take}
 use Rattle.directory.specs.Records.{Record}
@@ -76,7 +76,7 @@ filled_set (b ∷ bs) count zero c e filled same within = (filled.0, omega (arit
 filled_set (b ∷ bs) count (suc k) c e filled same within =
     (filled.0, filled.1, filled.2, filled_set bs (count - 15) k c e filled.3 same (omega arith))
 
--- One more, in a block of its own
+-- One more, in its own block
 
 all_full : (bs : Blocks) (count k : ℕ) → AreFilled count bs → length bs ≤ k → 15 * k ≤ count → length (joined bs) ≡ count
 all_full [] count k filled past low = omega (arith, filled)
@@ -132,7 +132,7 @@ ended (b ∷ bs) count (suc k) j e v filled is low within =
     ∙ (sym (append_assoc b (take (count - 15) (joined bs)) (v ∷ []))
     ∙ ap (λ l. l ++ v ∷ []) (sym (take_past b (joined bs) count (count - 15) (omega (arith, full, is))))))
 
--- The last goes
+-- The last is removed
 
 pub filled_less : (bs : Blocks) (count k j : ℕ) → AreFilled (count + 1) bs → count ≡ 15 * k + j → 0 < j → j < 15 → AreFilled count bs
 filled_less [] count k j filled is some low = absurd (omega (arith, filled))

@@ -177,14 +177,14 @@ first_at (x ∷ xs) (suc i) d within before =
 
 module _ (order : List ℕ) (xs : List Record) (cookie far : ℕ) (kept : IsOrder by.Stamp order xs) (next : ℕ)
     (point : IsPosition by.Stamp xs order (record_from cookie [] 0, far) next) (wide : length xs ≤ far) where
-  -- the stamp of a record that stands before
+  -- the stamp of a record that is before
   below : (a : ℕ) → IsBefore by.Stamp (at_place xs a) (record_from cookie [] 0, far) → stamp_of (get_or xs a nothing) ≤ cookie
   below a is = elim (before_cases by.Stamp (at_place xs a) (record_from cookie [] 0, far) is) [
     | inl less ↦ let low = low_first (stamp_of (get_or xs a nothing)) cookie less in omega arith
     | inr tied ↦ let same = tied_same (stamp_of (get_or xs a nothing)) cookie tied.0 in omega arith
   ]
 
-  -- what is above the cookie stands from there on
+  -- what is above the cookie is there or after
   above : (a : ℕ) (has : Contains order a) → cookie < stamp_of (get_or xs a nothing) → next ≤ has.0
   above a has high = elim (cases_lt has.0 next) [
     | inl low ↦

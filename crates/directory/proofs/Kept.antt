@@ -78,7 +78,7 @@ module _ {K : Type 0} (key_of : Record → K) (xs : List Record) (new : Record) 
             λ e. fresh i d (omega (arith, length_push xs new)) (sym (ap key_of front) ∙ e ∙ ap key_of back)
       ]
 
--- the last record, and what stands at a place once it moved
+-- the last record, and what is at a place once it has moved
 module _ (xs : List Record) (p : ℕ) (h : p < length xs) (last : Record) (is : last ≡ get_or xs (length xs - 1) last) where
   pub moved_at : (i : ℕ) (d : Record) → i < length xs - 1 → (i ≢ p) → get_or (take (length xs - 1) (set xs p last)) i d ≡ get_or xs i d
   moved_at i d lt apart = get_or-take (length xs - 1) (set xs p last) i d lt ∙ get_or-set_other xs p i last d apart

@@ -1,4 +1,4 @@
--- Records as a map by a key of theirs: the name, or the stamp.
+-- Records as a map by one of their keys: the name, or the stamp.
 use Rattle.std.proofs.Common.{ℕ, zero, suc, Bool, true, false, List, [], ◌∷◌, ◌++◌, ◌≡◌, ◌≢◌, ◌<◌, ◌-◌, ◌∙◌, Option, Some, None, inl, inr, length, get_or, set, take, refl, sym, ap, arith}
 use Rattle.std.proofs.lemmas.Bool.{cases_eq, cases_order}
 use Rattle.std.proofs.lemmas.List.{length-set, length-take, get_or-set_same, get_or-set_other, get_or_default}
@@ -30,7 +30,7 @@ module _ {K : Type 0} (key_of : Record → K) (same : K → K → Bool) (same-tr
   pub missed : (key : K) (entry : Record) (rest : List Record) → key ≢ key_of entry → first key (entry ∷ rest) ≡ first key rest
   missed key entry rest apart = ap (λ (b : Bool). found_or b entry (first key rest)) (not_same key (key_of entry) apart)
 
-  -- where there is none, no record has the key
+  -- if there is none, no record has the key
   pub none_has : (key : K) (xs : List Record) (i : ℕ) (d : Record) → first key xs ≡ None → i < length xs → key_of (get_or xs i d) ≢ key
   none_has key [] i d none within = absurd (omega arith)
   none_has key (x ∷ xs) zero d none within = λ is. some≢none x (sym (hit key x xs (sym is)) ∙ none)
@@ -45,7 +45,7 @@ module _ {K : Type 0} (key_of : Record → K) (same : K → K → Bool) (same-tr
   all_miss key (x ∷ xs) none =
       missed key x xs (λ is. none 0 x (omega arith) (sym is)) ∙ all_miss key xs (λ i d within. none (suc i) d (omega arith))
 
-  -- where records are apart, each is the first of its key
+  -- if records are apart, each is the first of its key
   pub its_own : (xs : List Record) (i : ℕ) (d : Record) → ApartBy key_of xs → i < length xs → first (key_of (get_or xs i d)) xs ≡ Some (get_or xs i d)
   its_own [] i d apart within = absurd (omega arith)
   its_own (x ∷ xs) zero d apart within = hit (key_of x) x xs refl
@@ -53,7 +53,7 @@ module _ {K : Type 0} (key_of : Record → K) (same : K → K → Bool) (same-tr
       missed (key_of (get_or xs i d)) x xs (λ is. apart 0 (suc i) d (omega arith) within (sym is))
       ∙ its_own xs i d (λ j k e before behind. apart (suc j) (suc k) e (omega arith) (omega arith)) (omega arith)
 
-  -- the first of a key stands somewhere, and has the key
+  -- the first of a key is somewhere, and has the key
   pub record Stands (key : K) (xs : List Record) (found : Record) (d : Record) : Type 0 where
     pub place : ℕ
     pub within : place < length xs
@@ -85,7 +85,7 @@ module _ {K : Type 0} (key_of : Record → K) (same : K → K → Bool) (same-tr
     length_ys : length ys ≡ length xs - 1
     length_ys = omega (arith, length-take (length xs - 1) (set xs p last), length-set xs p last)
 
-    -- where a record that is left came from
+    -- the place that a record that is left came from
     pub record Came (i : ℕ) (d : Record) : Type 0 where
       pub from : ℕ
       pub from_within : from < length xs

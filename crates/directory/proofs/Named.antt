@@ -25,7 +25,7 @@ bytes_tied : (xs ys : List ℕ) → xs ≡ ys → slice_cmp nat_cmp xs ys ≡ Eq
 bytes_tied xs ys same = ap (slice_cmp nat_cmp xs) (sym same) ∙ tied_itself nat_list_cmp_total xs
 
 module _ (order : List ℕ) (xs : List Record) (name : List ℕ) (kept : IsOrder by.Name order xs) (at : ℕ) (point : IsPosition by.Name xs order (record_from 0 name 0, 0) at) where
-  -- where one has the name, the first that has it is found
+  -- if one has the name, the first that has it is found
   pub first_found : (j : ℕ) (d : Record) → j < length xs → (get_or xs j d).1.name ≡ name
       → (at < length order) × (get_or order at 0 ≤ j) × ((get_or xs (get_or order at 0) nothing).1.name ≡ name)
   first_found j d inside named =

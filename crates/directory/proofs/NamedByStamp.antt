@@ -65,7 +65,7 @@ held xs key value d is = step (first_stamped key xs) refl (sym (at-first_stamped
         let one : found.1 ≡ value = same_Some found.1 value told in
         record { place = at.place; within = at.within; is = at.here ∙ (ap (λ k. (k, found.1)) at.has ∙ ap (λ v. (key, v)) one) }
 
--- where names are apart and stamps are apart, a name is found in the map as it is among the records
+-- if names are apart and stamps are apart, a name is found in the map as it is among the records
 pub entry_of-by_stamp : (name : List ℕ) (xs : List Record) → ApartBy name_of xs → ApartBy stamp_of xs → entry_of name (by_stamp xs) ≡ entry_of name xs
 entry_of-by_stamp name xs names stamps = step (first_named name xs) refl ∙ sym (entry_of-first name xs)
   where

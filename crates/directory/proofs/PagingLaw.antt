@@ -75,7 +75,7 @@ at_past cookie key (entry ∷ rest) above past =
     let high : entry.0 ≤ last_cookie entry.0 rest = last_high entry.0 rest above.1 in
     at-rest entry.0 key entry.1 rest (omega arith) ∙ at_past entry.0 key rest above.1 past
 
--- an entry of the whole that does not come after the front's last is in the front
+-- an entry of all that does not come after the last of `front` is in `front`
 in_front : (cookie key : ℕ) (value : DirEntry) (front rest : Keyed DirEntry) → IsAbove cookie (front ++ rest) → key ≤ last_cookie cookie front
     → at key (front ++ rest) ≡ Some value → at key front ≡ Some value
 in_front cookie key value front rest above low is = step (at key front) refl
@@ -95,7 +95,7 @@ rising_pages cookie (page ∷ next ∷ rest) listing =
     above_append cookie page.shown (all_shown (next ∷ rest)) (above_front cookie page.shown listing.0.0 whole)
     (rising_pages (last_cookie cookie page.shown) (next ∷ rest) listing.1)
 
--- something of this kind stands at a key
+-- there is something of this kind at a key
 abbrev pub Has : (DirEntry → Type 0) → (key : ℕ) → Keyed DirEntry → Type 0
 Has P key entries = (entry : DirEntry) × (at key entries ≡ Some entry) × P entry
 
@@ -126,7 +126,7 @@ shown_pages P cookie (page ∷ next ∷ rest) listing stamp above there =
       )
     ]
 
--- this very one stands there
+-- this very one is there
 is_it : (entry : DirEntry) (stamp : ℕ) (pages : List Page) → AllByRecursion (λ page. at stamp (by_stamp page.records) ≡ Some entry) pages
     → AllByRecursion (λ page. Has (λ other. other ≡ entry) stamp (by_stamp page.records)) pages
 is_it entry stamp [] there = tt

@@ -1,4 +1,4 @@
--- Where a name stands in a list of records.
+-- The place of a name in a list of records.
 use Rattle.std.proofs.Common.{◌≡◌, ◌≢◌, ◌<◌, ◌≤◌, ◌+◌, ℕ, zero, suc, Bool, true, false, eqb, cond, List, [], ◌∷◌, ◌++◌, length, get_or, set, bytes_eq, refl, sym, ap, ◌∙◌, arith, add-one}
 use Rattle.std.specs.Prelude.{slice_get}
 use Rattle.std.proofs.lemmas.Bool.{eqb-true, eq-eqb, and_parts}
@@ -19,12 +19,12 @@ found_step : (b : Bool) (x : Record) (xs : List Record) (p : ℕ) → found_or b
 found_step true x xs p = refl
 found_step false x xs p = ap (slice_get (x ∷ xs)) (sym (add-one p))
 
--- the entry of a name stands at its place
+-- the entry of a name is at its place
 pub entry_of-place : (name : List ℕ) (xs : List Record) → entry_of name xs ≡ slice_get xs (place_of name xs)
 entry_of-place name [] = refl
 entry_of-place name (x ∷ xs) = ap (found_or (is_named name x) x) (entry_of-place name xs) ∙ found_step (is_named name x) x xs (place_of name xs)
 
--- ---- what stands at the place, and in front of it
+-- ---- what is at the place, and before it
 
 -- equal bytes are one list
 pub bytes_eq-true : (a b : List ℕ) → bytes_eq a b ≡ true → a ≡ b
@@ -62,7 +62,7 @@ pub with_record-push : (xs : List Record) (new : Record) → length xs ≤ place
 with_record-push [] new h = refl
 with_record-push (x ∷ xs) new h = push_step (is_named new.1.name x) x new xs (with_record xs new) (place_of new.1.name xs) h (with_record-push xs new)
 
--- ---- a name that stands nowhere
+-- ---- a name that is nowhere
 
 pub bytes_eq-same : (a : List ℕ) → bytes_eq a a ≡ true
 bytes_eq-same [] = refl

@@ -1,4 +1,4 @@
--- What is read of a directory's sector is what was spelled there.
+-- What is read from a directory's sector is what was encoded there.
 use Rattle.std.proofs.Common.{◌≡◌, ◌≤◌, ◌-◌, ◌*◌, ◌++◌, ℕ, List, length, take, replicate, refl, ◌∙◌, arith}
 use Rattle.std.proofs.lemmas.Nat.{from_be_bytes-to_be_bytes_8}
 use Rattle.std.proofs.lemmas.List.{take_at, take-take, take-append-le}

@@ -55,7 +55,7 @@ none_in : (found : Option Record) → entry_in found ≡ None → found ≡ None
 none_in None none = refl
 none_in (Some entry) none = absurd (some≢none entry.1 none)
 
--- a name that stands after the last record is none's
+-- a name whose place is after the last record has no entry
 pub absent_name : (name : List ℕ) (xs : List Record) → length xs ≤ place_of name xs → entry_of name xs ≡ None
 absent_name name xs past = entry_of-place name xs ∙ slice_get_past xs (place_of name xs) past
 

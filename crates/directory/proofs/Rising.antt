@@ -105,7 +105,7 @@ module _ (by : By) (records : List Record) where
   rising_with (x ∷ xs) ys y rising low high =
       (all_with (λ other. Before x other) xs ys y rising.0 low.0, rising_with xs ys y rising.1 low.1 high)
 
-  -- what is left when one goes rises, and has it no more
+  -- what is left when one is removed rises, and no longer has it
   rising_without : (xs ys : List ℕ) (y : ℕ) → AreRising by records (xs ++ y ∷ ys) → AreRising by records (xs ++ ys)
   rising_without [] ys y rising = rising.1
   rising_without (x ∷ xs) ys y rising = ((all_without (λ other. Before x other) xs ys y rising.0).0, rising_without xs ys y rising.1)
@@ -177,7 +177,7 @@ module _ (by : By) (records : List Record) (xs : List ℕ) (place i : ℕ) (risi
     );
   }
 
-  -- one that is there stands at the place
+  -- one that is contained is at the place
   at_point : (has : Contains xs place) → has.0 ≡ i
   at_point has = elim (cases_order has.0 i) [
     | inl same ↦ same

@@ -115,7 +115,7 @@ name_fits (e ∷ entries) (suc i) entry all h is = name_fits entries i entry all
 
 -- a part of records
 
--- the records from `first` on, 15 at most, however the part is cut to what is there
+-- the records from `first` on, at most 15, however the part is cut to what is there
 pub same_part : (names : List Record) (first from to : ℕ) → from ≡ min first (length names) → to ≡ min (length names) (from + 15) → take (to - from) (drop from names) ≡ take 15 (drop first names)
 same_part names first from to a b =
     let dropped : drop from names ≡ drop first names = ap (λ (n : ℕ). drop n names) a ∙ drop_min first names in

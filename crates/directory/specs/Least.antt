@@ -3,7 +3,7 @@ use Rattle.std.specs.Prelude.{ℕ, List, Option, Some, None, ◌≡◌, ◌<◌}
 use Rattle.model_tree.specs.Trees.Keyed.{at}
 use Rattle.directory.specs.Records.{Record}
 
--- it is above the cookie, the first of its stamp, and none stands between
+-- it is above the cookie, the first of its stamp, and none is between
 abbrev pub IsLeast : (cookie : ℕ) → List Record → Option Record → Type 0
 IsLeast cookie records None = (key : ℕ) → cookie < key → at key records ≡ None
 IsLeast cookie records (Some least) =

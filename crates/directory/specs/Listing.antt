@@ -1,6 +1,6 @@
 -- The names of a directory as a map by entry stamp, and how a client lists them page by page (RFC
 -- 8881, section 18.23). A stamp is the name's cookie: it stays the name's as long as the name
--- stands, whatever record holds it.
+-- exists, whatever record holds it.
 use Rattle.std.specs.Prelude.{ℕ, List, [], ◌∷◌, ◌++◌, Option, Some, None, ◌≡◌, ◌≢◌, ◌<◌, nat_lt, length, filter, slice_index_or}
 use Rattle.std.specs.List.{flat_map, AllByRecursion}
 use Rattle.model_tree.specs.Trees.Keyed.{Keyed, at, with, without, IsAbove}
@@ -17,14 +17,14 @@ abbrev pub without_entry : Keyed DirEntry → Option Record → Keyed DirEntry
 without_entry entries None = entries
 without_entry entries (Some entry) = without entries entry.0
 
--- What a name that is put under a new stamp makes of the map: stamps stay apart, and the name has
--- the new one alone.
+-- How putting a name under a new stamp changes the map: stamps stay apart, and the name has only
+-- the new one.
 pub record PutsByStamp (old new : List Record) (entry : Record) : Type 0 where
   pub stamped : NamesStamped new
   pub entries : by_stamp new
       ≡ with (without_entry (by_stamp old) (entry_of (name_of entry) old)) (stamp_of entry) entry.1
 
--- what a name that is removed makes of it
+-- how removing a name changes it
 pub record RemovesByStamp (old new : List Record) (name : List ℕ) : Type 0 where
   pub stamped : NamesStamped new
   pub entries : by_stamp new ≡ without_entry (by_stamp old) (entry_of name old)

@@ -43,7 +43,7 @@ pub record IsOrder (by : By) (order : List ℕ) (records : List Record) : Type 0
   pub rising : AreRising by records order
   pub all : (place : ℕ) → Contains order place ↔ (place < length records)
 
--- where something that is sought stands, or would
+-- the position of what is sought, or the one that it would have
 pub record IsPosition (by : By) (records : List Record) (order : List ℕ) (sought : Placed) (at : ℕ)
     : Type 0 where
   pub within : at ≤ length order
@@ -51,7 +51,7 @@ pub record IsPosition (by : By) (records : List Record) (order : List ℕ) (soug
   pub behind : (k : ℕ) → at ≤ k → k < length order
       → IsBefore by (at_place records (slice_index_or order k 0)) sought → ⊥
 
--- What an insert, and what taking one out, makes of an order.
+-- How an insert, and taking one out, changes an order.
 pub record IsInserted (by : By) (records : List Record) (old new : List ℕ) (place : ℕ) : Type 0
   where
     pub rising : AreRising by records new

@@ -1,5 +1,5 @@
--- What a sector of a directory says, whatever its bytes. How many of its records are used it does
--- not tell: the node's count of names does.
+-- What a sector of a directory says, whatever its bytes. It does not say how many of its records
+-- are used: the node's count of names does.
 use Rattle.std.specs.Prelude.{◌≡◌, ℕ, List, length, take, drop, slice_index}
 use Rattle.std.specs.List.{AllByRecursion}
 use Rattle.std.specs.Int.{w64, from_be_bytes}

@@ -19,7 +19,7 @@ record_of entry = record_from entry.stamp (rc_slice_items entry.name) entry.numb
 abbrev pub is_named : List ℕ → Record → Bool
 is_named name entry = bytes_eq name entry.1.name
 
--- where a name stands: after the last record, where none has it
+-- the place of a name: after the last record if none has it
 abbrev pub place_of : List ℕ → List Record → ℕ
 place_of name [] = 0
 place_of name (entry ∷ rest) = if is_named name entry then 0 else place_of name rest + 1
@@ -55,7 +55,7 @@ pub record NamesStamped (names : List Record) : Type 0 where
 abbrev pub without_place : List Record → ℕ → List Record
 without_place names place = swap_remove names place (record_from 0 [] 0)
 
--- a record that has a spelling: a name of 1 to 255 bytes
+-- a record that can be encoded: a name of 1 to 255 bytes
 pub record IsRecord (entry : Record) : Type 0 where
   pub stamp : entry.0 < 2 ^ 64
   pub number : entry.1.number < 2 ^ 64

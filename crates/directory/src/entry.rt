@@ -14,7 +14,7 @@ pub struct Entry {
     pub stamp: u64,
     /// The number of the node that it leads to.
     pub number: u64,
-    // Their range, which a proof knows so without a read.
+    // Their range, which a proof knows without a read.
     ghost stamp_fits: { stamp < 2 ^ 64 },
     ghost number_fits: { number < 2 ^ 64 },
 }
@@ -40,7 +40,7 @@ impl Entry {
         })
     }
 
-    /// The same entry once more, which shares the name's bytes.
+    /// A copy of the entry, which shares the name's bytes.
     pub fn try_clone(&self) -> Result<Entry, AllocError>
         ensures { IfOk result (λ entry. record_of entry ≡ record_of self.now) }
     {

@@ -21,7 +21,7 @@ pub enum DirectoryFault {
 /// Why records could not be read.
 #[derive(Clone, Copy, Debug, PartialEq, Eq, Error)]
 pub enum RecordsFault {
-    /// No so many records have these bytes.
+    /// No `count` records have these bytes.
     #[error("no records")]
     NotRecords,
     /// Memory ran out.

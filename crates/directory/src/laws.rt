@@ -2,7 +2,7 @@
 
 ghost use Rattle.directory.specs.Reading.{RecordsReadBack};
 
-/// Reading, which takes any sector, gives back the records that were spelled in one.
+/// Reading, which takes any sector, gives back the records that were encoded in it.
 pub fn reads_back()
     ensures { RecordsReadBack }
 {}

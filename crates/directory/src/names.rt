@@ -62,10 +62,10 @@ impl Names {
         }
     }
 
-    /// The names of these records, which stand in one order in both.
+    /// The names of these records, in the same order.
     ///
-    /// None exactly where they are no directory's: more than `MAX_NAMES`, two of one name, or a
-    /// name without bytes or of more than 255.
+    /// `None` exactly if they are no directory's: more than `MAX_NAMES`, two of one name, or a name
+    /// without bytes or of more than 255.
     pub fn from_entries(alloc: Global, entries: Vec<Entry>) -> Result<Option<Names>, AllocError>
         ensures some { IfOk result (λ names.
             IfSome names (λ names. names ≡ map record_of entries.items)) }
@@ -89,7 +89,7 @@ impl Names {
         }))
     }
 
-    /// The same names once more, in the same records. Their bytes are shared.
+    /// A copy of the names, with the same records. Their bytes are shared.
     pub fn try_clone(&self) -> Result<Names, AllocError>
         ensures { IfOk result (λ names. names ≡ self.now) }
     {
@@ -101,7 +101,7 @@ impl Names {
         })
     }
 
-    /// The names whose stamps are above this one, by rising stamp: what READDIR gives after a
+    /// The names whose stamps are above this one, by rising stamp: what READDIR returns after a
     /// cookie. Takes no memory.
     pub fn list_after(&self, stamp: u64) -> ListAfter<'_>
         ensures { rest_of result ≡ after stamp (by_stamp self.entry.now) }
@@ -139,7 +139,7 @@ impl Names {
         self.records.len()
     }
 
-    /// The name whose record stands at a place.
+    /// The name whose record is at a place.
     pub fn entry(&self, place: usize) -> &Entry
         requires { place < length self.now }
         ensures { (default : Record)
@@ -164,11 +164,11 @@ impl Names {
         Some((entry.stamp, entry.number))
     }
 
-    /// Puts a name: in the place of its record, or after the last record. The answer is the
-    /// record's place. An `Err` changes nothing.
+    /// Puts a name: in the place of its record, or after the last record. Returns the record's
+    /// place. An `Err` changes nothing.
     ///
     /// # Errors
-    /// `Full` exactly where the name is new and there are `MAX_NAMES` names.
+    /// `Full` exactly if the name is new and there are `MAX_NAMES` names.
     pub fn put(&mut self, name: &[u8], stamp: u64, number: u64) -> Result<usize, DirectoryFault>
         requires some { 0 < length name.now }
         requires few { length name.now ≤ MAX_NAME_BYTES }
@@ -249,8 +249,8 @@ impl Names {
         sectors::write_part(&self.records, from, to - from, sector);
     }
 
-    /// Removes a name, and moves the last record into its place. The answer is that place, and what
-    /// stood there. An `Err` changes nothing.
+    /// Removes a name, and moves the last record into its place. Returns that place, and what was
+    /// there. An `Err` changes nothing.
     pub fn remove(&mut self, name: &[u8]) -> Result<Option<(usize, Entry)>, AllocError>
         ensures place { IfOk result (λ found. IfSome found
             (λ it. (it.0 ≡ place_of name.now self.old) × (it.0 < length self.old))) }
@@ -334,7 +334,7 @@ fn are_apart(by_name: &[u16], records: &Records) -> bool
     true
 }
 
-/// Where a name stands: after the last record where none has it.
+/// The place of a name: after the last record if none has it.
 fn place_in(by_name: &[u16], records: &Records, name: &[u8]) -> usize
     requires { IsOrder By.Name by_name.now records.now }
     ensures place { result ≡ place_of name.now records.now }

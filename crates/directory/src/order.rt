@@ -47,7 +47,7 @@ fn is_before(by: By, entry: &Entry, place: usize, sought: &Sought<'_>) -> bool
     }
 }
 
-/// Where it stands in the order, or would stand.
+/// Its position in the order, or the one that it would have.
 pub(crate) fn position(order: &[u16], by: By, records: &Records, sought: &Sought<'_>) -> usize
     requires rising { AreRising by records.now order.now }
     requires within { (place : ℕ) → Contains order.now place → place < length records.now }
@@ -67,7 +67,7 @@ pub(crate) fn position(order: &[u16], by: By, records: &Records, sought: &Sought
     low
 }
 
-// Where the record at a place stands, or would stand.
+// The position of the record at a place, or the one that it would have.
 fn position_of(order: &[u16], by: By, records: &Records, place: usize) -> usize
     requires rising { AreRising by records.now order.now }
     requires within { (place : ℕ) → Contains order.now place → place < length records.now }

@@ -59,7 +59,7 @@ impl Records {
         Ok(records)
     }
 
-    /// The same records once more, in the same blocks.
+    /// A copy of the records, with the same blocks.
     pub(crate) fn try_clone(&self) -> Result<Records, AllocError>
         ensures { IfOk result (λ records. records ≡ self.now) }
     {
@@ -142,7 +142,7 @@ impl Records {
     }
 }
 
-/// The same blocks once more.
+/// A copy of the blocks, with the same memory.
 fn clone_blocks(alloc: Global, blocks: &[Rc<Vec<Entry>>]) -> Result<Vec<Rc<Vec<Entry>>>, AllocError>
     ensures { IfOk result (λ copy. map (λ block. map record_of block.value.items) copy.items
         ≡ map (λ block. map record_of block.value.items) blocks.now) }
@@ -154,7 +154,7 @@ fn clone_blocks(alloc: Global, blocks: &[Rc<Vec<Entry>>]) -> Result<Vec<Rc<Vec<E
     Ok(copy)
 }
 
-/// The same entries once more, with room for a whole block.
+/// A copy of the entries, with room for a whole block.
 fn clone_entries(alloc: Global, entries: &[Entry]) -> Result<Vec<Entry>, AllocError>
     ensures { IfOk result (λ copy. map record_of copy.items ≡ map record_of entries.now) }
 {

@@ -49,7 +49,7 @@ pub(crate) fn write(entries: &[Entry], sector: &mut [u8; SIZE])
     put_zeros(sector, end, SIZE - end);
 }
 
-/// Writes the sector of so many records from a place on.
+/// Writes the sector of `count` records from `from` on.
 pub(crate) fn write_part(records: &Records, from: usize, count: usize, sector: &mut [u8; SIZE])
     requires few { count ≤ RECORDS }
     requires within { from + count ≤ length records.now }
@@ -64,7 +64,7 @@ pub(crate) fn write_part(records: &Records, from: usize, count: usize, sector: &
     put_zeros(sector, end, SIZE - end);
 }
 
-/// The record that would stand at place `at`, whatever follows the name.
+/// The record that would be at place `at`, whatever follows the name.
 fn entry_at(alloc: Global, sector: &[u8; SIZE], at: usize) -> Result<Entry, RecordsFault>
     requires { at + WIDTH ≤ SIZE }
     ensures fits { IfOk result (λ entry. IsRecord (record_of entry)) }
@@ -104,11 +104,11 @@ fn entries_in(alloc: Global, count: usize, sector: &[u8; SIZE]) -> Result<Vec<En
     Ok(entries)
 }
 
-/// The `count` records of a sector, all others zero. A name has 1 to 255 bytes; whether they are a
-/// text is not looked at.
+/// The `count` records of a sector, all others zero. A name has 1 to 255 bytes; whether these are
+/// text is not checked.
 ///
 /// # Errors
-/// `NotRecords` exactly where no so many records have these bytes.
+/// `NotRecords` exactly if no `count` records have these bytes.
 pub fn read_records(
     alloc: Global,
     count: usize,

@@ -1,4 +1,4 @@
--- What calls write, one call more at a time.
+-- What calls write, one more call at a time.
 use Rattle.std.proofs.Common.{suc, ◌≡◌, ℕ, ◌+◌, ◌<◌, ◌≤◌, List, [], ◌∷◌, ◌++◌, length, get_or, take, drop, refl, sym, ◌∙◌, ap, arith, Bool, true, false, cond, eqb, append_assoc, add-one, length-append, drop-cons, Some, None}
 use Rattle.std.specs.Prelude.{option_to_list, reverse}
 use Rattle.std.proofs.Math.Seq.{take-length, drop-length, take-suc, get_or-append_seam}
@@ -32,7 +32,7 @@ pub length-written_none : (n : ℕ) (calls : List Call) (i : ℕ) (d : Call) →
 length-written_none n calls i d inside e =
     rw (written_by-take n calls i d inside, ← e) (ap length (append-nil (written_by n (take i calls))))
 
--- the calls, parted at one
+-- the calls, split at one
 parted : (calls : List Call) (i : ℕ) (d : Call) → i < length calls → calls ≡ take i calls ++ (get_or calls i d ∷ drop (i + 1) calls)
 parted calls i d inside = sym (rw (add-one, ← drop-cons calls i d inside) (take-append-drop i calls))
 

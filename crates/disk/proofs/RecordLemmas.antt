@@ -1,4 +1,4 @@
--- The record of calls: what one more call makes of the history that it tells.
+-- The record of calls: what one more call does to the history that it encodes.
 use Rattle.std.proofs.Common.{◌≡◌, ◌≢◌, ℕ, ◌<◌, ◌≤◌, List, [], ◌∷◌, ◌++◌, length, set, refl, sym, ◌∙◌, arith, Bool, true, false, cond, eqb, inl, inr, Err, not, subst}
 use Rattle.std.proofs.lemmas.Grind.{common_steps}
 use Rattle.disk.specs.declared.fault.DiskFault.TheVariants.{Fault}
@@ -14,7 +14,7 @@ pub replayed-append : (calls : List Call) (call : Call) (h : History) → replay
 replayed-append [] call h = refl
 replayed-append (c ∷ calls) call h = replayed-append calls call (called c h)
 
--- what the fields of a device in memory say of one another
+-- what the fields of a device in memory say about one another
 pub record IsTold (size : ℕ) (rows first : List (List ℕ)) (calls : List Call) : Type 0 where
   pub told : (n : ℕ) → image_of rows n ≡ seen (history_of_calls first calls).now n
   pub within : (n : ℕ) → size ≤ n → written_to n (history_of_calls first calls).now.unsynced ≡ []
@@ -54,7 +54,7 @@ counted_fault before after counted = record {
   not_open = λ e. cc;
 }
 
--- a push that went well
+-- a push that succeeded
 pub pushed : {X : Type 0} (ok failed : Bool) (xs ys zs : List X) → xs ≡ cond ok ys zs → ok ≡ not failed → failed ≡ false → xs ≡ ys
 pushed ok failed xs ys zs was negation went_well = rw (negation, went_well) at was
 

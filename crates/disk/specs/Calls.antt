@@ -1,4 +1,4 @@
--- The record that a device in memory keeps of its calls, and the history that it tells.
+-- The record that a device in memory keeps of its calls, and the history that it encodes.
 use Rattle.std.specs.Prelude.{◌≡◌, ◌==◌, ℕ, List, [], ◌∷◌, ◌++◌, Option, Some, None, option_to_list, slice_index_or, replicate, take, drop, reverse, if◌then◌else◌}
 use Rattle.disk.specs.declared.call.Call.{Call}
 use Rattle.disk.specs.declared.call.Call.TheVariants.{Write, Sync}

@@ -7,8 +7,9 @@ use Rattle.disk.specs.declared.fault.DiskFault.TheVariants as faults
 abbrev pub IsCounted : ℕ → ℕ → Type 0
 IsCounted before after = (before < after) ⊎ ((before ≡ 2 ^ 64 - 1) × (after ≡ before))
 
--- The count never falls. `Fault` comes only where it is counted, and no other answer where it is:
--- what failed within a call that goes on is told. The faults of making a device never come.
+-- The count never falls. The result is `Fault` only if a fault is counted, and is nothing else if
+-- one is: a failure within a call that goes on is reported. The faults of making a device never
+-- occur.
 pub record HasCause {T : Type 0} (before after : ℕ) (result : Result T DiskFault) : Type 0 where
   pub later : before ≤ after
   pub fault : IsErrOf result faults.Fault → IsCounted before after

@@ -14,7 +14,7 @@ no_calls = record { reads = 0; writes = 0; syncs = 0 }
 abbrev pub one_more : ℕ → ℕ
 one_more count = min (count + 1) (2 ^ 64 - 1)
 
--- the counts with a call of this kind more
+-- the counts with one more call of this kind
 abbrev pub counted : CallKind → Counts → Counts
 counted Read counts = record counts { reads = one_more counts.reads }
 counted Write counts = record counts { writes = one_more counts.writes }
@@ -25,8 +25,8 @@ abbrev pub failed_call : Option Failure → Option CallKind
 failed_call None = None
 failed_call (Some failure) = Some failure.call
 
--- What is remembered after a call of this kind: the call itself where it failed, and else what was
--- remembered before.
+-- What is remembered after a call of this kind: the call itself if it failed, and otherwise what
+-- was remembered before.
 pub record Remembers {T : Type 0} (call : CallKind) (old new : Option Failure)
     (result : Result T DiskFault) : Type 0 where
   pub failed : IsErrOf result faults.Fault → failed_call new ≡ Some call

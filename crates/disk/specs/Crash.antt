@@ -32,17 +32,17 @@ steps_of device = device.steps
 abbrev pub is_stopped : CrashDevice → Bool
 is_stopped device = device.is_stopped
 
--- what becomes of step number n, if the device has not stopped before
+-- the fate of step number n, if the device has not stopped before
 abbrev pub fate_at : Stop → ℕ → Fate
 fate_at Never n = Whole
 fate_at (Before at) n = if at == n then Nothing else Whole
 fate_at (Within at) n = if at == n then Part else Whole
 
--- what becomes of the next write or sync
+-- the fate of the next write or sync
 abbrev pub next_fate : CrashDevice → Fate
 next_fate device = if device.is_stopped then Nothing else fate_at device.stop device.steps
 
--- a step that is done whole fails only by doing nothing, for want of memory; one that is done in
+-- a step that is completed fails only by doing nothing, for lack of memory; one that is done in
 -- part or not at all is a fault
 abbrev pub AnswersFate : {T : Type 0} → Fate → History → History → Result T DiskFault → Type 0
 AnswersFate Whole old new result = OnErr result (new ≡ old)
@@ -60,7 +60,7 @@ pub record IsSameCourse (old new : CrashDevice) : Type 0 where
   pub steps : steps_of new ≡ steps_of old
   pub is_stopped : is_stopped new ≡ is_stopped old
 
--- one step more has begun, unless the device had stopped; it has stopped now, if that step was cut
+-- one more step has begun, unless the device had stopped; it has stopped now, if that step was cut
 pub record IsNextCourse (old new : CrashDevice) : Type 0 where
   pub stop : stop_of new ≡ stop_of old
   pub steps : steps_of new

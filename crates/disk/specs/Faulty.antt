@@ -26,7 +26,7 @@ is_first (Some zero) = true
 is_first (Some (suc before)) = false
 is_first None = false
 
--- with one before it less; none once it has come
+-- with one fewer before it; none once it has come
 abbrev pub one_less : Option ℕ → Option ℕ
 one_less (Some zero) = None
 one_less (Some (suc before)) = Some before
@@ -51,7 +51,7 @@ faulty_failures inner plan = min (inner + own plan.before) (2 ^ 64 - 1) where
   own None = 1
 
 -- A call of this kind. The one that fails is a fault, and leaves the inner device as it was. Any
--- other is the inner device's: what it answers has its cause in that device's own count.
+-- other is the inner device's: the cause of its result is in that device's own count.
 pub record GoesByPlan {D T : Type 0} (failed : D → ℕ) (kind : CallKind) (old new : FaultDevice D)
     (result : Result T DiskFault) : Type 0 where
   pub fails : fails_next (plan_of old) kind ≡ true

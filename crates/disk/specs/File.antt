@@ -39,16 +39,16 @@ KeepsOrHandsOver old new n = (gathered new n ≡ gathered old n) ⊎ (gathered n
 abbrev pub BeginsAnew : FileDevice → Type 0
 BeginsAnew device = (n : ℕ) → RunTakes device.run n
 
--- a file refuses to be opened for want of memory, or as one that cannot be opened
+-- opening a file fails for lack of memory, or because it cannot be opened
 abbrev pub IsUnopened : Result FileDevice DiskFault → Type 0
 IsUnopened result = (result ≡ Err Memory) ⊎ (result ≡ Err Open)
 
--- no call came yet
+-- no call has come yet
 abbrev pub IsUncalled : FileDevice → Type 0
 IsUncalled device = (file_counts device ≡ no_calls) × (file_last_failure device ≡ None)
 
--- A call of this kind is counted, except one for a sector that the device does not have. Where it
--- failed it is the one that is remembered.
+-- A call of this kind is counted, except one for a sector that the device does not have. If it
+-- failed, it is the one that is remembered.
 pub record Notes {T : Type 0} (call : CallKind) (old new : FileDevice) (result : Result T DiskFault)
     : Type 0 where
   pub counts : (IsErrOf result Range → ⊥) → file_counts new ≡ counted call (file_counts old)

@@ -10,13 +10,13 @@ use Rattle.disk.specs.Moments.{Image, Moment, written_to}
 abbrev pub contents_of : Moment → ℕ → List (List ℕ)
 contents_of m n = m.fixed n ∷ reverse (written_to n m.unsynced)
 
--- which content of sector n landed: that of the first entry that names it, and the fixed one where
+-- which content of sector n landed: that of the first entry that names it, and the fixed one if
 -- none does
 abbrev pub number_for : List Landed → ℕ → ℕ
 number_for landing n =
     option_map_or (λ landed. landed.content) (find (λ landed. landed.sector == n) landing) 0
 
--- what landed; where a sector has no content of that number, the fixed one
+-- what landed; the fixed content if a sector has no content of that number
 abbrev pub landed_image : List Landed → Moment → Image
 landed_image landing m = λ n. slice_index_or (contents_of m n) (number_for landing n) (m.fixed n)
 

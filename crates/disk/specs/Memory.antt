@@ -16,7 +16,7 @@ failures_of device = device.failures
 abbrev pub calls_of : MemDevice → List Call
 calls_of device = device.calls.items
 
--- what these calls make of its first contents
+-- its first contents after these calls
 abbrev pub history_of : MemDevice → History
 history_of device = history_of_calls device.first.items device.calls.items
 

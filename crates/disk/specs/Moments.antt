@@ -1,6 +1,6 @@
 -- What a device holds, and what a crash may leave of it.
 --
--- A sector is whole. After a crash each sector, by itself, holds what it held at the last
+-- A sector is never torn. After a crash each sector, by itself, holds what it held at the last
 -- successful sync or any content written to it since. A crash within a write or a sync falls under
 -- the same rule: it is one at the moment before the call or after it.
 use Rattle.std.specs.Prelude.{◌≡◌, ◌≤◌, ◌<◌, ◌⊎◌, ◌==◌, ℕ, List, [], ◌∷◌, length, All, if◌then◌else◌}

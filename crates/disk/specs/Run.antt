@@ -19,8 +19,8 @@ content_from first contents n = if nat_le first n then slice_get contents (n - f
 abbrev pub newest_in : Run → ℕ → Option (List ℕ)
 newest_in run n = content_from (first_of run) (contents_of run) n
 
--- a run takes any sector as its first, and then the ones that it has and the next one, up to so
--- many
+-- a run takes any sector as its first, and then the ones that it has and the next one, up to
+-- `RUN_SECTORS` of them
 abbrev pub RunTakes : Run → ℕ → Type 0
 RunTakes run n = (contents_of run ≡ []) ⊎
     ((first_of run ≤ n) × (n ≤ first_of run + length (contents_of run))

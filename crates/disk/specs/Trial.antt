@@ -1,4 +1,4 @@
--- The landings that are tried where there are too many sectors for all combinations.
+-- The landings that are tried if there are too many sectors for all combinations.
 use Rattle.std.specs.Prelude.{◌==◌, ℕ, zero, suc, Bool, true, false, not, List, [], ◌∷◌, ◌++◌, Vec, length, map, if◌then◌else◌}
 use Rattle.std.specs.Global.{Global}
 use Rattle.disk.specs.declared.landing.Landed.{Landed}
@@ -16,22 +16,21 @@ lands Everything place = true
 lands (Only one) place = place == one
 lands (AllBut one) place = not (place == one)
 
--- one choice for each sector from this place on: its newest content where it lands, or the fixed
--- one
+-- one choice for each sector from this place on: its newest content if it lands, or the fixed one
 abbrev pub edge_landing_of : Edge → ℕ → List Unsynced → List Landed
 edge_landing_of edge place [] = []
 edge_landing_of edge place (unsynced ∷ sectors) =
     record { sector = unsynced.sector; content = if lands edge place then unsynced.contents else 0 }
     ∷ edge_landing_of edge (suc place) sectors
 
--- each alone and each alone missing, below this place
+-- only one, and all but one, for each place below this one
 abbrev pub edges_below : List Unsynced → ℕ → List (List Landed)
 edges_below sectors zero = []
 edges_below sectors (suc place) =
     edges_below sectors place ++ edge_landing_of (Only place) 0 sectors
     ∷ edge_landing_of (AllBut place) 0 sectors ∷ []
 
--- none, all, each alone and each alone missing
+-- none, all, and for each sector: only it, and all but it
 abbrev pub edge_landings_of : List Unsynced → List (List Landed)
 edge_landings_of sectors =
     edge_landing_of Nothing 0 sectors ∷ edge_landing_of Everything 0 sectors

@@ -1,4 +1,4 @@
-//! The record of calls that a device in memory keeps, and what can be read off it.
+//! The record of calls that a device in memory keeps, and what can be derived from it.
 
 ghost use Rattle.std.specs.Prelude.{◌≡◌, ◌+◌, ◌<◌, ◌≤◌, ℕ, ◌∷◌, length, slice_index_or, option_copied};
 ghost use Rattle.disk.specs.Moments.{put, seen};
@@ -27,7 +27,7 @@ impl Call {
     }
 }
 
-/// How many calls there are up to the last sync, and with it; 0 where there is none.
+/// The number of calls up to and including the last sync; 0 if there is none.
 pub(crate) fn synced_count(calls: &[Call]) -> usize
     ensures within { result ≤ length calls.now }
     ensures last { IsLastSync calls.now result }
@@ -57,7 +57,7 @@ pub(crate) fn count_written(calls: &[Call], sector: u32) -> usize
 }
 
 /// The content of this number: 0 is the fixed one, k the k-th that the calls wrote to the sector.
-/// Where there is no such content, the fixed one.
+/// The fixed one if there is no such content.
 pub(crate) fn numbered_content(
     fixed: &[u8; SECTOR],
     calls: &[Call],

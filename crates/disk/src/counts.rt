@@ -6,7 +6,7 @@ ghost use Rattle.disk.specs.Counts.{no_calls, counted};
 use crate::CallKind;
 use std::io::ErrorKind;
 
-/// How often each call came, also where it failed. A count stays at `u64::MAX`.
+/// How often each call came, including those that failed. A count stays at `u64::MAX`.
 ///
 /// A read or a write of a sector that the device does not have is none of its calls.
 #[derive(Clone, Copy, Debug, PartialEq, Eq)]
@@ -42,7 +42,7 @@ impl Counts {
 
 /// A call of a device that failed, and why the file failed it.
 ///
-/// A write hands the file what earlier writes gathered, and so does a sync: either fails where the
+/// A write hands the file what earlier writes gathered, and so does a sync: either fails if the
 /// file does not take that.
 #[derive(Clone, Copy, Debug, PartialEq, Eq)]
 pub struct Failure {

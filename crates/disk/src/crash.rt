@@ -11,8 +11,8 @@ use crate::landing::number_for_sector;
 use crate::{Call, Device, DiskFault, Landed, MemDevice, SECTOR, Unsynced};
 use std::alloc::{AllocError, Global};
 
-/// Where a device stops for good. Its steps are its writes and syncs, numbered from 0; a write to a
-/// sector that it does not have is none.
+/// The step at which a device stops for good. Its steps are its writes and syncs, numbered from 0;
+/// a write to a sector that it does not have is none.
 #[derive(Clone, Copy, Debug, PartialEq, Eq)]
 pub enum Stop {
     /// It goes on.
@@ -24,7 +24,7 @@ pub enum Stop {
     Within(u64),
 }
 
-// What becomes of a write or a sync.
+// The fate of a write or a sync.
 #[derive(Clone, Copy, Debug, PartialEq, Eq)]
 enum Fate {
     Whole,
@@ -33,7 +33,7 @@ enum Fate {
 }
 
 /// A [`MemDevice`] that stops at a stated step: from that call on each write and each sync, and
-/// each read after it, answers `Fault`, and counts it.
+/// each read after it, returns `Fault`, and counts it.
 #[derive(Drop)]
 pub struct CrashDevice {
     device: MemDevice,
@@ -100,8 +100,8 @@ impl CrashDevice {
         Ok(sectors)
     }
 
-    /// The device as it is found if the power goes now and this lands, all of it fixed. Refuses
-    /// only for want of memory.
+    /// The device as it is found if the power goes now and this lands, all of it fixed. Fails only
+    /// for lack of memory.
     ///
     /// The list chooses the content of each unsynced sector by its number; its first entry for a
     /// sector counts. A sector that it does not name, or of which there is no such content, has the
@@ -173,7 +173,7 @@ impl Device for CrashDevice {
         // It only reads
         ensures history { crash_history self.new ≡ crash_history self.old }
         ensures size { crash_size self.new ≡ crash_size self.old }
-        // Whether it fails, by where it stops
+        // Whether it fails, by whether it has stopped
         ensures cause { HasCause (crash_failures self.old) (crash_failures self.new) result }
         ensures running { is_stopped self.old ≡ false → n < crash_size self.old → IsOk result }
         ensures stopped { is_stopped self.old ≡ true → n < crash_size self.old
@@ -186,7 +186,7 @@ impl Device for CrashDevice {
         self.device.read(n, content)
     }
 
-    /// The step at which the device stops answers `Fault`, and so does each one after it.
+    /// The step at which the device stops returns `Fault`, and so does each one after it.
     fn write(&mut self, n: u32, content: &[u8; SECTOR]) -> Result<(), DiskFault>
         ensures ok { OnOk result (crash_history self.new
             ≡ wrote (record { target = n; content = content.now }) (crash_history self.old)) }
@@ -200,7 +200,7 @@ impl Device for CrashDevice {
         // In any case
         ensures size { crash_size self.new ≡ crash_size self.old }
         ensures cause { HasCause (crash_failures self.old) (crash_failures self.new) result }
-        // By where it stops
+        // By the step at which it stops
         ensures fate { n < crash_size self.old
             → AnswersFate (next_fate self.old) (crash_history self.old)
             (crash_history self.new) result }
@@ -219,7 +219,7 @@ impl Device for CrashDevice {
         }
     }
 
-    /// The step at which the device stops answers `Fault`, and so does each one after it.
+    /// The step at which the device stops returns `Fault`, and so does each one after it.
     fn sync(&mut self) -> Result<(), DiskFault>
         ensures ok { OnOk result (crash_history self.new ≡ synced (crash_history self.old)) }
         // Refused
@@ -228,7 +228,7 @@ impl Device for CrashDevice {
         // In any case
         ensures size { crash_size self.new ≡ crash_size self.old }
         ensures cause { HasCause (crash_failures self.old) (crash_failures self.new) result }
-        // By where it stops
+        // By the step at which it stops
         ensures fate { AnswersFate (next_fate self.old) (crash_history self.old)
             (crash_history self.new) result }
         ensures course { IsNextCourse self.old self.new }

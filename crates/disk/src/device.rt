@@ -6,10 +6,10 @@ use crate::{DiskFault, SECTOR};
 
 /// A device of sectors of [`SECTOR`] bytes.
 ///
-/// What holds only of a device that keeps its word stands under `keeps_word`: memory keeps it, and
-/// of a real file no contract can say so.
+/// What holds only of a device that keeps its word is under `keeps_word`: memory keeps it, and of a
+/// real file no contract can say so.
 pub trait Device: Drop {
-    /// Holds where writes and syncs do what `history` says.
+    /// Holds if writes and syncs do what `history` says.
     ghost keeps_word: { Type 0 };
 
     /// The number of sectors.

@@ -9,10 +9,10 @@ pub enum DiskFault {
     /// The device failed, and counted it.
     #[error("the device failed")]
     Fault,
-    /// No memory for a device in the making.
+    /// No memory to make a device.
     #[error("out of memory")]
     Memory,
-    /// The file of a device in the making could not be opened.
+    /// The file of a device to be made could not be opened.
     #[error("the file could not be opened")]
     Open,
 }

@@ -17,8 +17,8 @@ pub enum CallKind {
     Sync,
 }
 
-/// Which call is to fail: the one of this kind before which so many of that kind come. None is
-/// once it has failed.
+/// Which call is to fail: the one of this kind that comes after `before` others of that kind. Once
+/// it has failed, none is.
 #[derive(Clone, Copy)]
 struct Plan {
     kind: CallKind,
@@ -45,8 +45,8 @@ impl Plan {
     }
 }
 
-/// A device of which one call answers `Fault`, counts it, and does nothing else. Every other call
-/// is the inner device's, and this device keeps its word where the inner one does.
+/// A device of which one call returns `Fault`, counts it, and does nothing else. Every other call
+/// is the inner device's, and this device keeps its word if the inner one does.
 ///
 /// A read or a write of a sector that the device does not have is none of its calls.
 #[derive(Drop)]

@@ -21,21 +21,20 @@ const OWNER_ONLY: u32 = 0o600;
 
 /// A file, sector by sector.
 ///
-/// What a file holds no contract can say: this device never claims to keep its word, and its
+/// No contract can say what a file holds: this device never claims to keep its word, and its
 /// history is empty.
 ///
 /// It gathers what is written to neighbouring sectors, and hands it to the file in one write:
 /// before a sector that is no neighbour is written, and in a sync. Until then a crash loses it, as
 /// it may lose all that was written since a sync, and a device that is dropped drops it. A read
-/// gives what was gathered. Where the file fails to take it, it stays gathered: the call that
-/// failed did nothing, what was written before is read as before, and the next hand-over offers it
-/// again.
+/// returns what was gathered. If the file fails to take it, it stays gathered: the call that failed
+/// did nothing, what was written before is read as before, and the next hand-over offers it again.
 ///
-/// It holds a lock on the file from before it changes anything of it until it is dropped: one that
-/// no other shares where it may write, and else one that only others that do not write share. The
-/// lock is advisory: it keeps out those that ask for one.
+/// It holds a lock on the file from before its first change of it until it is dropped: an exclusive
+/// one if it may write, and otherwise one that is shared only with others that do not write. The
+/// lock is advisory: it keeps out only those that ask for one.
 ///
-/// It counts its calls, and remembers why the last one failed that did.
+/// It counts its calls, and remembers why the last one that failed did so.
 #[derive(Drop)]
 pub struct FileDevice {
     file: File,
@@ -53,13 +52,13 @@ impl FileDevice {
     ghost use Rattle.disk.specs.File.{file_size, file_failures, file_is_whole, file_may_write, file_counts, file_last_failure, gathered, BeginsAnew, IsUnopened, IsUncalled};
     ghost use Rattle.disk.specs.Run.{newest_in};
 
-    /// Opens a file that is there, for reading and writing.
+    /// Opens an existing file for reading and writing.
     ///
-    /// Its sectors are the whole ones of its length; [`FileDevice::is_whole`] tells whether bytes
+    /// Its sectors are the whole ones of its length; [`FileDevice::is_whole`] says whether bytes
     /// are left over. Of a file with more than 2^32 - 1 sectors the first 2^32 - 1 are taken.
     ///
-    /// Refuses `Memory` for want of memory, and else `Open`: also where another has a lock on the
-    /// file.
+    /// Fails with `Memory` for lack of memory, and otherwise with `Open`: also if another has a
+    /// lock on the file.
     pub fn open<R: Files<File = File>, P: AsPath>(
         rt: &R,
         alloc: Global,
@@ -81,11 +80,11 @@ impl FileDevice {
         FileDevice::over(file, run, true)
     }
 
-    /// Opens a file that is there for reading alone, so that it need not be one that may be
-    /// written. Else it is opened as by [`FileDevice::open`]. Every write fails.
+    /// Opens an existing file only for reading, so that it need not be one that may be written;
+    /// otherwise as [`FileDevice::open`] does. Every write fails.
     ///
-    /// Refuses `Memory` for want of memory, and else `Open`: also where another that may write has
-    /// a lock on the file.
+    /// Fails with `Memory` for lack of memory, and otherwise with `Open`: also if another that may
+    /// write has a lock on the file.
     pub fn open_to_read<R: Files<File = File>, P: AsPath>(
         rt: &R,
         alloc: Global,
@@ -103,12 +102,12 @@ impl FileDevice {
         FileDevice::over(file, run, false)
     }
 
-    /// Opens a file for reading and writing, makes it where it is not there, and sets its length to
-    /// `sectors` sectors. What it held up to there stays, and what is new is zero. Only its owner
-    /// may read or write a new file; one that is there keeps its mode.
+    /// Opens a file for reading and writing, creates it if it does not exist, and sets its length
+    /// to `sectors` sectors. What it held up to there stays, and what is new is zero. Only its
+    /// owner may read or write a new file; an existing one keeps its mode.
     ///
-    /// Refuses `Memory` for want of memory, and else `Open`: also where the length cannot be set,
-    /// and where another has a lock on the file, which is then as it was.
+    /// Fails with `Memory` for lack of memory, and otherwise with `Open`: also if the length cannot
+    /// be set, and if another has a lock on the file, which is then as it was.
     pub fn create<R: Files<File = File>, P: AsPath>(
         rt: &R,
         alloc: Global,
@@ -207,7 +206,7 @@ impl FileDevice {
         DiskFault::Fault
     }
 
-    /// Hands the file what was gathered, within this call. Where the file fails, it stays gathered.
+    /// Hands the file what was gathered, within this call. If the file fails, it stays gathered.
     fn hand_over(&mut self, call: CallKind) -> Result<(), DiskFault>
         ensures ok { OnOk result ((n : ℕ) → gathered self.new n ≡ None) }
         ensures begins { OnOk result (BeginsAnew self.new) }
@@ -286,8 +285,8 @@ impl Device for FileDevice {
         }
     }
 
-    /// A sector that is written is gathered, and the others stay so, or were handed to the file.
-    /// Where that failed the sector is not written, and none is where the file may not be.
+    /// A sector that is written is gathered, and the others stay so, or were handed to the file. If
+    /// that failed the sector is not written; no sector is if the file may not be written.
     fn write(&mut self, n: u32, content: &[u8; SECTOR]) -> Result<(), DiskFault>
         ensures newest { OnOk result (gathered self.new n ≡ Some content.now) }
         ensures others { (m : ℕ) → m ≢ n → KeepsOrHandsOver self.old self.new m }
@@ -340,7 +339,7 @@ impl Device for FileDevice {
     ghost holds_sectors = { λ never. absurd never };
 }
 
-// where sector n begins
+// the offset of sector n
 fn offset_of(n: u32) -> u64
     ensures { result ≡ n * SECTOR }
 {

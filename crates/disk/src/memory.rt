@@ -11,8 +11,8 @@ use std::alloc::Global;
 
 /// Sectors in memory.
 ///
-/// Where a call's record finds no memory, the call fails as a device does, and is counted: nothing
-/// else changes.
+/// If there is no memory for a call's record, the call fails as a device does, and is counted:
+/// nothing else changes.
 #[derive(Drop)]
 pub struct MemDevice {
     first: Vec<[u8; SECTOR]>,
@@ -31,7 +31,7 @@ pub struct MemDevice {
 impl MemDevice {
     ghost use Rattle.disk.specs.Memory.{size_of, failures_of, calls_of, history_of};
 
-    /// A device of zeros, just made: all that it holds is fixed. Refuses only for want of memory.
+    /// A device of zeros, just made: all that it holds is fixed. Fails only for lack of memory.
     pub fn new(alloc: Global, sectors: u32) -> Result<MemDevice, DiskFault>
         ensures size { IfOk result (λ device. size_of device ≡ sectors) }
         ensures history { IfOk result (λ device. history_of device
@@ -45,8 +45,8 @@ impl MemDevice {
         MemDevice::with_sectors(alloc, zeros(alloc, sectors as usize)?)
     }
 
-    /// A device that holds these contents, sector 0 first, and all of them fixed. Refuses only for
-    /// want of memory.
+    /// A device that holds these contents, sector 0 first, and all of them fixed. Fails only for
+    /// lack of memory.
     pub fn with_sectors(alloc: Global, sectors: Vec<[u8; SECTOR]>) -> Result<MemDevice, DiskFault>
         requires { vec_len sectors < 2 ^ 32 }
         ensures size { IfOk result (λ device. size_of device ≡ vec_len sectors) }
@@ -151,7 +151,7 @@ impl Device for MemDevice {
         Ok(())
     }
 
-    /// A write that failed, for want of memory for its record, did not land.
+    /// A write that failed, for lack of memory for its record, did not land.
     fn write(&mut self, n: u32, content: &[u8; SECTOR]) -> Result<(), DiskFault>
         ensures ok { OnOk result (history_of self.new
             ≡ wrote (record { target = n; content = content.now }) (history_of self.old)) }

@@ -6,8 +6,8 @@ ghost use Rattle.disk.specs.declared.run.TheConstants.{RUN_SECTORS};
 use crate::{DiskFault, SECTOR};
 use std::alloc::Global;
 
-/// How many sectors a run has at most, which are 256 KiB. What a write of a file costs beside the
-/// copy of its bytes, 64 sectors share: longer runs would take memory and save next to nothing.
+/// The most sectors of a run, which are 256 KiB. 64 sectors share the cost of a file write beyond
+/// the copy of its bytes: longer runs would take memory and save next to nothing.
 pub(crate) const RUN_SECTORS: usize = 64;
 
 /// Sectors whose numbers follow one another, each with its newest content.
@@ -24,7 +24,7 @@ pub(crate) struct Run {
 impl Run {
     ghost use Rattle.disk.specs.Run.{first_of, contents_of, newest_in, RunTakes};
 
-    /// A run of no sector. Refuses only for want of memory.
+    /// A run of no sector. Fails only for lack of memory.
     pub(crate) fn new(alloc: Global) -> Result<Run, DiskFault>
         ensures empty { IfOk result (λ run. contents_of run ≡ []) }
         ensures memory { OnErr result (result ≡ Err DiskFault.Memory) }

@@ -7,7 +7,7 @@ ghost use Rattle.disk.specs.Trial.{lists_of, lands, edge_landing_of, edge_landin
 use crate::{Landed, Unsynced};
 use std::alloc::{AllocError, Global};
 
-/// Up to so many sectors every combination is tried.
+/// Up to this number of sectors every combination is tried.
 pub const ALL_COMBINATIONS: usize = 6;
 
 // Which sectors of a list land, with their newest content; of the others the fixed one stays.
@@ -32,11 +32,11 @@ impl Edge {
     }
 }
 
-/// The landings to try where these sectors have unsynced contents.
+/// The landings to try if these sectors have unsynced contents.
 ///
 /// Up to [`ALL_COMBINATIONS`] sectors: each combination of their contents, the fixed ones among
-/// them. Of more sectors: none landed, all, each alone, and each alone missing, those that landed
-/// with their newest content.
+/// them. Of more sectors: none landed, all, and for each sector only it and all but it, those that
+/// landed with their newest content.
 pub fn landings(alloc: Global, unsynced: &[Unsynced]) -> Result<Vec<Vec<Landed>>, AllocError>
     ensures few { length unsynced.now ≤ ALL_COMBINATIONS
         → IfOk result (λ landings. lists_of landings.items ≡ every_landing unsynced.now) }

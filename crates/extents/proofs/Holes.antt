@@ -14,6 +14,6 @@ get_or-holes [] n k = get_or-replicate_None n k
 get_or-holes (b ∷ blocks) n zero = refl
 get_or-holes (b ∷ blocks) n (suc k) = get_or-holes blocks n k
 
--- what `resize` makes where it does not cut
+-- what `resize` makes if it does not cut
 pub resized : (blocks : List (Option ℕ)) (len : ℕ) → length blocks ≤ len → take len blocks ++ replicate (len - length blocks) None ≡ with_holes blocks len
 resized blocks len h = ap (λ (front : List (Option ℕ)). front ++ replicate (len - length blocks) None) (take_all len blocks h)

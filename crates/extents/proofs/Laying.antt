@@ -76,7 +76,7 @@ pub record AreLaid (count : ℕ) (runs : List Run) (i : ℕ) (blocks : List (Opt
   pub same : (k : ℕ) → get_or blocks k None ≡ sector_by (take i runs) k
   pub rest : AreRising 0 count runs → AreRising (length blocks) count (drop i runs)
 
--- what is asked of a run after `from` blocks
+-- what is required of a run after `from` blocks
 abbrev pub IsNext : (from count : ℕ) → Run → Type 0
 IsNext from count run = (from ≤ run.block) × (0 < run.length) × (run.block + run.length ≤ count) × (run.sector + run.length ≤ 2 ^ 32)
 

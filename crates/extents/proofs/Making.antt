@@ -93,7 +93,7 @@ module _ (blocks : List (Option ℕ)) (n : ℕ) (runs : List Run) (far : AreRuns
   pub AreRunsOf-all : AreRunsOf runs blocks
   AreRunsOf-all = record { rising = AreRising-widen 0 n (length blocks) runs far.within far.rising; same = same_all }
 
--- runs of so few blocks have a spelling
+-- runs of so few blocks can be encoded
 pub each_is_run : (from count : ℕ) (runs : List Run) → count ≤ 4096 → AreRising from count runs → AllByRecursion IsRun runs
 each_is_run from count [] few h = tt
 each_is_run from count (run ∷ runs) few h =

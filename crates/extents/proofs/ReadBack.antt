@@ -1,4 +1,4 @@
--- What is read of a run sector is what was spelled there.
+-- What is read from a run sector is what was encoded there.
 use Rattle.std.proofs.Common.{◌≡◌, ◌-◌, ◌*◌, ◌++◌, ℕ, List, length, replicate, refl}
 use Rattle.std.proofs.lemmas.Nat.{from_be_bytes-to_be_bytes_2, from_be_bytes-to_be_bytes_4}
 use Rattle.sector.specs.Records.{AreWide, records-back}

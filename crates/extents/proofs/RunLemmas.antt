@@ -24,7 +24,7 @@ is_in-behind run k high =
     let back : ltb k (run.block + run.length) ≡ false = le-ltb k (run.block + run.length) high in
     rw back (and-false (leb run.block k))
 
--- one run alone
+-- just one run
 
 pub one-yes : (run : Run) (k : ℕ) → run.block ≤ k → k < run.block + run.length → sector_by (run ∷ []) k ≡ Some (run.sector + (k - run.block))
 one-yes run k low high = rw (is_in-yes run k low high) refl
@@ -59,7 +59,7 @@ sector_by-append (x ∷ xs) ys k =
 pub sector_by-push_other : (runs : List Run) (run : Run) (k : ℕ) → sector_by (run ∷ []) k ≡ None → sector_by (runs ++ run ∷ []) k ≡ sector_by runs k
 sector_by-push_other runs run k none = sector_by-append runs (run ∷ []) k ∙ ap (or_else (sector_by runs k)) none ∙ or_else-None (sector_by runs k)
 
--- where the runs so far do not have the block, the new one decides
+-- if the runs so far do not have the block, the new one decides
 pub sector_by-push_new : (runs : List Run) (run : Run) (k : ℕ) → sector_by runs k ≡ None → sector_by (runs ++ run ∷ []) k ≡ sector_by (run ∷ []) k
 sector_by-push_new runs run k none = sector_by-append runs (run ∷ []) k ∙ ap (λ (o : Option ℕ). or_else o (sector_by (run ∷ []) k)) none
 

@@ -42,7 +42,7 @@ pub run_there : (runs : List Run) (k : ℕ) (d : Run) → k < length runs
 run_there runs k d h =
     sym (drop-drop (8 * k) 96 (run_sector runs)) ∙ ap (drop (8 * k)) (behind_header runs) ∙ drop-record run_bytes 8 wide k runs (replicate (4000 - 8 * length runs) 0) d h
 
--- after the last run eight zeros stand, while room is left
+-- after the last run there are eight zeros, while room is left
 pub no_run_there : (runs : List Run) → length runs < 500
     → drop (96 + 8 * length runs) (run_sector runs) ≡ replicate 8 0 ++ replicate (3992 - 8 * length runs) 0
 no_run_there runs h =
@@ -60,7 +60,7 @@ each_push : (runs : List Run) (run : Run) → AllByRecursion IsRun runs → IsRu
 each_push [] run all is = (is, tt)
 each_push (r ∷ runs) run all is = (all.0, each_push runs run all.1 is)
 
--- the first i runs that stand in a sector
+-- the first i runs that are in a sector
 pub record AreReadTo (sector : List ℕ) (i : ℕ) (runs : List Run) : Type 0 where
   pub len : length runs ≡ i
   pub each : AllByRecursion IsRun runs
@@ -72,7 +72,7 @@ pub record IsReadAt (sector : List ℕ) (at : ℕ) (run : Run) : Type 0 where
   pub none_is : (rest : List ℕ) → drop at sector ≡ replicate 8 0 ++ rest → run.length ≡ 0
 
 module _ (sector : List ℕ) (i at : ℕ) (runs : List Run) (run : Run) (far : AreReadTo sector i runs) (read : IsReadAt sector at run) (place : at ≡ 96 + 8 * i) where
-  -- the i-th run of runs that stand there
+  -- the i-th run of runs that are there
   same_run : (others : List Run) → FillSector others → sector ≡ run_sector others → i < length others → run ≡ get_or others i run
   same_run others fill e h =
       read.run_is (get_or others i run) (flat_map run_bytes (drop (i + 1) others) ++ replicate (4000 - 8 * length others) 0) (each_at others i run fill.each h)

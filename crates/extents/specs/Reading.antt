@@ -1,4 +1,4 @@
--- What a run sector says, whatever its bytes. How many of its runs are used it does not tell: the
+-- What a run sector says, whatever its bytes. It does not say how many of its runs are used: the
 -- node does.
 use Rattle.std.specs.Prelude.{◌≡◌, ℕ, List, length, drop}
 use Rattle.std.specs.List.{AllByRecursion}

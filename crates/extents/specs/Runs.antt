@@ -1,10 +1,10 @@
--- The blocks of a node: a list with one place a block, which holds the block's sector, or nothing
--- where the block is a hole. On disk the blocks that are set stand as runs: so many blocks from one
--- on, in as many sectors from one on.
+-- The blocks of a node: a list with one place for each block, which holds the block's sector, or
+-- nothing if the block is a hole. On disk the blocks that are set are stored as runs: consecutive
+-- blocks in consecutive sectors.
 use Rattle.std.specs.Prelude.{◌≡◌, ◌<◌, ◌≤◌, ◌+◌, ◌-◌, ◌^◌, ◌&&◌, ◌++◌, ℕ, Bool, List, [], ◌∷◌, Option, Some, None, nat_lt, nat_le, if◌then◌else◌, length, replicate, slice_index_or}
 use Rattle.extents.specs.declared.run.Run.{Run}
 
--- the list with holes at its end, so that it has at least so many places
+-- the list with holes at its end, so that it has at least `len` places
 abbrev pub with_holes : List (Option ℕ) → ℕ → List (Option ℕ)
 with_holes blocks len = blocks ++ replicate (len - length blocks) None
 
@@ -12,14 +12,14 @@ with_holes blocks len = blocks ++ replicate (len - length blocks) None
 abbrev pub is_in : Run → ℕ → Bool
 is_in run block = nat_le run.block block && nat_lt block (run.block + run.length)
 
--- where runs put a block
+-- the sector in which runs put a block
 abbrev pub sector_by : List Run → ℕ → Option ℕ
 sector_by [] block = None
 sector_by (run ∷ runs) block =
     if is_in run block then Some (run.sector + (block - run.block)) else sector_by runs block
 
--- the runs rise from block `from` on, none is empty, none begins before the end of the one in front
--- of it, none passes the last of `count` blocks, and none passes the last number of a sector
+-- the runs rise from block `from` on, none is empty, none begins before the end of the one before
+-- it, none passes the last of `count` blocks, and none passes the last number of a sector
 abbrev pub AreRising : (from count : ℕ) → List Run → Type 0
 AreRising from count [] = Unit {0}
 AreRising from count (run ∷ runs) =
@@ -43,14 +43,14 @@ RunsApart [] = Unit {0}
 RunsApart (run ∷ []) = Unit {0}
 RunsApart (run ∷ next ∷ runs) = (¬ CanJoin run next) × RunsApart (next ∷ runs)
 
--- from block `start` on, so many blocks stand in sectors one after the other
+-- from block `start` on, `count` blocks are in consecutive sectors
 pub record IsRunAt (blocks : List (Option ℕ)) (start first count : ℕ) : Type 0 where
   pub some : 0 < count
   pub within : start + count ≤ length blocks
   pub fits : first + count ≤ 2 ^ 32
   pub each : (k : ℕ) → k < count → slice_index_or blocks (start + k) None ≡ Some (first + k)
 
--- the blocks that a run has, where they had none
+-- the blocks that a run has, if they had none
 abbrev pub IsLaidBehind : List (Option ℕ) → Run → List (Option ℕ) → Type 0
 IsLaidBehind old run new =
     (block : ℕ) → slice_index_or new block None

@@ -15,7 +15,7 @@ header = codes "RUNS" ++ replicate 92 0
 abbrev pub run_sector : List Run → List ℕ
 run_sector runs = header ++ flat_map run_bytes runs ++ replicate (4000 - 8 * length runs) 0
 
--- a run that has a spelling: its numbers fit, and it is not empty
+-- a run that can be encoded: its numbers fit, and it is not empty
 pub record IsRun (run : Run) : Type 0 where
   pub block : run.block < 2 ^ 16
   pub length : run.length < 2 ^ 16

@@ -1,4 +1,4 @@
--- What memory that lists share holds: nothing, where there is none.
+-- What memory that lists share holds: nothing, if there is none.
 use Rattle.std.specs.Prelude.{List, [], Option, Some, None}
 
 abbrev pub items_in : {R X : Type 0} → (items : R → List X) → Option R → List X

@@ -9,7 +9,7 @@ use thiserror::Error;
 /// Why runs could not be read.
 #[derive(Clone, Copy, Debug, PartialEq, Eq, Error)]
 pub enum ExtentsFault {
-    /// The bytes spell no runs, or the runs are none of a node of this size.
+    /// The bytes encode no runs, or the runs are none of a node of this size.
     #[error("no runs")]
     NotRuns,
     /// Memory ran out.

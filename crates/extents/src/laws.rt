@@ -2,7 +2,7 @@
 
 ghost use Rattle.extents.specs.Reading.{RunsReadBack};
 
-/// Reading, which takes any sector, gives back the runs that were spelled in one.
+/// Reading, which takes any sector, gives back the runs that were encoded in it.
 pub fn reads_back()
     ensures { RunsReadBack }
 {}

@@ -1,5 +1,5 @@
-//! Where the blocks of a node stand: a list of sectors with holes, and the runs that it is kept in
-//! on disk.
+//! The places of a node's blocks: a list of sectors with holes, and the runs that it is kept in on
+//! disk.
 #![tactic(auto)]
 
 mod fault;

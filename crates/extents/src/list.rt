@@ -47,7 +47,7 @@ impl BlockList {
         }
     }
 
-    /// The same list once more, which shares the memory of its sectors.
+    /// A copy of the list, which shares the memory of its sectors.
     pub fn try_clone(&self) -> Result<BlockList, AllocError>
         ensures { IfOk result (λ list. list ≡ self.now) }
     {
@@ -65,7 +65,7 @@ impl BlockList {
         self.count as u32
     }
 
-    /// The sector of a block; none where it is a hole, or past the last block.
+    /// The sector of a block; none if it is a hole, or past the last block.
     pub fn at(&self, block: u32) -> Option<u32>
         ensures { result ≡ slice_index_or self.now block None }
     {
@@ -101,7 +101,7 @@ impl BlockList {
         Ok(())
     }
 
-    /// Keeps the first `count` blocks at most.
+    /// Keeps at most the first `count` blocks.
     pub fn cut(&mut self, count: u32)
         ensures { self.new ≡ take count self.old }
     {
@@ -113,7 +113,7 @@ impl BlockList {
         ensures runs { IfOk result (λ runs. AreRunsOf runs.items self.now) }
         ensures shortest { IfOk result (λ runs. RunsApart runs.items) }
 
-        // Each has a spelling, and there are at most as many as there are blocks that are no holes.
+        // Each can be encoded, and there are at most as many as there are blocks that are no holes.
         ensures each { IfOk result (λ runs. AllByRecursion IsRun runs.items) }
         ensures few { IfOk result (λ runs. vec_len runs ≤ count_by is_some self.now) }
         ensures most { IfOk result (λ runs. vec_len runs ≤ BlockList.MAX_BLOCKS) }
@@ -121,11 +121,11 @@ impl BlockList {
         runs_of(alloc, self.sectors())
     }
 
-    /// The `count` blocks that these are the runs of.
+    /// The `count` blocks of these runs.
     ///
     /// # Errors
-    /// `NotRuns` exactly where these are runs of no so many blocks: one is empty, begins before the
-    /// end of the one in front of it, or passes the last block or the last number of a sector.
+    /// `NotRuns` exactly if these are not runs of `count` blocks: one is empty, begins before the
+    /// end of the one before it, or passes the last block or the last number of a sector.
     pub fn from_runs(alloc: Global, count: u32, runs: &[Run]) -> Result<BlockList, ExtentsFault>
         requires { count ≤ BlockList.MAX_BLOCKS }
         ensures count { IfOk result (λ list. length list ≡ count) }
@@ -156,7 +156,7 @@ fn sector_at(sectors: &[Option<u32>], block: usize) -> Option<u32>
     }
 }
 
-/// Whether a block stands `count` sectors after the first one of a run.
+/// Whether a block is `count` sectors after the first one of a run.
 fn follows(sector: Option<u32>, first: u32, count: usize) -> bool
     requires { count < 2 ^ 32 }
     ensures value { IsTrue result ↔ (sector ≡ Some (first + count)) }
@@ -168,7 +168,7 @@ fn follows(sector: Option<u32>, first: u32, count: usize) -> bool
     }
 }
 
-/// How many blocks from `start` on, whose sector is `first`, stand one after the other.
+/// How many blocks from `start` on, whose sector is `first`, are in consecutive sectors.
 fn run_length(sectors: &[Option<u32>], start: usize, first: u32) -> u16
     requires small { length sectors.now ≤ BlockList.MAX_BLOCKS }
     requires within { start < length sectors.now }

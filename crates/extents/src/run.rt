@@ -1,6 +1,6 @@
-//! Blocks that stand one after the other in sectors one after the other.
+//! Consecutive blocks in consecutive sectors.
 
-/// So many blocks from one on, in as many sectors from one on.
+/// `length` consecutive blocks from `block` on, in consecutive sectors from `sector` on.
 #[derive(Clone, Copy, PartialEq, Eq)]
 pub struct Run {
     /// The first block, counted from 0.

@@ -12,7 +12,7 @@ use std::rc::RcSlice;
 /// Contracts see the list of them.
 #[derive(Drop)]
 pub struct Runs {
-    /// None, where there are no runs.
+    /// `None` if there are no runs.
     shared: Option<RcSlice<Run>>,
 }
 
@@ -35,7 +35,7 @@ impl Runs {
         Runs { shared: None }
     }
 
-    /// These runs. No memory is taken where there are none.
+    /// These runs. No memory is taken if there are none.
     pub fn from_vec(runs: Vec<Run>) -> Result<Runs, AllocError>
         ensures { IfOk result (λ made. made ≡ runs.items) }
     {
@@ -47,7 +47,7 @@ impl Runs {
         })
     }
 
-    /// The same runs once more, in the same memory.
+    /// A copy, in the same memory.
     pub fn try_clone(&self) -> Result<Runs, AllocError>
         ensures { IfOk result (λ runs. runs ≡ self.now) }
     {

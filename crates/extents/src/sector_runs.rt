@@ -13,7 +13,7 @@ use std::alloc::{AllocError, Global};
 /// The most runs of a sector.
 pub const MAX_SECTOR_RUNS: usize = 500;
 
-/// Where the runs begin in a sector, and how long each is.
+/// The offset of the runs in a sector, and how long each is.
 const FIRST: usize = 96;
 
 const WIDTH: usize = 8;
@@ -56,7 +56,7 @@ pub fn write_run_sector(runs: &[Run], sector: &mut [u8; SIZE])
     put_zeros(sector, end, SIZE - end);
 }
 
-/// The runs that would stand in a sector, whatever else stands there.
+/// The runs that would be in a sector, whatever else it holds.
 fn runs_in(alloc: Global, sector: &[u8; SIZE]) -> Result<Vec<Run>, AllocError>
     ensures few { IfOk result (λ runs. vec_len runs ≤ MAX_SECTOR_RUNS) }
     ensures each { IfOk result (λ runs. AllByRecursion IsRun runs.items) }
@@ -77,7 +77,7 @@ fn runs_in(alloc: Global, sector: &[u8; SIZE]) -> Result<Vec<Run>, AllocError>
 /// The runs of a run sector: one at least, none of them empty.
 ///
 /// # Errors
-/// `NotRuns` exactly where no runs have these bytes.
+/// `NotRuns` exactly if no runs have these bytes.
 pub fn read_run_sector(alloc: Global, sector: &[u8; SIZE]) -> Result<Vec<Run>, ExtentsFault>
     ensures fill { IfOk result (λ runs. FillSector runs.items) }
     ensures found { IfOk result (λ runs. sector.now ≡ run_sector runs.items) }

@@ -13,7 +13,7 @@ use std::rc::Rc;
 #[derive(Drop)]
 pub(crate) struct Shared {
     alloc: Global,
-    /// None, where there are no sectors.
+    /// `None` if there are no sectors.
     sectors: Option<Rc<Vec<Option<u32>>>>,
 }
 
@@ -75,8 +75,8 @@ impl Shared {
         }
     }
 
-    /// Keeps the first `kept` sectors, and puts holes after them up to `count`: in place, where
-    /// nobody shares the memory. An `Err` keeps the first `kept`, and maybe others after them.
+    /// Keeps the first `kept` sectors, and puts holes after them up to `count`: in place, if nobody
+    /// shares the memory. An `Err` keeps the first `kept`, and maybe others after them.
     pub(crate) fn grow(&mut self, kept: usize, count: usize) -> Result<(), AllocError>
         requires { (kept ≤ length self.old) × (kept ≤ count) }
         ensures ok { OnOk result (self.new ≡ with_holes (take kept self.old) count) }

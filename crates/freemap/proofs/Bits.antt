@@ -1,4 +1,4 @@
--- Bits of bytes, and the places that they show.
+-- Bits of bytes, and the places that they encode.
 use Rattle.std.proofs.Common.{◌≡◌, ◌<◌, ◌≤◌, ◌+◌, ◌-◌, ◌*◌, ◌/◌, ◌%◌, ◌^◌, ℕ, zero, suc, Bool, true, false, not, cond, List, length, get_or, set, take, drop, ltb, refl, sym, ap, ◌∙◌, arith, zero-add, inl, inr, replicate, Some, All}
 use Rattle.std.proofs.lemmas.List.{get_or_past, get_or-replicate, get_or-take, get_or-drop, length-replicate, ext_get_or}
 use Rattle.std.proofs.lemmas.List.FromFn.{length-map-range_with_len, get_or-map-range_with_len, sum_by-map-range_with_len_more}
@@ -26,7 +26,7 @@ pub places_in-at : (bytes : List ℕ) (count i : ℕ) (d : Bool) → i < count �
 unfolding places_in
 places_in-at bytes count i d h = get_or-map-range_with_len (λ i. is_one (bit_of bytes i)) 0 count i i d h (zero-add i)
 
--- where no bit past the places is set, the bits are the marks
+-- if no bit past the places is set, the bits are the marks
 pub mark-bit : (bytes : List ℕ) (count : ℕ) → IsClearFrom bytes count → (i : ℕ) → bit_of bytes i ≡ mark_of (places_in bytes count) i
 mark-bit bytes count past i = elim (cases_lt i count) [
   | inl lt ↦ sym (bit_from-is_one (bit_of bytes i) (bit_of-lt bytes i)) ∙ ap bit_from (sym (places_in-at bytes count i false lt))
@@ -35,7 +35,7 @@ mark-bit bytes count past i = elim (cases_lt i count) [
       past i le ∙ sym (ap bit_from (get_or_past (places_in bytes count) i false outside))
 ]
 
--- a part of the bytes shows the places from its first one on
+-- a part of the bytes encodes the places from its first one on
 pub bit_of-part : (bytes part : List ℕ) (first i : ℕ) → ((k : ℕ) → k < 4096 → get_or part k 0 ≡ get_or bytes (first + k) 0) → i < 32768 → bit_of part i ≡ bit_of bytes (8 * first + i)
 bit_of-part bytes part first i same h =
     let row : (8 * first + i) / 8 ≡ first + i / 8 = omega arith in
@@ -63,7 +63,7 @@ bit_in-shown low high count places shown i h =
           rw place (sym (high_bit low high (i - 32768)) ∙ shown.high_shows.bits (i - 32768) within)
     ]
 
--- a sector that is a part of the bytes shows the places of that part
+-- a sector that is a part of the bytes encodes the places of that part
 pub Shows-part : (bytes part : List ℕ) (count first : ℕ) → IsClearFrom bytes count → length part ≡ 4096 → ((k : ℕ) → k < 4096 → get_or part k 0 ≡ get_or bytes (first + k) 0) → ShowsPlaces part (places_in bytes count) (8 * first)
 Shows-part bytes part count first past len same = record {
   len = len;
@@ -102,7 +102,7 @@ module _ (bytes : List ℕ) (n free : ℕ) (used : Bool) (read : bit_from used �
       let added : free_from (is_one (bit_of bytes n)) ≡ 0 = ap free_from (place_is ∙ is) in
       omega (arith, free_places-more bytes n, counted, added)
 
--- what a place says of its bit
+-- what a place says about its bit
 
 one_of : (bit : ℕ) → bit < 2 → is_one bit ≡ true → bit ≡ 1
 one_of zero h e = absurd cc
@@ -147,7 +147,7 @@ places_in-zeros bytes n count is =
     let inside : i < count = omega (arith, length-places_in bytes count) in
     places_in-at bytes count i false inside ∙ ap is_one (zeros-clear bytes n i is) ∙ sym (get_or-replicate count i false false inside))
 
--- where each bit is set, each place is used
+-- if each bit is set, each place is used
 pub all_used : (bytes : List ℕ) (count : ℕ) → IsSetBelow bytes count → All (λ used. used ≡ true) (places_in bytes count)
 all_used bytes count set = All-from_get_or (λ used. used ≡ true) (places_in bytes count) false (λ i h.
     let inside : i < count = omega (arith, length-places_in bytes count) in

@@ -1,4 +1,4 @@
--- What taking and giving back a place keep.
+-- What taking and freeing a place keep.
 use Rattle.std.proofs.Common.{◌≡◌, ◌≢◌, ◌<◌, ◌≤◌, ◌+◌, ◌*◌, min, ℕ, false, List, length, set, sym, ap, ◌∙◌, arith, inl, inr}
 use Rattle.std.proofs.lemmas.List.{length-set, get_or-set_same, get_or-set_other, ext_get_or}
 use Rattle.std.proofs.lemmas.Bool.{cases_eq}
@@ -43,6 +43,6 @@ module _ (old new : List ℕ) (count place lowest : ℕ) (kept : IsBitmap old co
   pub below-set : BitBecomes old new place 1 → IsSetBelow new lowest
   below-set becomes i h = elim (cases_eq i place) [ inl e ↦ rw e becomes.here | inr apart ↦ becomes.others i apart ∙ kept.below i h ]
 
--- where all below a place are set, and then the place, all up to it are
+-- if all below a place are set, and then the place, all up to it are
 pub below-more : (old new : List ℕ) (place : ℕ) → BitBecomes old new place 1 → IsSetBelow old place → IsSetBelow new (place + 1)
 below-more old new place becomes below i h = elim (cases_eq i place) [ inl e ↦ rw e becomes.here | inr apart ↦ becomes.others i apart ∙ below i (omega arith) ]

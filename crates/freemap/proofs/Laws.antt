@@ -1,4 +1,4 @@
--- Two sectors show one set, and a set has one spelling.
+-- Two sectors encode one set, and a set has one encoding.
 use Rattle.std.proofs.Common.{◌≡◌, ◌<◌, ◌+◌, ◌-◌, ◌*◌, ◌/◌, ◌%◌, ◌^◌, ℕ, zero, suc, Bool, true, false, List, length, get_or, refl, sym, ap, ◌∙◌, arith}
 use Rattle.std.proofs.Math.Nat.{pow-suc, div-one}
 use Rattle.std.proofs.lemmas.Nat.{shr-shr}

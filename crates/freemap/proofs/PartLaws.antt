@@ -1,4 +1,4 @@
--- What two sets have alike in a bitmap sector.
+-- What two sets have in common in a bitmap sector.
 use Rattle.std.proofs.Common.{◌≡◌, ◌<◌, ◌≤◌, ◌+◌, ◌-◌, ◌*◌, ◌/◌, ◌%◌, ◌^◌, ℕ, Bool, List, length, get_or, map, take, drop, sym, ap, ◌∙◌, arith, zero-add}
 use Rattle.std.specs.List.{range_with_len}
 use Rattle.std.proofs.lemmas.List.FromFn.{length-map-range_with_len, get_or-map-range_with_len}
@@ -7,7 +7,8 @@ use Rattle.freemap.specs.Places.{bit_of, mark_of, places_in, ShowsPlaces, HaveSa
 use Rattle.freemap.specs.Kept.{IsBitmap, HaveSameBits, parts}
 use Rattle.freemap.proofs.Bits.{Shows-part, part-there, length-places_in}
 
--- where one sector shows a set, and another one with the same bits another set, each that shows the one shows the other
+-- if one sector encodes a set, and another one with the same bits another set, each that encodes
+-- the one encodes the other
 also_shown : (low high sector : List ℕ) (a b : List Bool) (first : ℕ) → HaveSameBits low high → ShowsPlaces low a first → ShowsPlaces high b first → ShowsPlaces sector a first → ShowsPlaces sector b first
 also_shown low high sector a b first same one other shown = record { len = shown.len; bits = λ i h. shown.bits i h ∙ sym (one.bits i h) ∙ same i h ∙ other.bits i h }
 
@@ -21,14 +22,14 @@ module _ (bytes : List ℕ) (count lowest : ℕ) (kept : IsBitmap bytes count lo
   pub part-shown : ShowsPlaces (part_of bytes start end) (places_in bytes count) (8 * start)
   part-shown = Shows-part bytes (part_of bytes start end) count start kept.past part-len (λ k h. part-there bytes start end k (omega arith))
 
--- a part of the places that are shown lies within the bytes
+-- a part of the places that are encoded lies within the bytes
 pub part-within : (bytes : List ℕ) (count lowest part : ℕ) (places : List Bool) → IsBitmap bytes count lowest → places_in bytes count ≡ places → part < parts (length places) → 4096 * part + 4096 ≤ length bytes
 part-within bytes count lowest part places kept shown h =
     let count_is : length places ≡ count = sym (ap length shown) ∙ length-places_in bytes count in
     let within : part < parts count = rw count_is at h in
     omega (arith, within, kept.len)
 
--- the first bytes of a list, zeros where it has none: a sector with its bits
+-- the first bytes of a list, zeros past its end: a sector with its bits
 sector_of : List ℕ → List ℕ
 sector_of bytes = map (λ k. get_or bytes k 0) (range_with_len 0 4096)
 
@@ -40,7 +41,8 @@ sector_bits : (bytes : List ℕ) (i : ℕ) → i < 32768 → bit_of (sector_of b
 unfolding sector_of
 sector_bits bytes i h = ap (λ (byte : ℕ). byte / 2 ^ (7 - i % 8) % 2) (get_or-map-range_with_len (λ k. get_or bytes k 0) 0 4096 (i / 8) (i / 8) 0 (omega arith) (zero-add (i / 8)))
 
--- however long a list of bytes is: where its bits are those of the one set, they are those of the other
+-- for a list of bytes of any length: if its bits are those of the one set, they are those of the
+-- other
 pub also_marked : (bytes : List ℕ) (a b : List Bool) (first : ℕ) → HaveSamePart a b first → ((i : ℕ) → i < 32768 → bit_of bytes i ≡ mark_of b (first + i))
     → (i : ℕ) → i < 32768 → bit_of bytes i ≡ mark_of a (first + i)
 also_marked bytes a b first alike marked i h =
@@ -49,10 +51,10 @@ also_marked bytes a b first alike marked i h =
     sym (sector_bits bytes i h) ∙ shown.bits i h
 
 module _ (low high : List ℕ) (a b : List Bool) (first : ℕ) (one : ShowsPlaces low a first) (other : ShowsPlaces high b first) where
-  -- sectors with the same bits show the same
+  -- sectors with the same bits encode the same
   pub same_shown : HaveSameBits low high → HaveSamePart a b first
   same_shown same sector = (also_shown low high sector a b first same one other, also_shown high low sector b a first (λ i h. sym (same i h)) other one)
 
-  -- and those that show the same have the same bits
+  -- and those that encode the same have the same bits
   pub shown_same : HaveSamePart a b first → HaveSameBits low high
   shown_same alike i h = let both = alike low in let too = both.0 one in too.bits i h ∙ sym (other.bits i h)

@@ -1,5 +1,5 @@
--- A set of places as the two bitmap sectors of a volume show it: bit i of the two is byte i / 8,
--- the most significant bit first, and is 1 where place i is used.
+-- A set of places as the two bitmap sectors of a volume encode it: bit i of the two is byte i / 8,
+-- the most significant bit first, and is 1 if place i is used.
 use Rattle.std.specs.Prelude.{◌≡◌, ◌<◌, ◌≤◌, ◌+◌, ◌-◌, ◌/◌, ◌%◌, ◌^◌, ◌↔◌, ℕ, zero, suc, Bool, true, false, List, length, map, slice_index, slice_index_or, nat_lt, if◌then◌else◌}
 use Rattle.std.specs.List.{range_with_len}
 
@@ -17,7 +17,7 @@ abbrev pub is_one : ℕ → Bool
 is_one zero = false
 is_one (suc _) = true
 
--- the first `count` places that bytes show
+-- the first `count` places that bytes encode
 unfoldable pub places_in : List ℕ → (count : ℕ) → List Bool
 places_in bytes count = map (λ i. is_one (bit_of bytes i)) (range_with_len 0 count)
 
@@ -29,16 +29,16 @@ mark_of places i = bit_from (slice_index_or places i false)
 abbrev pub bit_in : List ℕ → List ℕ → ℕ → ℕ
 bit_in low high i = if nat_lt i 32768 then bit_of low i else bit_of high (i - 32768)
 
--- the sector shows the 32,768 places from `first` on
+-- the sector encodes the 32,768 places from `first` on
 pub record ShowsPlaces (sector : List ℕ) (places : List Bool) (first : ℕ) : Type 0 where
   pub len : length sector ≡ 4096
   pub bits : (i : ℕ) → i < 32768 → bit_of sector i ≡ mark_of places (first + i)
 
--- the same sectors show the places of both from `first` on
+-- the same sectors encode the places of both from `first` on
 abbrev pub HaveSamePart : (a b : List Bool) → (first : ℕ) → Type 0
 HaveSamePart a b first = (sector : List ℕ) → ShowsPlaces sector a first ↔ ShowsPlaces sector b first
 
--- two sectors show a set of so many places, and nothing past them
+-- two sectors encode a set of `count` places, and nothing past them
 pub record Show (low high : List ℕ) (count : ℕ) (places : List Bool) : Type 0 where
   pub count_is : length places ≡ count
   pub low_shows : ShowsPlaces low places 0
@@ -47,13 +47,13 @@ pub record Show (low high : List ℕ) (count : ℕ) (places : List Bool) : Type 
 abbrev pub IsBytes : List ℕ → Type 0
 IsBytes bytes = (i : ℕ) → slice_index bytes i < 256
 
--- two sectors show one set at most
+-- two sectors encode at most one set
 abbrev pub OneSet : Type 0
 OneSet =
     (low high : List ℕ) (count : ℕ) (a b : List Bool) → count ≤ 65536 → Show low high count a
     → Show low high count b → a ≡ b
 
--- a set has one spelling in a sector
+-- a set has one encoding in a sector
 abbrev pub OneSpelling : Type 0
 OneSpelling =
     (places : List Bool) (first : ℕ) (a b : List ℕ) → IsBytes a → IsBytes b

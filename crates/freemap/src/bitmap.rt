@@ -13,7 +13,7 @@ use std::marker::Model;
 /// Which places are used: the bitmap sectors as they lie on a device, end to end, two at least, and
 /// where to look for a free place.
 ///
-/// Contracts see a list of booleans, true where the place is used.
+/// Contracts see a list of booleans, true if the place is used.
 #[derive(Drop)]
 pub struct Bitmap {
     bits: Vec<u8>,
@@ -47,7 +47,7 @@ impl Bitmap {
         })
     }
 
-    /// The same set once more, in memory of its own.
+    /// A copy of the set, in its own memory.
     pub fn try_clone(&self) -> Result<Bitmap, AllocError>
         ensures { IfOk result (λ places. places ≡ self.now) }
     {
@@ -58,7 +58,7 @@ impl Bitmap {
         })
     }
 
-    /// Writes bitmap sector `part`, which shows the places from `32768 * part` on.
+    /// Writes bitmap sector `part`, which encodes the places from `32768 * part` on.
     pub fn to_sector(&self, part: u32, sector: &mut [u8; SIZE])
         requires { part < parts (length self.now) }
         ensures { ShowsPlaces sector.new self.now (SECTOR_PLACES * part) }
@@ -102,7 +102,7 @@ impl Bitmap {
     /// Takes a free place. Which one is left open.
     ///
     /// # Errors
-    /// `Full` exactly where no place is free; nothing changes then.
+    /// `Full` exactly if no place is free; then nothing changes.
     pub fn take(&mut self) -> Result<u32, Full>
         ensures free { IfOk result (λ place. slice_get self.old place ≡ Some false) }
         ensures taken { IfOk result (λ place. self.new ≡ slice_set self.old place true) }
@@ -127,7 +127,7 @@ impl Bitmap {
         sectors::set_bit(&mut self.bits, place as usize);
     }
 
-    /// Gives a used place back.
+    /// Frees a used place.
     pub fn give(&mut self, place: u32)
         requires { slice_index_or self.old place false ≡ true }
         ensures { self.new ≡ slice_set self.old place false }
@@ -145,7 +145,7 @@ fn parts_of(count: u32) -> usize
     (count as usize).div_ceil(SECTOR_PLACES as usize).max(2)
 }
 
-/// Two sectors show one set of so many places at most, and a set is shown by one pair of sectors.
+/// Two sectors encode at most one set of a given size, and a set is encoded by one pair of sectors.
 pub fn one_spelling()
     ensures set { OneSet }
     ensures sectors { OneSpelling }

@@ -14,7 +14,7 @@ use std::rc::Rc;
 
 /// Which places are used. A copy shares the memory until one of the two changes.
 ///
-/// Contracts see a list of booleans, true where the place is used.
+/// Contracts see a list of booleans, true if the place is used.
 #[derive(Drop)]
 pub struct SharedBitmap {
     alloc: Global,
@@ -49,7 +49,7 @@ impl SharedBitmap {
         })
     }
 
-    /// Writes bitmap sector `part`, which shows the places from `32768 * part` on.
+    /// Writes bitmap sector `part`, which encodes the places from `32768 * part` on.
     pub fn to_sector(&self, part: u32, sector: &mut [u8; SIZE])
         requires { part < parts (length self.now) }
         ensures { ShowsPlaces sector.new self.now (SECTOR_PLACES * part) }
@@ -66,10 +66,10 @@ impl SharedBitmap {
         self.set.has_same_part(&other.set, part)
     }
 
-    /// Takes a free place, in place where nobody shares the memory. Which one is left open.
+    /// Takes a free place, in place if nobody shares the memory. Which one is left open.
     ///
     /// # Errors
-    /// `Full` only where no place is free, and `Memory`; nothing changes then.
+    /// `Full` only if no place is free, and `Memory`; then nothing changes.
     pub fn take(&mut self) -> Result<u32, TakeFault>
         ensures free { IfOk result (λ place. slice_get self.old place ≡ Some false) }
         ensures taken { IfOk result (λ place. self.new ≡ slice_set self.old place true) }
@@ -85,7 +85,7 @@ impl SharedBitmap {
         Ok(place)
     }
 
-    /// Gives a used place back, in place where nobody shares the memory. An `Err` changes nothing.
+    /// Frees a used place, in place if nobody shares the memory. An `Err` changes nothing.
     pub fn give(&mut self, place: u32) -> Result<(), AllocError>
         requires { slice_index_or self.old place false ≡ true }
         ensures given { OnOk result (self.new ≡ slice_set self.old place false) }

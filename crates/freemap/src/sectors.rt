@@ -7,7 +7,7 @@ ghost use Rattle.freemap.specs.Kept.{free_places, IsSetBelow, HaveSameBits, BitB
 use byteorder::{BigEndian, ByteOrder};
 use sector::SIZE;
 
-/// The places that a sector shows, one for each bit.
+/// The places that a sector encodes, one for each bit.
 pub const SECTOR_PLACES: u32 = 32768;
 
 /// The most bytes of all sectors: 2^32 places.
@@ -86,7 +86,7 @@ fn skip_words(bits: &[u8], from: usize) -> usize
     from.max(WORD_PLACES * word)
 }
 
-/// Whether each bit of the word in front is set.
+/// Whether each bit of the first word is set.
 fn is_full(bytes: &[u8]) -> bool
     requires { WORD_BYTES ≤ length bytes.now }
     ensures { IsTrue result → IsSetBelow bytes.now WORD_PLACES }
@@ -110,7 +110,7 @@ fn skip_bytes(bits: &[u8], from: usize) -> usize
     from.max(8 * byte)
 }
 
-/// The first clear bit below the one of place `count`, where none below `from` is clear.
+/// The first clear bit below the one of place `count`, if none below `from` is clear.
 pub(crate) fn first_clear(bits: &[u8], from: usize, count: usize) -> Option<usize>
     requires few { length bits.now ≤ MAX_BYTES }
     requires within { count ≤ 8 * length bits.now }

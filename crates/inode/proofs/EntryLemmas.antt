@@ -29,7 +29,7 @@ chain s0 s1 s2 s3 s4 a b c d at f1 f2 f3 f4 =
     let p4 : take (at + 16) s4 ≡ take at s0 ++ a ++ b ++ c ++ d = ap (λ (i : ℕ). take i s4) e4 ∙ f4 ∙ ap (λ (x : List ℕ). x ++ d) p3 in
     p4 ∙ simp append_assoc
 
--- what stands in the fields of an entry at a place
+-- what is in the fields of an entry at a place
 module _ (sector : List ℕ) (at : ℕ) (ace : Ace) (rest : List ℕ) (there : drop at sector ≡ ace_bytes ace ++ rest) where
   byte_there : (k : ℕ) → get_or sector (at + k) 0 ≡ get_or (ace_bytes ace ++ rest) k 0
   byte_there k = sym (get_or-drop at sector k 0) ∙ ap (λ (xs : List ℕ). get_or xs k 0) there

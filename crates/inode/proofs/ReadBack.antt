@@ -1,4 +1,4 @@
--- What is read of a node's sector is what was spelled there.
+-- What is read from a node's sector is what was encoded there.
 use Rattle.std.proofs.Common.{◌≡◌, ◌+◌, ◌/◌, ℕ, List, ◌++◌, length, drop, refl, sym, ap, ap₂, ◌∙◌, arith}
 use Rattle.std.specs.Int.{w16, w32, from_be_bytes}
 use Rattle.std.proofs.lemmas.Nat.{from_be_bytes-to_be_bytes_2, from_be_bytes-to_be_bytes_4, from_be_bytes-to_be_bytes_8}

@@ -1,4 +1,4 @@
--- What a node's sector says of it, apart from where it lies in memory.
+-- What a node's sector says about it, apart from how it lies in memory.
 use Rattle.std.specs.Prelude.{◌≡◌, ◌<◌, ◌≤◌, ◌+◌, ◌/◌, ◌^◌, ℕ, List, length}
 use Rattle.std.specs.List.{AllByRecursion}
 use Rattle.model_tree.specs.declared.node.NodeKind.{NodeKind}
@@ -43,7 +43,7 @@ id_of who.Everyone = 0
 id_of (who.User id) = id
 id_of (who.NamedGroup id) = id
 
--- an entry that has a spelling: of its flags the lowest four
+-- an entry that can be encoded: of its flags only the lowest four
 pub record IsAce (ace : Ace) : Type 0 where
   pub flags : ace.flags.0 < 16
   pub mask : ace.mask.0 < 2 ^ 32
@@ -59,7 +59,7 @@ abbrev pub most_entries : Form → ℕ
 most_entries One = 40
 most_entries Two = 72
 
--- What has a spelling in a form: numbers that fit, no more entries than the form has room for, and
+-- What can be encoded in a form: numbers that fit, no more entries than the form has room for, and
 -- one run sector for each 500 runs, rounded up, at most nine.
 pub record IsInode (form : Form) (fields : Fields) : Type 0 where
   pub number : fields.number < 2 ^ 64

@@ -1,6 +1,6 @@
--- What a sector says of a node, whatever its bytes: nothing is tested. Of a sector that a node's
--- fields are spelled in, in whatever form, they are this form and these fields: so a sector spells
--- one node at most, in one form.
+-- What a sector says about a node, whatever its bytes: nothing is tested. If a node's fields are
+-- encoded in a sector, in whatever form, it says this form and these fields: so a sector encodes at
+-- most one node, in one form.
 use Rattle.std.specs.Prelude.{◌≡◌, ◌==◌, ◌+◌, ◌/◌, ℕ, List, drop, slice_index, if◌then◌else◌}
 use Rattle.std.specs.Int.{w16, w32, w64, from_be_bytes}
 use Rattle.model_tree.specs.declared.node.NodeKind.{NodeKind}

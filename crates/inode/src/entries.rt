@@ -79,8 +79,8 @@ pub(crate) fn put_ace(sector: &mut [u8; SIZE], at: usize, ace: Ace)
     put_zeros(sector, at + 12, 4);
 }
 
-/// The entry that would stand at place `at`, whatever stands in the bytes that an entry has zero;
-/// none where no entry does.
+/// The entry that would be at place `at`, whatever the bytes hold that an entry has zero; none if
+/// no entry does.
 pub(crate) fn ace_at(sector: &[u8; SIZE], at: usize) -> Option<Ace>
     requires { at + WIDTH ≤ SIZE }
     ensures fits { IfSome result IsAce }

@@ -2,8 +2,8 @@
 
 ghost use Rattle.inode.specs.Reading.{FieldsReadBack, FormReadsBack, OneNode};
 
-/// Reading, which takes any sector, gives back what was spelled in one, and its form; so a sector
-/// spells one node at most, in one form.
+/// Reading, which takes any sector, gives back what was encoded in it, and its form; so a sector
+/// encodes at most one node, in one form.
 pub fn reads_back()
     ensures back { FieldsReadBack }
     ensures form { FormReadsBack }

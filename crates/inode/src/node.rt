@@ -1,4 +1,4 @@
-//! What a node's sector says of it.
+//! What a node's sector says about it.
 
 ghost use Rattle.std.specs.Prelude.{◌≡◌, ◌≤◌, IfOk, OnOk, vec_capacity};
 ghost use Rattle.inode.specs.Ranges.{AreInRange};
@@ -44,12 +44,12 @@ pub struct Inode {
     pub time_modify: u64,
     /// Bytes of a file, names of a directory.
     pub size: u64,
-    /// How many runs its blocks stand in.
+    /// The number of runs that its blocks are in.
     pub runs: u16,
     /// The sectors that keep those runs, 500 each, the last one perhaps fewer.
     pub run_sectors: Vec<u32>,
     pub acl: Acl,
-    // What a proof knows so of the numbers without a read.
+    // What a proof knows of the numbers without a read.
     ghost in_range: { AreInRange number owner group change time_modify size },
 }
 
@@ -59,7 +59,7 @@ impl Inode {
     /// The most run sectors of a node.
     pub const MAX_RUN_SECTORS: usize = 9;
 
-    /// The same node once more, which shares the memory of its list.
+    /// A copy of the node, which shares the memory of its list.
     pub fn try_clone(&self, alloc: Global) -> Result<Inode, AllocError>
         ensures { IfOk result (λ inode. fields_of inode ≡ fields_of self.now) }
     {
@@ -77,7 +77,7 @@ impl Inode {
         })
     }
 
-    /// Takes memory for as many run sectors as a node may have, in advance.
+    /// Reserves memory for the maximal number of run sectors of a node.
     pub fn reserve(&mut self) -> Result<(), AllocError>
         ensures same { fields_of self.new ≡ fields_of self.old }
         ensures room { OnOk result (Inode.MAX_RUN_SECTORS ≤ vec_capacity self.new.run_sectors) }

@@ -31,7 +31,7 @@ fn kind_from(byte: u8) -> Option<NodeKind>
     }
 }
 
-/// The number of a run sector at place `at`; none where 0 stands there.
+/// The number of a run sector at place `at`; none if 0 is there.
 fn run_sector_at(sector: &[u8; SIZE], at: usize) -> Option<u32>
     requires { at + 4 ≤ SIZE }
     ensures fits { IfSome result IsRunSector }
@@ -88,7 +88,7 @@ fn acl_in(alloc: Global, sector: &[u8; SIZE], count: usize) -> Result<Acl, Inode
     Ok(acl)
 }
 
-/// The number of entries in a sector of this form, whatever stands there.
+/// The number of entries in a sector of this form, whatever it holds.
 fn count_at(form: Form, sector: &[u8; SIZE]) -> usize
     ensures { result ≡ count_in form sector.now }
 {
@@ -98,8 +98,7 @@ fn count_at(form: Form, sector: &[u8; SIZE]) -> usize
     }
 }
 
-/// The inode that would stand in a sector of this form, whatever stands in the bytes between its
-/// fields.
+/// The inode that would be in a sector of this form, whatever the bytes between its fields hold.
 fn inode_in(alloc: Global, form: Form, sector: &[u8; SIZE]) -> Result<Inode, InodeFault>
     ensures fits { IfOk result (λ inode. IsInode form (fields_of inode)) }
     ensures only { (fields : Fields) → IsInode form fields
@@ -138,8 +137,8 @@ fn inode_in(alloc: Global, form: Form, sector: &[u8; SIZE]) -> Result<Inode, Ino
 /// The inode that has these bytes.
 ///
 /// # Errors
-/// `NotInode` exactly where no inode has them: whatever is read is written again, and has to give
-/// each byte back.
+/// `NotInode` exactly if no inode has them: whatever is read is written again, and must give each
+/// byte back.
 pub fn from_sector(alloc: Global, form: Form, sector: &[u8; SIZE]) -> Result<Inode, InodeFault>
     ensures fits { IfOk result (λ inode. IsInode form (fields_of inode)) }
     ensures found { IfOk result (λ inode. sector.now ≡ inode_sector form (fields_of inode)) }

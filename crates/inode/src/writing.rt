@@ -12,8 +12,8 @@ use model_tree::acl::Ace;
 use model_tree::node::NodeKind;
 use sector::{SIZE, put_bytes, put_u16, put_u32, put_u64, put_zeros};
 
-/// Where the numbers of the run sectors, the second number of entries, the zeros after it and the
-/// entries begin.
+/// The offsets at which the numbers of the run sectors, the second number of entries, the zeros
+/// after it and the entries begin.
 pub(crate) const RUN_NUMBERS: usize = 48;
 
 pub(crate) const SECOND_COUNT: usize = 84;
@@ -40,7 +40,7 @@ fn magic_of(form: Form) -> [u8; 4]
     }
 }
 
-/// How many entries there are, as byte 5 tells it.
+/// The number of entries, as byte 5 encodes it.
 fn first_count(form: Form, count: usize) -> u8
     requires { count ≤ most_entries form }
     ensures { result ≡ spelled.first_count form count }
@@ -51,7 +51,7 @@ fn first_count(form: Form, count: usize) -> u8
     }
 }
 
-/// How many entries there are, as bytes 84 and 85 tell it.
+/// The number of entries, as bytes 84 and 85 encode it.
 fn second_count(form: Form, count: usize) -> u16
     requires { count ≤ most_entries form }
     ensures { result ≡ spelled.second_count form count }

@@ -1,4 +1,4 @@
--- How calls answer.
+-- The results of calls.
 use Rattle.std.proofs.Common.{◌≡◌, ◌≤◌, ℕ, true, false, refl, ap, sym, ◌∙◌, subst, arith, Result, Ok, Err, IsErrOf, is_err}
 use Rattle.std.specs.Result.{IsErrAnd}
 use Rattle.disk.specs.declared.fault.DiskFault.{DiskFault}
@@ -52,7 +52,7 @@ answers_up old new before after r no_fault no_down up stays same = record {
   stays_up = λ q n. stays;
 }
 
--- the error is the one that was handed on
+-- the error is the one that was passed on
 pub is_told : {T E : Type 0} (r : Result T E) (reason : E) → IsErrAnd r (λ told. told ≡ reason) → r ≡ Err reason
 is_told (Ok x) reason e = absurd e
 is_told (Err _) reason e = ap (λ f. Err f) e
@@ -70,7 +70,7 @@ fails_after before mid after e f same w =
 pub never_fails : {T E : Type 0} (before after : ℕ) (x : T) → after ≡ before → FailsCounted {E = E} before after (Ok x)
 never_fails before after x same = record { later = omega arith; ok = same; counted = tt }
 
--- an error that was handed on, and that the device counted
+-- an error that was passed on, and that the device counted
 pub told_counted : {T E : Type 0} (before mid after : ℕ) (r : Result T E) (e : E) → r ≡ Err e → mid ≡ before → mid ≤ after → IsCounted mid after
     → FailsCounted before after r
 told_counted {T} {E} before mid after r e told same later counted =

@@ -1,4 +1,4 @@
--- Where a log is on its device.
+-- The place of a log on its device.
 use Rattle.std.proofs.Common.{◌≤◌, ◌<◌, ◌+◌, ℕ, List, All, arith}
 use Rattle.journal.specs.declared.layout.LogArea.{LogArea}
 use Rattle.journal.specs.Layout.{AreNamed, IsArea, area_end}

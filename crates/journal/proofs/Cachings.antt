@@ -60,7 +60,7 @@ all_gone us i n l e = ap (λ (xs : List Update). has (targets xs) n) (sym (take_
 pub copies_among : (size : ℕ) (image : Image) (old new : List (ℕ × List ℕ)) → AreCopies size image old → AreAmong new old → AreCopies size image new
 copies_among size image old new copies among = record { each = λ n content there. copies.each n content (among (n, content) there) }
 
--- where a flush took the list
+-- if a flush took the list
 pub copies_flushed : (size : ℕ) (us next : List Update) (a b : Image) (es : List (ℕ × List ℕ)) → next ≡ []
     → AreSame size (applied us a) b → AreCopies size (applied us a) es → AreCopies size (applied next b) es
 copies_flushed size us next a b es none same copies = record {
@@ -72,7 +72,7 @@ copies_flushed size us next a b es none same copies = record {
       );
 }
 
--- where the base was brought home
+-- if the base was copied home
 pub copies_home : (size : ℕ) (us : List Update) (a b : Image) (es : List (ℕ × List ℕ))
     → AreSame size a b → AreCopies size (applied us a) es → AreCopies size (applied us b) es
 copies_home size us a b es same copies = record {
@@ -84,7 +84,7 @@ copies_home size us a b es same copies = record {
       );
 }
 
--- where sector 0 was written
+-- if sector 0 was written
 pub copies_beside : (size : ℕ) (us : List Update) (a b : Image) (first : List ℕ) (es : List (ℕ × List ℕ))
     → (let u : Update = record { target = 0; content = first } in AreSame size (put a u) b) → AreCopies size (applied us a) es → AreCopies size (applied us b) es
 copies_beside size us a b first es same copies = record {

@@ -30,7 +30,7 @@ between_after us next h h1 image f w =
 abbrev pub Either : LogArea → List Update → Image → Image → Type 0
 Either area us base image = Settles area image base ⊎ Settles area image (applied us base)
 
--- updates are recorded behind what the gate shows
+-- updates are recorded behind what the gate names
 module _ (area : LogArea) (is : IsArea area) (to : List ℕ) (us : List Update) (h : History) (few : length to + length us ≤ area.sectors) (fit : AreNamed area (to ++ targets us)) (gated : IsGated to h) where
   pub payload_moments : (h1 : History) → AddsUpdates (placed (area.first + length to) us) h h1 → AddsEither area us (through area to (seen h.now)) h h1
   payload_moments h1 w =
@@ -91,7 +91,7 @@ module _ (area : LogArea) (is : IsArea area) (to : List ℕ) (h : History) (few 
             ∙ homes_done area is to (seen h.now) few fit gated.gate_is n);
       }
 
--- the gate's phase, where the bytes written are a gate's
+-- the gate's phase, if the bytes written are a gate's
 pub AddsUpdates-gate : (bytes : List ℕ) (to : List ℕ) (h h1 : History) → bytes ≡ gate to
     → (let u : Update = record { target = 1; content = bytes } in AddsUpdates (u ∷ []) h h1) → AddsUpdates (gate_update to ∷ []) h h1
 AddsUpdates-gate bytes to h h1 e w =
@@ -102,14 +102,14 @@ pub IsFixedAs-gate : (bytes : List ℕ) (to : List ℕ) (h h1 : History) → byt
 IsFixedAs-gate bytes to h h1 e w =
     let P : List ℕ → Type 0 = λ b. let u : Update = record { target = 1; content = b } in IsFixedAs (u ∷ []) h h1 in subst P e w
 
--- the homes' phase, where the contents are the payload's
+-- the homes' phase, if the contents are the payload's
 pub AddsUpdates-at : (xs ys : List Update) (h h1 : History) → xs ≡ ys → AddsUpdates xs h h1 → AddsUpdates ys h h1
 AddsUpdates-at xs ys h h1 e w = let P : List Update → Type 0 = λ us. AddsUpdates us h h1 in subst P e w
 
 pub IsFixedAs-at : (xs ys : List Update) (h h1 : History) → xs ≡ ys → IsFixedAs xs h h1 → IsFixedAs ys h h1
 IsFixedAs-at xs ys h h1 e w = let P : List Update → Type 0 = λ us. IsFixedAs us h h1 in subst P e w
 
--- the payload's phase, where what is shown was counted
+-- the payload's phase, if what is named was counted
 pub payload_moments_at : (area : LogArea) (behind count : ℕ) (us : List Update) (h h1 : History) → behind ≡ count → AddsUpdates (placed (area.first + behind) us) h h1
     → AddsUpdates (placed (area.first + count) us) h h1
 payload_moments_at area behind count us h h1 e w = let P : ℕ → Type 0 = λ n. AddsUpdates (placed (area.first + n) us) h h1 in subst P e w

@@ -1,4 +1,4 @@
--- What a call leaves, however it answered.
+-- What a call leaves, whatever it returned.
 use Rattle.std.proofs.Common.{◌≤◌, ℕ, List, [], ◌∷◌, length, take, inl, ⊎_elim, arith}
 use Rattle.disk.specs.Moments.{Image, Moment, Left, LeftSince, LeftWithin, moment, seen}
 use Rattle.journal.specs.Laws.{CrashLeavesFront, EveryMount}

@@ -1,4 +1,4 @@
--- Fronts of a list of transactions, and what a flush adds one after the other.
+-- Prefixes of a list of transactions, and what a flush adds one after the other.
 use Rattle.std.proofs.Common.{◌≡◌, ◌≤◌, ◌⊎◌, ◌+◌, ℕ, List, [], ◌∷◌, ◌++◌, length, take, drop, refl, sym, ap, ◌∙◌, subst, ⊎_elim, arith}
 use Rattle.std.proofs.lemmas.List.{append-nil, length-append}
 use Rattle.std.proofs.lemmas.Bool.{cases_eq}
@@ -89,13 +89,13 @@ drop_push (vs ∷ list) us = drop_push list us
 none_joined : (list : List (List Update)) → list ≡ [] → IsJoined list []
 none_joined list e image n = ap (λ (xs : List (List Update)). applied_all xs image n) (sym e)
 
--- where the base alone is left, none of the list is
+-- if only the base is left, none of the list is
 pub fronts_base : (area : LogArea) (list : List (List Update)) (base : Image) (h h1 : History) → AddsOnly (λ image. Settles area image base) h h1
     → AddsOnly (StandsForFront area base list) h h1
 fronts_base area list base h h1 adds = AddsOnly-weaken (λ image. Settles area image base) (StandsForFront area base list) h h1
     (λ image settles. record { count = 0; within = omega arith; settles = settles }) adds
 
--- what it costs to copy them home
+-- the cost of copying them home
 pub checkpoint_cost_is : (shown : List ℕ) → (length shown ≡ 0 → ⊥) → checkpoint_cost shown ≡ length shown + 3
 checkpoint_cost_is [] filled = absurd (filled refl)
 checkpoint_cost_is (sector ∷ sectors) filled = refl
@@ -160,7 +160,7 @@ pub listed_sectors_are : (us : List Update) → sectors_of (listed us) ≡ targe
 listed_sectors_are [] = refl
 listed_sectors_are (u ∷ us) = append-nil (targets (u ∷ us))
 
--- what it costs to take them through the gate
+-- the cost of taking them through the gate
 pub listed_cost : (area : LogArea) (was : List ℕ) (us : List Update) → (length us ≡ 0 → ⊥)
     → flush_cost area was (sectors_of (listed us)) ≡ way_cost area was (targets us) + (length us + 3)
 listed_cost area was [] filled = absurd (filled refl)

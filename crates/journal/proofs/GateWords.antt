@@ -77,7 +77,7 @@ word_at to rest i l fits =
     ap (λ (xs : List ℕ). big_number 4 xs) (drop_words to rest i l)
     ∙ big_number-reads_back 4 (get_or to i 0) (words (drop (suc i) to) ++ rest) fits
 
--- how many targets a gate sector's words tell of
+-- the number of targets that a gate sector's words encode
 pub count_in : (to : List ℕ) → length to ≤ 1022 → big_number 4 (drop 4 (gate to)) ≡ length to
 unfolding gate zero_sector
 count_in [] few = refl

@@ -1,4 +1,5 @@
--- Images while writes are under way: which sectors they leave alone, and what they leave in the others.
+-- Images while writes are under way: which sectors they leave unchanged, and what they leave in the
+-- others.
 use Rattle.std.proofs.Common.{All, AllPairs, true, ◌≢◌, ◌≡◌, ◌≤◌, ◌<◌, ◌⊎◌, ◌+◌, ◌==◌, ℕ, suc, zero, List, [], ◌∷◌, ◌++◌, length, get_or, refl, sym, ap, ◌∙◌, subst, inl, inr, ⊎_elim, arith, eq-eqb, ne_eqb, if◌then◌else◌}
 use Rattle.std.proofs.lemmas.Bool.{cases_eq, cases_lt}
 use Rattle.disk.specs.declared.update.Update.{Update}
@@ -56,11 +57,11 @@ pub Named-join : (size : ℕ) (a b : List ℕ) → Named size a → Named size b
 Named-join size [] b f g = g
 Named-join size (t ∷ a) b f g = (f.0, f.1, Named-join size a b f.2 g)
 
--- an image that stands between F and F with the updates
+-- an image that is between F and F with the updates
 abbrev pub Between : Image → List Update → Image → Type 0
 Between F us image = (n : ℕ) → (image n ≡ F n) ⊎ Among us n (image n)
 
--- the updates' contents stand from a place on
+-- the updates' contents are in consecutive sectors from a place on
 abbrev pub HoldsFrom : Image → ℕ → List Update → Type 0
 HoldsFrom G place [] = Unit {0}
 HoldsFrom G place (u ∷ us) = (G place ≡ u.content) × HoldsFrom G (place + 1) us
@@ -83,7 +84,7 @@ home_same found t ts place n e = rw (eq-eqb n t e)
 pub home_other : (found t : ℕ) (ts : List ℕ) (place n : ℕ) → (n ≡ t → ⊥) → home_from found (t ∷ ts) place n ≡ home_from found ts (place + 1) n
 home_other found t ts place n e = rw (ne_eqb n t e)
 
--- a sector is where it was found, or in the payload
+-- a sector is at the place where it was found, or in the payload
 pub home_from_cases : (found : ℕ) (to : List ℕ) (place n : ℕ)
     → (Out to n × (home_from found to place n ≡ found)) ⊎ ((place ≤ home_from found to place n) × (home_from found to place n < place + length to))
 home_from_cases found [] place n = inl (tt, refl)
@@ -126,7 +127,7 @@ pub Fit-front : (size : ℕ) (a b : List ℕ) → Fit size (a ++ b) → Fit size
 Fit-front size [] b f = tt
 Fit-front size (t ∷ a) b f = (f.0, f.1, Out-front a b t f.2, Fit-front size a b f.3)
 
--- where a sector stands behind a gate that names more targets after these
+-- the place of a sector behind a gate that names more targets after these
 pub home_behind : (found : ℕ) (to ts : List ℕ) (place n : ℕ)
     → home_from found (to ++ ts) place n ≡ home_from (home_from found to place n) ts (place + length to) n
 home_behind found [] ts place n = ap (λ (p : ℕ). home_from found ts p n) (let q : place ≡ place + 0 = omega arith in q)
@@ -161,7 +162,7 @@ log_out area is to n f from below = ⊎_elim
     (λ (behind : area.end ≤ area.first). high_named area.end to n f (omega (arith, behind)))
     (sides area is)
 
--- where a sector stands while the commit record is set is no target
+-- the place of a sector while the commit record is set is no target
 pub home_out : (area : LogArea) → IsArea area → (to : List ℕ) (n : ℕ) → Named area.end to → length to ≤ area.sectors → Out to (home to area.first n)
 home_out area is to n f few = ⊎_elim
     (λ (w : Out to n × (home to area.first n ≡ n)). let P : ℕ → Type 0 = λ m. Out to m in subst P (sym w.1) w.0)
@@ -173,7 +174,7 @@ among_out [] n content a o = a
 among_out (u ∷ us) n content a o =
     ⊎_elim (λ (w : (u.target ≡ n) × (u.content ≡ content)). o.0 w.0) (λ (w : Among us n content). among_out us n content w o.1) a
 
--- a sector that is no target is left alone
+-- a sector that is no target is unchanged
 pub applied_out : (us : List Update) (image : Image) (n : ℕ) → Out (targets us) n → applied us image n ≡ image n
 applied_out [] image n o = refl
 applied_out (u ∷ us) image n o = applied_out us (put image u) n o.1 ∙ put_other image u n o.0
@@ -182,7 +183,8 @@ pub between_out : (F : Image) (us : List Update) (image : Image) (n : ℕ) → B
 between_out F us image n b o =
     ⊎_elim (λ (e : image n ≡ F n). e) (λ (a : Among us n (image n)). absurd (among_out us n (image n) a o)) (b n)
 
--- through the gate an image reads as with the updates whose contents are in its payload: of several of one sector the last counts
+-- through the gate an image reads as with the updates whose contents are in its payload: if several
+-- are of one sector, the last counts
 pub applied_home : (us : List Update) (F G : Image) (found place n : ℕ) → HoldsFrom G place us → G found ≡ F n
     → G (home_from found (targets us) place n) ≡ applied us F n
 applied_home [] F G found place n holds e = e
@@ -239,7 +241,7 @@ copies_same F G place (t ∷ ts) same =
     ap (λ (content : List ℕ). let v : Update = record { target = t; content = content } in v ∷ copies G (place + 1) ts) (same place (omega arith) (omega arith))
     ∙ ap (λ (us : List Update). u ∷ us) (copies_same F G (place + 1) ts (λ n l m. same n (omega arith) (omega arith)))
 
--- copies of where the contents stand are the updates
+-- copies of the places that hold the contents are the updates
 pub copies_held : (F : Image) (place : ℕ) (us : List Update) → HoldsFrom F place us → copies F place (targets us) ≡ us
 copies_held F place [] holds = refl
 copies_held F place (u ∷ us) holds =

@@ -24,7 +24,7 @@ applied_all-front (us ∷ all) (suc k) c base =
     applied_all-front all k c (applied us base)
     ∙ ap (λ (n : ℕ). applied_all (take n (us ∷ all)) base) (let q : suc (k + c) ≡ suc k + c = omega arith in q)
 
--- what a list gives a sector depends on what the image has there alone
+-- what a list gives a sector depends only on what the image has there
 all_at : (list : List (List Update)) (a b : Image) (n : ℕ) → a n ≡ b n → applied_all list a n ≡ applied_all list b n
 all_at [] a b n e = e
 all_at (us ∷ list) a b n e = all_at list (applied us a) (applied us b) n (applied_at us a b n e)
@@ -33,7 +33,7 @@ applied_all-append : (a b : List (List Update)) (base : Image) → applied_all (
 applied_all-append [] b base = refl
 applied_all-append (us ∷ a) b base = applied_all-append a b (applied us base)
 
--- each front of a joined list is a front of the list
+-- each prefix of a joined list does what a prefix of the list does
 pub front_of_joined : (list joined : List (List Update)) → IsJoined list joined → (c : ℕ) → c ≤ length joined
     → (k : ℕ) × (k ≤ length list) × ((image : Image) (n : ℕ) → applied_all (take c joined) image n ≡ applied_all (take k list) image n)
 front_of_joined list joined j zero l = (0, omega arith, (λ image n. refl))
@@ -57,7 +57,8 @@ whole_of_joined list (us ∷ joined) j image n =
     ∙ ap (λ (f : Image). f n) (sym (applied_all-append (take j.0 list) (drop j.0 list) image))
     ∙ ap (λ (xs : List (List Update)). applied_all xs image n) (take-append-drop j.0 list)
 
--- a front after a call that moved the list's first transactions into the base gives what one of the list's does
+-- a prefix after a call that moved the list's first transactions into the base gives what one of
+-- the list's does
 pub front_moved : (all : List (List Update)) (old mid : Log) → Moved all old mid → (count : ℕ) → count ≤ length mid.list
     → (before : ℕ) × (before ≤ length all) × AreSame old.area.end (applied_all (take before all) old.base) (applied_all (take count mid.list) mid.base)
 front_moved all old mid moved count few =

@@ -15,7 +15,7 @@ none_of : (us : List Update) → length us ≡ 0 → us ≡ []
 none_of [] e = refl
 none_of (u ∷ us) e = absurd (omega arith)
 
--- what a journal's fields say of its device
+-- what a journal's fields say about its device
 pub gated_of : (to : List ℕ) (h : History) → length h.now.unsynced ≡ 0 → seen h.now 1 ≡ gate to → IsGated to h
 gated_of to h e q = record { rests = none_of h.now.unsynced e; gate_is = q }
 
@@ -27,7 +27,7 @@ pub targets_more : (us : List Update) (i : ℕ) (d : Update) → i < length us
     → targets (take (i + 1) us) ≡ targets (take i us) ++ (get_or us i d).target ∷ []
 targets_more us i d l = ap (λ xs. targets xs) (take_more us i d l) ∙ targets-push (take i us) (get_or us i d)
 
--- a commit that went well
+-- a commit that succeeded
 pub committed_at : {T E : Type 0} (r : Result T E) (area : LogArea) (xs ys : List Update) (was shown : List ℕ) (stay : List Update) (h h1 : History)
     → is_err r ≡ false → xs ≡ ys → OnOk r (IsCommitted area xs was shown stay h h1) → IsCommitted area ys was shown stay h h1
 committed_at r area xs ys was shown stay h h1 ok e w =

@@ -9,7 +9,7 @@ use Rattle.journal.specs.Layout.{AreTargets, targets}
 use Rattle.journal.specs.Transactions.{has, gathered, IsLastPlace}
 use Rattle.journal.proofs.Images.{Out, Fit, put_same, put_other, applied_out, length-targets}
 
--- what stands at an index past a list's end
+-- what is read at an index past a list's end
 abbrev pub no_update : Update
 no_update = record { target = 0; content = [] }
 
@@ -49,7 +49,7 @@ pub out-not_has : (ts : List ℕ) (n : ℕ) → Out ts n → has ts n ≡ false
 out-not_has [] n o = refl
 out-not_has (t ∷ ts) n o = has_cons t n ts ∙ ap (λ (b : Bool). if b then true else has ts n) (ne_eqb t n o.0) ∙ out-not_has ts n o.1
 
--- what the updates give a sector depends on what the image has there alone
+-- what the updates give a sector depends only on what the image has there
 pub applied_at : (us : List Update) (a b : Image) (n : ℕ) → a n ≡ b n → applied us a n ≡ applied us b n
 applied_at [] a b n e = e
 applied_at (u ∷ us) a b n e = applied_at us (put a u) (put b u) n (⊎_elim

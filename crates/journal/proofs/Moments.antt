@@ -1,4 +1,4 @@
--- Moments: what a phase's writes and its sync add to the maps that a crash may leave.
+-- Moments: what a phase's writes and its sync add to the images that a crash may leave.
 use Rattle.std.proofs.Common.{◌≡◌, ◌≤◌, ◌⊎◌, ◌+◌, ℕ, List, [], ◌∷◌, ◌++◌, length, refl, sym, subst, inl, inr, ⊎_elim, arith}
 use Rattle.std.proofs.lemmas.Bool.{cases_eq}
 use Rattle.disk.specs.declared.update.Update.{Update}
@@ -68,7 +68,7 @@ seen-may_hold (u ∷ us) fixed n = ⊎_elim
     (seen-may_hold us fixed n)))
     (cases_eq u.target n)
 
--- a sync adds no map
+-- a sync adds no image
 pub AddsOnly-synced : (P : Image → Type 0) (h : History) → AddsOnly P h (synced h)
 AddsOnly-synced P h = record {
   later = omega arith;
@@ -96,7 +96,7 @@ pub wrote_all-push : (us : List Update) (u : Update) (h : History) → wrote_all
 wrote_all-push [] u h = refl
 wrote_all-push (v ∷ us) u h = wrote_all-push us u (wrote v h)
 
--- where all was fixed before, a phase leaves images between the old one and the new one
+-- if all was fixed before, a phase leaves images between the old one and the new one
 pub between_of : (us : List Update) (m : Moment) (image : Image) → m.unsynced ≡ [] → LeftWith us m image → Between (seen m) us image
 between_of us m image e w n =
     let P : List Update → Type 0 = λ unsynced. (image n ≡ newest unsynced m.fixed n) ⊎ Among us n (image n) in

@@ -70,7 +70,7 @@ take_few zero all = omega arith
 take_few (suc i) [] = omega arith
 take_few (suc i) (u ∷ all) = omega (arith, take_few i all)
 
--- the first i of a phase's writes are at most so many moments as the phase has
+-- the first i of a phase's writes add at most as many moments as the phase has writes
 front_brief : (all : List Update) (i : ℕ) (h h1 : History) → h1 ≡ wrote_all (take i all) h → AddsAtMost (length all) h h1
 front_brief all i h h1 e = omega (arith, ap (λ (k : History). moment k) e, moment-wrote_all (take i all) h, take_few i all)
 
@@ -112,7 +112,7 @@ get_or-copies image place (t ∷ ts) (suc i) d l =
     get_or-copies image (place + 1) ts i d (omega arith)
     ∙ ap (λ (p : ℕ). let r : Update = record { target = get_or ts i 0; content = image p } in r) (omega arith)
 
--- what stands at an index past a list's end
+-- what is read at an index past a list's end
 abbrev pub no_update : Update
 no_update = record { target = 0; content = [] }
 

@@ -35,7 +35,7 @@ module _ (area : LogArea) (to : List ℕ) (h h1 : History) (again : h1 ≡ rewri
   pub payload_again : copies (seen h1.now) area.first to ≡ copies (seen h.now) area.first to
   payload_again = ap (λ (image : Image). copies image area.first to) seen_again
 
-  -- and what happens then keeps what was shown before
+  -- and what happens then keeps what the gate showed before
   pub shown_again : (h2 : History) → KeepsShown area to h h1 → KeepsShown area to h1 h2 → KeepsShown area to h h2
   shown_again h2 first then = AddsOnly-join (λ image. Settles area image (through area to (seen h.now))) h h1 h2 first
       (subst (λ (F : Image). AddsOnly (λ image. Settles area image (through area to F)) h1 h2) seen_again then)

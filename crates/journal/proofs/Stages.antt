@@ -25,7 +25,7 @@ Fit-of size (t ∷ ts) a = (
   Fit-of size ts (AreTargets-rest size t ts a),
 )
 
--- where each target stands once
+-- if each target is named once
 pub fit_once : (area : LogArea) (to : List ℕ) → AreNamed area to → area.once ≡ true → Fit area.end to
 fit_once area to a once = Fit-of area.end to (record { from_first = a.from_first; on_device = a.on_device; apart = a.apart once })
 
@@ -60,7 +60,7 @@ kept_out_of_payload area is n us behind few k = ⊎_elim
     (sides area is))
     k.0
 
--- where a sector stands while the commit record is set is not behind what it shows
+-- the place of a sector while the commit record is set is not behind what it names
 home_out_of_payload : (area : LogArea) → IsArea area → (n : ℕ) (to : List ℕ) (us : List Update) → length to + length us ≤ area.sectors → IsOfCaller area.end n
     → Out (targets (placed (area.first + length to) us)) (home to area.first n)
 home_out_of_payload area is n to us few k = ⊎_elim
@@ -108,7 +108,7 @@ module _ (area : LogArea) (is : IsArea area) (to : List ℕ) (us : List Update) 
     same = λ n k. sym (between_out F (placed (area.first + length to) us) image (home to area.first n) b (home_out_of_payload area is n to us few k));
   }
 
-  -- through area the gate of all targets, an image with the payload reads as with the updates
+  -- read through the gate of all targets, an image with the payload is as with the updates
   pub through_payload : (image : Image) → ((n : ℕ) → (1 ≡ n → ⊥) → image n ≡ applied (placed (area.first + length to) us) F n)
       → AreSame area.end (applied us (through area to F)) (through area (to ++ targets us) image)
   through_payload image rest n k =
@@ -118,7 +118,7 @@ module _ (area : LogArea) (is : IsArea area) (to : List ℕ) (us : List Update) 
       ∙ ap (applied (placed (area.first + length to) us) F) (sym behind)
       ∙ sym (rest (home (to ++ targets us) area.first n) (λ e. home_not_1 area is n (to ++ targets us) k (sym e)))
 
-  -- behind what it had the payload has the updates' contents
+  -- behind what it had, the payload has the updates' contents
   pub payload_behind : (image : Image) → ((n : ℕ) → (1 ≡ n → ⊥) → image n ≡ applied (placed (area.first + length to) us) F n)
       → copies image area.first (to ++ targets us) ≡ copies F area.first to ++ us
   payload_behind image rest =
@@ -157,7 +157,7 @@ module _ (area : LogArea) (is : IsArea area) (to : List ℕ) (F : Image) (few : 
   copies_out : (n : ℕ) → Out to n → Out (targets (copies F area.first to)) n
   copies_out n o = let P : List ℕ → Type 0 = λ ts. Out ts n in subst P (sym (targets_copies F area.first to)) o
 
-  -- where the commit record is set and all is fixed
+  -- if the commit record is set and all is fixed
   pub gated_stage : (image : Image) → ((n : ℕ) → image n ≡ F n) → Settles area image (through area to F)
   gated_stage image e = record {
     to = to;
@@ -177,7 +177,7 @@ module _ (area : LogArea) (is : IsArea area) (to : List ℕ) (F : Image) (few : 
     same = λ n k. sym (between_out F (copies F area.first to) image (home to area.first n) b (copies_out (home to area.first n) (home_out area is to n (named_of area to fit) few)));
   }
 
-  -- with the homes written the image reads so without its gate
+  -- with the homes written, the image reads the same without its gate
   pub homes_done : (n : ℕ) → applied (copies F area.first to) F n ≡ through area to F n
   homes_done n =
       let ts = targets_copies F area.first to in

@@ -1,4 +1,4 @@
--- Sector 0, written by itself beside whatever the gate shows.
+-- Sector 0, written by itself apart from what the gate names.
 use Rattle.std.proofs.Common.{◌≡◌, ◌≤◌, ◌<◌, ◌⊎◌, ◌+◌, ℕ, List, [], ◌∷◌, length, refl, sym, ap, ◌∙◌, inl, inr, ⊎_elim, arith}
 use Rattle.std.proofs.lemmas.Bool.{cases_eq}
 use Rattle.disk.specs.declared.update.Update.{Update}

@@ -14,8 +14,8 @@ pub record FitsGate (area : LogArea) (to : List ℕ) : Type 0 where
 abbrev pub meets : List ℕ → List ℕ → Bool
 meets named to = list_any (λ target. has named target) to
 
--- whether more targets go behind a gate: few enough beside those that it names, and all others
--- where each stands once
+-- whether more targets go behind a gate: few enough together with those that it names, and all
+-- others if each is named once
 abbrev pub goes_behind : LogArea → List ℕ → List ℕ → Bool
 goes_behind area named to =
     (not area.once || not (meets named to)) && leb (length named + length to) area.sectors

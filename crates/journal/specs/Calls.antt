@@ -10,9 +10,9 @@ use Rattle.journal.specs.Phase.{FailsCounted}
 use Rattle.journal.specs.Settled.{AreSame}
 use Rattle.journal.specs.Transactions.{FitTogether, sectors_of}
 
--- However a call answers: a crash within it leaves a front, and where the journal is still up, one
--- after it leaves the base. It takes no more writes and syncs than to copy home all that the commit
--- record can name, and to commit as much.
+-- Whatever a call returns: a crash within it leaves a prefix of the list, and if the journal is
+-- still up, one after it leaves the base. It takes no more writes and syncs than to copy home all
+-- that the commit record can name, and to commit as much.
 pub record IsSafe (keeps_word : Type 0) (old new : Log) : Type 0 where
   pub area : new.area ≡ old.area
   pub size : new.size ≡ old.size
@@ -24,7 +24,7 @@ pub record IsSafe (keeps_word : Type 0) (old new : Log) : Type 0 where
 abbrev pub list_with : Log → List Update → List (List Update)
 list_with log updates = log.list ++ updates ∷ []
 
--- A transaction was put at the list's end. Where the payload has no room for the two together, the
+-- A transaction was put at the list's end. If the payload has no room for the two together, the
 -- list went into the base first.
 pub record HasApplied (keeps_word : Type 0) (updates : List Update) (old new : Log) : Type 0 where
   pub kept : FitTogether old.area (list_with old updates) → ListTakes updates old new
@@ -40,7 +40,8 @@ pub record HasFlushed (keeps_word : Type 0) (old new : Log) : Type 0 where
   pub contents : keeps_word → AreSame old.area.end (contents old) (contents new)
 
 -- What it costs to take a list into the base: its sectors are written to the payload, with a sync,
--- and named in the commit record, with a sync, once there is a way for them. Nothing costs nothing.
+-- and named in the commit record, with a sync, once there is a way for them. An empty list costs
+-- nothing.
 abbrev pub flush_cost : LogArea → List ℕ → List ℕ → ℕ
 flush_cost area shown [] = 0
 flush_cost area shown (sector ∷ sectors) =
@@ -51,8 +52,8 @@ pub record GoesThrough (keeps_word : Type 0) (was now : List ℕ) (old new : Log
   pub shown : now ≡ way_for old.area was (sectors_of old.list) ++ sectors_of old.list
   pub cost : keeps_word → Costs (flush_cost old.area was (sectors_of old.list)) old new
 
--- Where the payload has no room for a list and this transaction together, the list was committed;
--- else the commit record is as it was.
+-- If the payload has no room for a list and this transaction together, the list was committed;
+-- otherwise the commit record is as it was.
 pub record GoesThroughFirst (keeps_word : Type 0) (updates : List Update) (was now : List ℕ)
     (old new : Log) : Type 0 where
   pub kept : FitTogether old.area (list_with old updates) → now ≡ was
@@ -75,7 +76,7 @@ pub record HasCheckpointed (keeps_word : Type 0) (shown : List ℕ) (old new : L
 abbrev pub first_sector : List ℕ → Update
 first_sector content = record { target = 0; content = content }
 
--- at every moment since, a map left is one left before, or settles to the old base, with this
+-- at every moment since, an image left is one left before, or settles to the old base, with this
 -- sector 0 or without it
 abbrev pub AddsFirst : List ℕ → Log → Log → Type 0
 AddsFirst content old new =
@@ -89,7 +90,7 @@ pub record HasWritten (keeps_word : Type 0) (content : List ℕ) (old new : Log)
   pub settled : keeps_word → IsSettled new
   pub cost : keeps_word → Costs 2 old new
 
--- A part of a call on a journal that is up, which goes down exactly where the part fails.
+-- A part of a call on a journal that is up, which goes down exactly if the part fails.
 pub record IsPart {T E : Type 0} (keeps_word : Type 0) (old new : Log) (before after : ℕ)
     (result : Result T E) : Type 0 where
   pub moments : keeps_word → AddsFronts old new

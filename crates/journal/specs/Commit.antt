@@ -9,19 +9,19 @@ use Rattle.journal.specs.Behind.{FitsGate, way_cost}
 use Rattle.journal.specs.Settled.{AreSame, Settles}
 use Rattle.journal.specs.Phase.{IsGated}
 
--- updates of so many different sectors as the payload has at most, by their sectors
+-- updates of at most as many sectors as the payload has, all different, by their sectors
 pub record FitsPayload (area : LogArea) (to : List ℕ) (updates : List Update) : Type 0 where
   pub named : to ≡ targets updates
   pub few : length updates ≤ area.sectors
   pub fit : AreTargets area.end (targets updates)
 
--- at every moment since, a map left is one left before, or settles to this base or to it with all
--- of the updates
+-- at every moment since, an image left is one left before, or settles to this base or to it with
+-- all of the updates
 abbrev pub AddsEither : LogArea → List Update → Image → History → History → Type 0
 AddsEither area updates base old new =
     AddsOnly (λ image. Settles area image base ⊎ Settles area image (applied updates base)) old new
 
--- The gate names the updates' sectors too, and through it the device reads as with them. The
+-- The gate names the updates' sectors too, and read through it the device is as with them. The
 -- payload has their contents behind what it had.
 pub record IsRecorded (area : LogArea) (updates : List Update) (was shown : List ℕ)
     (old new : History) : Type 0 where
@@ -32,7 +32,7 @@ pub record IsRecorded (area : LogArea) (updates : List Update) (was shown : List
       ≡ copies (seen old.now) area.first was ++ updates
   pub cost : moment new ≡ moment old + (length updates + 3)
 
--- while the payload is copied home, a map left settles to what the gate shows
+-- while the payload is copied home, an image left settles to what is read through the gate
 abbrev pub KeepsShown : LogArea → List ℕ → History → History → Type 0
 KeepsShown area to old new =
     AddsOnly (λ image. Settles area image (through area to (seen old.now))) old new

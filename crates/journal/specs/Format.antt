@@ -19,13 +19,14 @@ fresh_at updates n = record { target = n; content = applied updates (λ _. zero_
 abbrev pub fresh : ℕ → List Update → List Update
 fresh size updates = map (fresh_at updates) (range_with_len 1 (size - 1))
 
--- at every moment since, a map left is one left before, or has a sector 0 of zeros, or is formatted
+-- at every moment since, an image left is one left before, or has a sector 0 of zeros, or is
+-- formatted
 abbrev pub AddsFormats : LogArea → List ℕ → List Update → History → History → Type 0
 AddsFormats area sector0 updates old new =
     AddsOnly (λ image. (image 0 ≡ zero_sector) ⊎ Settles area image (formatted sector0 updates))
     old new
 
--- every map that a crash leaves now is formatted
+-- every image that a crash leaves now is formatted
 abbrev pub IsFormatted : LogArea → List ℕ → List Update → History → Type 0
 IsFormatted area sector0 updates new = (image : Image) → Left new.now image
     → Settles area image (formatted sector0 updates)

@@ -1,4 +1,4 @@
--- What the contracts see of a journal: its log. Where things stand on the device stays inside.
+-- What the contracts see of a journal: its log. The layout on the device stays inside.
 use Rattle.std.specs.Prelude.{ℕ, List, [], ◌∷◌}
 use Rattle.disk.specs.declared.update.Update.{Update}
 use Rattle.disk.specs.Moments.{seen}

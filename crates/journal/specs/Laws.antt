@@ -1,4 +1,4 @@
--- What a call of a journal leaves, however it answered: also where the device failed in it.
+-- What a call of a journal leaves, whatever it returned: also if the device failed in it.
 use Rattle.std.specs.Prelude.{◌≤◌, ◌<◌, ◌^◌, List, ℕ, length, take}
 use Rattle.disk.specs.declared.update.Update.{Update}
 use Rattle.disk.specs.Moments.{Image, Left}
@@ -7,14 +7,14 @@ use Rattle.journal.specs.Log.{Log, AddsFronts, IsSettled, StandsForFront, applie
 use Rattle.journal.specs.MountAnswers.{HasRecovered}
 use Rattle.journal.specs.Settled.{AreSame}
 
--- a base is that of a journal with a front of its list
+-- a base is that of a journal with a prefix of its list
 pub record IsListFront (end : ℕ) (base : Image) (list : List (List Update)) (found : Image)
     : Type 0 where
   pub count : ℕ
   pub within : count ≤ length list
   pub same : AreSame end (applied_all (take count list) base) found
 
--- what a crash leaves after a call is a front of what the journal was, one that holds all that was
+-- what a crash leaves after a call is a prefix of what the journal was, one that holds all that was
 -- flushed before
 abbrev pub CrashLeavesFront : Type 0
 CrashLeavesFront = (old new : Log) → IsSettled old → AddsFronts old new

@@ -1,4 +1,4 @@
--- Where the journal stands on a device, and what its gate looks like.
+-- The place of the journal on a device, and the form of its gate.
 --
 --   sector 0                       the caller's, written by itself
 --   sector 1                       the gate
@@ -25,8 +25,8 @@ abbrev pub in_front : ℕ → LogArea
 in_front size = record { first = 2; sectors = 96; end = size; once = true }
 
 -- A log is behind the gate, and has no sector that a transaction may write: it is behind their end,
--- or else in front of the first of them. Its sectors have numbers, one gate can name them all, and
--- they are room for one transaction.
+-- or in front of the first of them. Its sectors have numbers, one gate can name them all, and they
+-- are room for one transaction.
 pub record IsArea (area : LogArea) : Type 0 where
   pub behind : 2 ≤ area.first
   pub beside : area.first < area.end → area.first + area.sectors ≤ first_target
@@ -44,7 +44,7 @@ pub record AreTargets (end : ℕ) (to : List ℕ) : Type 0 where
   pub on_device : All (λ t. t < end) to
   pub apart : AllPairs (λ a b. a ≢ b) to
 
--- sectors that a gate may name: the same, but one may stand more than once, unless each stands once
+-- sectors that a gate may name: the same, but one may occur more than once, unless each occurs once
 pub record AreNamed (area : LogArea) (to : List ℕ) : Type 0 where
   pub from_first : All (λ t. first_target ≤ t) to
   pub on_device : All (λ t. t < area.end) to
@@ -65,14 +65,14 @@ gate (target ∷ targets) =
     words (gate_words (target ∷ targets))
     ++ replicate (4096 - 4 * length (gate_words (target ∷ targets))) 0
 
--- where sector n stands behind these targets, where it was found in front of them: the last of
+-- the place of sector n behind these targets, if it was at `found` in front of them: the last of
 -- several counts
 abbrev pub home_from : ℕ → List ℕ → ℕ → ℕ → ℕ
 home_from found [] place n = found
 home_from found (target ∷ targets) place n =
     home_from (if n == target then place else found) targets (place + 1) n
 
--- where sector n stands while the commit record is set: its content is in the payload if it is a
+-- the place of sector n while the commit record is set: its content is in the payload if it is a
 -- target
 abbrev pub home : List ℕ → ℕ → ℕ → ℕ
 home to place n = home_from n to place n
@@ -104,7 +104,7 @@ pub record NamesTargets (area : LogArea) (sector : List ℕ) (to : List ℕ) : T
   pub fit : AreNamed area to
   pub gate_is : sector ≡ gate to
 
--- the targets that a gate sector's words tell of: the second word's number of them, from the third
+-- the targets that a gate sector's words encode: the second word's number of them, from the third
 -- on
 abbrev pub words_in : List ℕ → List ℕ
 words_in sector = map (λ i. big_number 4 (drop (8 + 4 * i) sector))

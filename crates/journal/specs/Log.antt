@@ -26,14 +26,14 @@ applied_all (updates ∷ list) image = applied_all list (applied updates image)
 abbrev pub contents : Log → Image
 contents log = applied_all log.list log.base
 
--- an image settles to a base with a front of a list of transactions
+-- an image settles to a base with a prefix of a list of transactions
 pub record StandsForFront (area : LogArea) (base : Image) (list : List (List Update))
     (image : Image) : Type 0 where
   pub count : ℕ
   pub within : count ≤ length list
   pub settles : Settles area image (applied_all (take count list) base)
 
--- at every moment since, a map left is one left before, or the old base with a front of the old
+-- at every moment since, an image left is one left before, or the old base with a prefix of the old
 -- list
 abbrev pub AddsFronts : Log → Log → Type 0
 AddsFronts old new = AddsOnly (StandsForFront old.area old.base old.list) old.history new.history
@@ -46,9 +46,9 @@ IsSettled log = (image : Image) → Left log.history.now image → Settles log.a
 abbrev pub DoesAs : List Update → List (List Update) → Type 0
 DoesAs updates list = (image : Image) (n : ℕ) → applied updates image n ≡ applied_all list image n
 
--- The list, where neighbours may have become one: each transaction of the joined list does what the
--- next ones of the list do, and what is left after the last one alters nothing. So each front of
--- the joined list is a front of the list.
+-- The list, in which neighbours may have become one: each transaction of the joined list does what
+-- the next ones of the list do, and what is left after the last one alters nothing. So each prefix
+-- of the joined list does what a prefix of the list does.
 abbrev pub IsJoined : List (List Update) → List (List Update) → Type 0
 IsJoined list [] = DoesAs [] list
 IsJoined list (updates ∷ joined) = (count : ℕ) × (count ≤ length list)
@@ -66,17 +66,17 @@ pub record ListTakes (updates : List Update) (old new : Log) : Type 0 where
   pub list : IsJoined (old.list ++ updates ∷ []) new.list
   pub only : new ≡ record old { list = new.list }
 
--- so many writes and syncs were done
+-- `count` writes and syncs were done
 abbrev pub Costs : ℕ → Log → Log → Type 0
 Costs count old new = moment new.history ≡ moment old.history + count
 
--- at most so many writes and syncs were done
+-- at most `count` writes and syncs were done
 abbrev pub MakesAtMost : ℕ → Log → Log → Type 0
 MakesAtMost count old new = moment new.history ≤ moment old.history + count
 
--- how a call answers by its device: Down exactly where the journal was down, and then nothing
--- happens; Fault exactly where the device counted a failure, and then the journal is down; else it
--- is not
+-- how the result of a call depends on its device: Down exactly if the journal was down, and then
+-- nothing happens; Fault exactly if the device counted a failure, and then the journal is down;
+-- otherwise it is not
 pub record AnswersByDevice {T : Type 0} (old new : Log) (before after : ℕ)
     (result : Result T JournalFault) : Type 0 where
   pub down : IsErrOf result faults.Down ↔ (old.is_down ≡ true)

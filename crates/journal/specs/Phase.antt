@@ -9,21 +9,23 @@ use Rattle.journal.specs.Layout.{gate}
 abbrev pub LeftWith : List Update → Moment → Image → Type 0
 LeftWith updates m image = (n : ℕ) → SectorMayHold m n (image n) ⊎ Among updates n (image n)
 
--- all is fixed, with the updates applied to what a read gave before; so many writes, and a sync
+-- all is fixed, with the updates applied to what a read gave before; a write for each of them, and
+-- a sync
 pub record IsFixedAs (updates : List Update) (old new : History) : Type 0 where
   pub fixed : new.now.fixed ≡ applied updates (seen old.now)
   pub unsynced : new.now.unsynced ≡ []
   pub cost : moment new ≡ moment old + (length updates + 1)
 
--- at every moment since, a map left is one left before, but for sectors with an update's content
+-- at every moment since, an image left is one left before, except in sectors with an update's
+-- content
 abbrev pub AddsUpdates : List Update → History → History → Type 0
 AddsUpdates updates old new = AddsOnly (LeftWith updates old.now) old new
 
--- at most so many moments came
+-- at most `count` moments came
 abbrev pub AddsAtMost : ℕ → History → History → Type 0
 AddsAtMost count old new = moment new ≤ moment old + count
 
--- a failure is one that the device counted, and where nothing failed it counted none
+-- a failure is one that the device counted, and if nothing failed it counted none
 pub record FailsCounted {T E : Type 0} (before after : ℕ) (result : Result T E) : Type 0 where
   pub later : before ≤ after
   pub ok : OnOk result (after ≡ before)

@@ -1,4 +1,4 @@
--- What is kept in memory of what the gate shows.
+-- What is kept in memory of what the gate names.
 use Rattle.std.specs.Prelude.{◌≡◌, ◌≤◌, vec_capacity}
 use Rattle.disk.specs.Moments.{History, seen}
 use Rattle.journal.specs.declared.layout.LogArea.{LogArea}

@@ -9,14 +9,14 @@ use Rattle.journal.specs.Settled.{Settles, SettlesAs}
 use Rattle.journal.specs.Layout.{gate}
 use Rattle.journal.specs.Phase.{AddsAtMost, IsGated}
 
--- What a mount costs: a sync; and where the commit record names sectors, the record again, a sync,
+-- What a mount costs: a sync; and if the commit record names sectors, the record again, a sync,
 -- each of these sectors, a sync, the cleared record, and a sync.
 abbrev pub recovery_cost : List ℕ → ℕ
 recovery_cost [] = 1
 recovery_cost (sector ∷ sectors) = length (sector ∷ sectors) + 6
 
 -- The commit record is cleared, and the device reads as what it settled to. From the first sync on
--- each map left settles to that.
+-- each image left settles to that.
 pub record Recovers (area : LogArea) (old new : History) : Type 0 where
   pub gated : IsGated [] new
   pub settles : Settles area (seen old.now) (seen new.now)

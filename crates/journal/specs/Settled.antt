@@ -1,4 +1,4 @@
--- What an image stands for: what a set commit record names counts as copied to its targets.
+-- What an image represents: what a set commit record names counts as copied to its targets.
 use Rattle.std.specs.Prelude.{◌≡◌, ◌≤◌, ◌<◌, ◌⊎◌, ℕ, List, length}
 use Rattle.disk.specs.Moments.{Image}
 use Rattle.journal.specs.declared.layout.LogArea.{LogArea}

@@ -1,4 +1,4 @@
--- What a look at a device without a mount says by its answer.
+-- What the result of a look at a device without a mount says.
 use Rattle.std.specs.Prelude.{ℕ, List, [], false, ◌≡◌, ◌≤◌, ◌<◌, ◌⊎◌}
 use Rattle.disk.specs.Cause.{IsCounted}
 use Rattle.disk.specs.Moments.{Image, History, IsSector, seen}
@@ -30,8 +30,7 @@ pub record HasViewed (area : LogArea) (old : History) (log : Log) : Type 0 where
 abbrev pub HasNoForm : (area : LogArea) → History → Type 0
 HasNoForm area old = (settled : Image) → Settles area (seen old.now) settled → ⊥
 
--- A device of which there is no view, as it was: Fault is answered exactly where it counted a
--- failure.
+-- A device of which there is no view, as it was: Fault is returned exactly if it counted a failure.
 pub record IsUnread {D : Type 0} (size failed : D → ℕ) (history : D → History) (old new : D)
     (fault : JournalFault) : Type 0 where
   pub same_history : history new ≡ history old

@@ -12,14 +12,14 @@ use lru::LruCache;
 use std::alloc::{AllocError, Global};
 use std::num::NonZeroUsize;
 
-/// Sectors and their contents, as many as there is room for: those that were used last.
+/// The sectors that were used last and their contents, as many as there is room for.
 #[derive(Drop)]
 pub(crate) struct Cache {
     pub(crate) sectors: LruCache<u32, [u8; SECTOR]>,
 }
 
 impl Cache {
-    /// A cache of so many sectors, which has none yet.
+    /// A cache with room for `room` sectors, which has none yet.
     pub(crate) fn new(alloc: Global, room: NonZeroUsize) -> Result<Cache, AllocError>
         ensures { IfOk result (λ cache. cache.sectors.entries ≡ []) }
     {
@@ -45,7 +45,7 @@ impl Cache {
     }
 
     /// Keeps what sector `n` holds, if it is one that a transaction may write: from the first one
-    /// on and below this end. Where there is no memory for it, it is left out.
+    /// on and below this end. If there is no memory for it, it is left out.
     pub(crate) fn keep(&mut self, n: u32, end: u32, content: &[u8; SECTOR])
         ensures { (entry : ℕ × List ℕ) → Contains self.new.sectors.entries entry
             → Contains self.old.sectors.entries entry
@@ -71,7 +71,7 @@ impl Cache {
         ensures among { AreAmong self.new.sectors.entries self.old.sectors.entries }
         ensures gone { (content : List ℕ) → ¬ Contains self.new.sectors.entries (n, content) }
     {
-        // of its length a cache tells that no two of its keys are the same
+        // a cache's length says that no two of its keys are the same
         let _ = self.sectors.len();
         let _ = self.sectors.pop(&n);
     }

@@ -1,5 +1,5 @@
 //! How a transaction goes through the commit record: it is recorded behind what the record names,
-//! and copied home only where a later one has no room there.
+//! and copied home only if a later one has no room there.
 
 ghost use Rattle.std.specs.Prelude.{OnOk, ◌≡◌, ◌≤◌, ◌<◌, ◌++◌, ◌+◌, ◌*◌, [], length, vec_capacity};
 ghost use Rattle.disk.specs.Moments.{seen};
@@ -14,8 +14,8 @@ use crate::recorded::Recorded;
 use crate::{gate, phase};
 use disk::{Device, DiskFault, Update};
 
-/// Commits updates: the commit record names them afterwards, alone or after what it named. That
-/// they are recorded too is left to the caller.
+/// Commits updates: the commit record names them afterwards, by themselves or after what it named.
+/// Recording them too is left to the caller.
 pub(crate) fn commit<D: Device>(
     device: &mut D,
     area: LogArea,
@@ -53,8 +53,8 @@ pub(crate) fn commit<D: Device>(
     Ok(())
 }
 
-/// Where more targets do not go behind what the commit record names, copies that home and clears
-/// the record.
+/// If more targets do not go behind what the commit record names, copies that home and clears the
+/// record.
 pub(crate) fn make_way<D: Device>(
     device: &mut D,
     area: LogArea,

@@ -44,11 +44,11 @@ impl From<AllocError> for JournalFault {
     }
 }
 
-/// A mount or a view that was refused, with the device as it is now.
+/// A mount or a view that failed, with the device as it is now.
 #[derive(Drop)]
 pub struct Unmounted<D> {
     /// The device.
     pub device: D,
-    /// Why it was refused: `Fault`, `Damaged` or `Memory`.
+    /// Why it failed: `Fault`, `Damaged` or `Memory`.
     pub fault: JournalFault,
 }

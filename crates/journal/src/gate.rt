@@ -1,5 +1,5 @@
-//! The gate, the sector of the commit record: zeros where it is cleared, and else 1, the number of
-//! targets, and the targets.
+//! The gate, the sector of the commit record: zeros if it is cleared, and otherwise 1, the number
+//! of targets, and the targets.
 
 ghost use Rattle.std.specs.Prelude.{◌≡◌, ◌≤◌, ◌<◌, ◌+◌, ◌*◌, ◌^◌, ◌↔◌, ◌⊎◌, ℕ, List, [], ◌++◌, length, drop, false, IsTrue, vec_capacity};
 ghost use Rattle.byteorder.specs.Endian.{big_number};
@@ -33,7 +33,7 @@ pub(crate) fn closed() -> [u8; SECTOR]
     [0; SECTOR]
 }
 
-/// Writes the words of a commit record that is set to the front of a sector.
+/// Writes the words of a commit record that is set at the beginning of a sector.
 fn write_words(targets: &[u32], sector: &mut [u8])
     requires few { length targets.now ≤ MAX_TARGETS }
     requires long { length sector.old ≡ SECTOR }
@@ -59,7 +59,7 @@ pub(crate) fn decode(sector: &[u8; SECTOR], area: LogArea, named: &mut Vec<u32>)
     are_targets(named, area) && encode(named).as_slice() == sector.as_slice()
 }
 
-/// Reads a commit record's words; false where they tell of more targets than so many.
+/// Reads a commit record's words; false if they encode more than `most` targets.
 fn read_words(sector: &[u8], most: usize, named: &mut Vec<u32>) -> bool
     requires few { most ≤ MAX_TARGETS }
     requires room { most ≤ vec_capacity named.old }
@@ -81,7 +81,7 @@ fn read_words(sector: &[u8], most: usize, named: &mut Vec<u32>) -> bool
 }
 
 /// Whether a commit record may name these sectors: all from the first one on, below the end, and
-/// different where each is named once.
+/// different if each is named once.
 pub(crate) fn are_targets(to: &[u32], area: LogArea) -> bool
     ensures { IsTrue result ↔ AreNamed area to.now }
 {
@@ -96,7 +96,7 @@ pub(crate) fn are_targets(to: &[u32], area: LogArea) -> bool
     true
 }
 
-/// Where sector `n` stands, read through a commit record that names these targets.
+/// The place of sector `n`, read through a commit record that names these targets.
 pub(crate) fn place_of(named: &[u32], area: LogArea, n: u32) -> u32
     requires few { length named.now ≤ area.sectors }
     requires area { IsArea area }
@@ -112,8 +112,8 @@ pub(crate) fn place_of(named: &[u32], area: LogArea, n: u32) -> u32
     place
 }
 
-/// Whether more targets go behind those that a commit record names: few enough beside them, and all
-/// others than these where each is named once.
+/// Whether more targets go behind those that a commit record names: few enough together with them,
+/// and all others than these if each is named once.
 pub(crate) fn goes_behind(named: &[u32], area: LogArea, to: &[u32]) -> bool
     requires named { length named.now ≤ MAX_TARGETS }
     requires few { length to.now ≤ MAX_TARGETS }

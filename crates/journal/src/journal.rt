@@ -22,7 +22,7 @@ use disk::{Device, DiskFault, SECTOR, Update};
 use std::alloc::{AllocError, Global};
 use std::num::NonZeroUsize;
 
-/// How many sectors a mount keeps in memory where its caller names no number.
+/// The number of sectors that a mount keeps in memory if its caller gives no number.
 pub const CACHED_SECTORS: usize = 64;
 
 /// A journal over a device.
@@ -70,7 +70,7 @@ struct Room {
     cache: Cache,
 }
 
-/// Memory for a journal with this log that keeps so many sectors.
+/// Memory for a journal with this log that keeps `cached` sectors.
 fn room_for(alloc: Global, area: LogArea, cached: NonZeroUsize) -> Result<Room, AllocError>
     ensures none { IfOk result
         (λ room. (room.pending.items ≡ []) × (room.pending_sectors.items ≡ [])
@@ -100,7 +100,7 @@ impl<D: Device> Journal<D> {
     ///
     /// # Errors
     ///
-    /// [`JournalFault::Fault`] where the device failed.
+    /// [`JournalFault::Fault`] if the device failed.
     pub fn format(
         device: &mut D,
         sector0: &[u8; SECTOR],
@@ -127,7 +127,7 @@ impl<D: Device> Journal<D> {
     ///
     /// # Errors
     ///
-    /// [`JournalFault::Fault`] where the device failed.
+    /// [`JournalFault::Fault`] if the device failed.
     pub fn format_in(
         device: &mut D,
         area: LogArea,
@@ -154,7 +154,7 @@ impl<D: Device> Journal<D> {
         Ok(())
     }
 
-    /// Mounts the journal of a device whose log is in front: what a commit record that stands names
+    /// Mounts the journal of a device whose log is in front: what a commit record that is set names
     /// is copied home first. It keeps the 64 sectors in memory that were read last.
     ///
     /// # Errors
@@ -178,7 +178,7 @@ impl<D: Device> Journal<D> {
         Journal::mount_cached(alloc, device, cached)
     }
 
-    /// The same, with so many sectors kept in memory.
+    /// The same, with `cached` sectors kept in memory.
     ///
     /// # Errors
     ///
@@ -209,9 +209,8 @@ impl<D: Device> Journal<D> {
     ///
     /// # Errors
     ///
-    /// The device comes back with the reason: `Damaged` where the commit record is malformed, and
-    /// then nothing was written; `Fault` where the device failed; `Memory`, and then it was not
-    /// touched.
+    /// The device comes back with the reason: `Damaged` if the commit record is malformed, and then
+    /// nothing was written; `Fault` if the device failed; `Memory`, and then it was not touched.
     pub fn mount_in(
         alloc: Global,
         device: D,
@@ -255,13 +254,13 @@ impl<D: Device> Journal<D> {
         }
     }
 
-    /// What a mount would begin with, read without one: through a commit record that stands, and
+    /// What a mount would begin with, read without one: through a commit record that is set, and
     /// nothing is written.
     ///
     /// # Errors
     ///
-    /// As [`Journal::mount`], with the device: `Damaged` where the commit record is malformed,
-    /// `Fault` where the device failed, and `Memory`.
+    /// As [`Journal::mount`], with the device: `Damaged` if the commit record is malformed, `Fault`
+    /// if the device failed, and `Memory`.
     pub fn view(alloc: Global, device: &mut D) -> Result<View<'_, D>, Unmounted<&mut D>>
         requires { MIN_SECTORS ≤ D.size device.old }
         ensures new { IfOk result (λ view. IsNewJournal (in_front (D.size device.old))
@@ -345,20 +344,20 @@ impl<D: Device> Journal<D> {
         &self.device
     }
 
-    /// Whether the device failed in a call: every call is refused from then on.
+    /// Whether the device failed in a call: every call fails from then on.
     pub fn is_down(&self) -> bool
         ensures { result ≡ (log_of self.now).is_down }
     {
         self.is_down
     }
 
-    /// Puts into `content` the newest content of sector `n`, whether it went into the base yet or
-    /// not. After `Fault` it may hold anything. What is read of the journal's own sectors, 1 to
-    /// 97 and those of its log, says nothing.
+    /// Puts into `content` the newest content of sector `n`, whether it has gone into the base or
+    /// not. After `Fault` it may hold anything. What is read of the journal's own sectors, 1 to 97
+    /// and those of its log, says nothing.
     ///
     /// # Errors
     ///
-    /// [`JournalFault::Fault`] where the device failed, and [`JournalFault::Down`] from then on.
+    /// [`JournalFault::Fault`] if the device failed, and [`JournalFault::Down`] from then on.
     pub fn read(&mut self, n: u32, content: &mut [u8; SECTOR]) -> Result<(), JournalFault>
         requires { n < (log_of self.old).size }
         ensures ok { D.keeps_word → OnOk result (content.new ≡ contents (log_of self.old) n) }
@@ -399,7 +398,7 @@ impl<D: Device> Journal<D> {
     ///
     /// # Errors
     ///
-    /// [`JournalFault::Fault`] where the device failed, and [`JournalFault::Down`] from then on.
+    /// [`JournalFault::Fault`] if the device failed, and [`JournalFault::Down`] from then on.
     pub fn superblock(&mut self, content: &[u8; SECTOR]) -> Result<(), JournalFault>
         ensures moments { D.keeps_word
             → AddsFirst content.now (log_of self.old) (log_of self.new) }
@@ -428,12 +427,12 @@ impl<D: Device> Journal<D> {
     }
 
     /// Makes a checkpoint: copies home what the commit record names, and clears it, so that the
-    /// next flush finds it cleared. The base and the list stay. Where none stands, nothing is done.
-    /// Takes no memory.
+    /// next flush finds it cleared. The base and the list stay. If no record is set, nothing is
+    /// done. Takes no memory.
     ///
     /// # Errors
     ///
-    /// [`JournalFault::Fault`] where the device failed, and [`JournalFault::Down`] from then on.
+    /// [`JournalFault::Fault`] if the device failed, and [`JournalFault::Down`] from then on.
     pub fn checkpoint(&mut self) -> Result<(), JournalFault>
         ensures safe { IsSafe D.keeps_word (log_of self.old) (log_of self.new) }
         ensures brief { D.keeps_word → MakesAtMost ((log_of self.old).area.sectors + 3)
@@ -468,7 +467,7 @@ impl<D: Device> Journal<D> {
     ///
     /// # Errors
     ///
-    /// [`JournalFault::Fault`] where the device failed, and [`JournalFault::Down`] from then on.
+    /// [`JournalFault::Fault`] if the device failed, and [`JournalFault::Down`] from then on.
     pub fn rewrite_record(&mut self) -> Result<(), JournalFault>
         ensures safe { IsSafe D.keeps_word (log_of self.old) (log_of self.new) }
         ensures brief { D.keeps_word → MakesAtMost 2 (log_of self.old) (log_of self.new) }
@@ -536,7 +535,7 @@ impl<D: Device> Journal<D> {
         // In any case
         ensures part { IsPart D.keeps_word (log_of self.old) (log_of self.new)
             (journal_failures self.old) (journal_failures self.new) result }
-        // It is flushed where there is no room, and only there
+        // It is flushed if and only if there is no room
         ensures kept { FitTogether (log_of self.old).area (list_with (log_of self.old) updates.now)
             → (log_of self.new ≡ log_of self.old)
             × (self.new.pending.items ≡ self.old.pending.items)
@@ -562,14 +561,13 @@ impl<D: Device> Journal<D> {
         Ok(())
     }
 
-    /// Puts a transaction behind the pending ones: all of its updates, or after a crash none. Where
-    /// it and they have more different sectors than the log, they are flushed first. Takes no
-    /// memory.
+    /// Puts a transaction behind the pending ones: all of its updates, or after a crash none. If it
+    /// and they have more different sectors than the log, they are flushed first. Takes no memory.
     ///
     /// # Errors
     ///
     /// [`JournalFault::TooMany`] above 48 updates: nothing changed.
-    /// [`JournalFault::Fault`] where the device failed, and [`JournalFault::Down`] from then on.
+    /// [`JournalFault::Fault`] if the device failed, and [`JournalFault::Down`] from then on.
     pub fn apply(&mut self, updates: Vec<Update>) -> Result<(), JournalFault>
         requires { AreTargets (log_of self.old).area.end (targets updates.items) }
         ensures safe { IsSafe D.keeps_word (log_of self.old) (log_of self.new) }
@@ -602,11 +600,11 @@ impl<D: Device> Journal<D> {
         Ok(())
     }
 
-    /// Commits all that is pending: no crash loses it. Where nothing is, nothing is written.
+    /// Commits all that is pending: no crash loses it. If nothing is, nothing is written.
     ///
     /// # Errors
     ///
-    /// [`JournalFault::Fault`] where the device failed, and [`JournalFault::Down`] from then on.
+    /// [`JournalFault::Fault`] if the device failed, and [`JournalFault::Down`] from then on.
     pub fn flush(&mut self) -> Result<(), JournalFault>
         ensures safe { IsSafe D.keeps_word (log_of self.old) (log_of self.new) }
         ensures ok { OnOk result (HasFlushed D.keeps_word (log_of self.old) (log_of self.new)) }

@@ -2,9 +2,9 @@
 
 ghost use Rattle.journal.specs.Laws.{CrashLeavesFront, EveryMount};
 
-/// However a call on a journal answered that was up before it, also where the device failed in it:
+/// Whatever a call returned on a journal that was up before it, also if the device failed in it:
 /// what a crash leaves then, and what a mount of the device finds then, is the base from before the
-/// call with a front of the list from before it.
+/// call with a prefix of the list from before it.
 pub fn every_end()
     ensures stop { CrashLeavesFront }
     ensures mount { EveryMount }

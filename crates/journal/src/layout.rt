@@ -1,4 +1,4 @@
-//! Where the journal stands on a device.
+//! The place of the journal on a device.
 
 ghost use Rattle.std.specs.Prelude.{◌≡◌};
 ghost use Rattle.disk.specs.Calls.{zero_sector};
@@ -24,7 +24,7 @@ pub const FIRST_TARGET: u32 = 98;
 /// The most sectors of one transaction.
 pub const MAX_UPDATES: usize = 48;
 
-/// Where the log is, and what transactions may write.
+/// The place of the log, and what transactions may write.
 #[derive(Clone, Copy)]
 pub struct LogArea {
     /// The first sector of the payload.
@@ -33,13 +33,13 @@ pub struct LogArea {
     pub sectors: u32,
     /// The end of the sectors that transactions may write, which begin at [`FIRST_TARGET`].
     pub end: u32,
-    /// Whether a commit record names each target once. Where it may name one again, the later
-    /// content counts.
+    /// Whether a commit record names each target once. If it may name one again, the later content
+    /// counts.
     pub once: bool,
 }
 
 impl LogArea {
-    /// The log in front of what transactions write, on a device of so many sectors.
+    /// The log in front of what transactions write, on a device of `sectors` sectors.
     pub fn in_front(sectors: u32) -> LogArea
         ensures { result ≡ in_front sectors }
     {

@@ -9,7 +9,7 @@ ghost use Rattle.journal.specs.Transactions.{gathered, has, IsLastPlace};
 use crate::layout::{MAX_TARGETS, MAX_UPDATES};
 use disk::{SECTOR, Update};
 
-/// The newest content that the updates give sector `n`, or else what was found before.
+/// The newest content that the updates give sector `n`, or otherwise what was found before.
 pub(crate) fn newer(
     updates: &[Update],
     n: u32,
@@ -41,7 +41,7 @@ pub(crate) fn find(pending_sectors: &[u32], n: u32) -> Option<usize>
     None
 }
 
-/// Whether the pending sectors and those of the updates are few enough for a payload of so many
+/// Whether the pending sectors and those of the updates are few enough for a payload of `sectors`
 /// sectors.
 pub(crate) fn fits(pending_sectors: &[u32], updates: &[Update], sectors: usize) -> bool
     requires few { length pending_sectors.now ≤ MAX_TARGETS }
@@ -59,7 +59,7 @@ pub(crate) fn fits(pending_sectors: &[u32], updates: &[Update], sectors: usize) 
     pending_sectors.len() + fresh <= sectors
 }
 
-/// Puts an update in the place of the one of its sector, or else after the others.
+/// Puts an update in the place of the one of its sector, or otherwise after the others.
 pub(crate) fn put(pending: &mut Vec<Update>, pending_sectors: &mut Vec<u32>, update: &Update)
     // There is room for it
     requires sectors_are { pending_sectors.old.items ≡ targets pending.old.items }

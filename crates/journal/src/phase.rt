@@ -10,7 +10,8 @@ use crate::layout::{self, LogArea};
 use crate::list;
 use disk::{Device, DiskFault, SECTOR, Update};
 
-/// Writes the updates' contents to the payload, one after the other, behind so many sectors of it.
+/// Writes the updates' contents to the payload, one after the other, after its first `behind`
+/// sectors.
 pub(crate) fn write_payload<D: Device>(
     device: &mut D,
     area: LogArea,

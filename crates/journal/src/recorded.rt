@@ -20,7 +20,7 @@ pub(crate) struct Recorded {
 }
 
 impl Recorded {
-    /// Memory for all that a commit record can name, if it is so many sectors.
+    /// Memory for all that a commit record can name, if the log has `sectors` sectors.
     pub(crate) fn new(alloc: Global, sectors: usize) -> Result<Recorded, AllocError>
         ensures room { IfOk result (λ recorded. (sectors ≤ vec_capacity recorded.targets)
             × (sectors ≤ vec_capacity recorded.updates)) }
@@ -33,7 +33,7 @@ impl Recorded {
         })
     }
 
-    /// Nothing is shown any more.
+    /// Nothing is named any more.
     pub(crate) fn clear(&mut self)
         ensures none { (self.new.targets.items ≡ []) × (self.new.updates.items ≡ []) }
         ensures capacity { (vec_capacity self.new.targets ≡ vec_capacity self.old.targets)
@@ -60,7 +60,7 @@ impl Recorded {
         }
     }
 
-    /// Takes over the updates of the targets named last. Where there are no others, no sector is
+    /// Takes over the updates of the targets named last. If there are no others, no sector is
     /// copied.
     pub(crate) fn take_over(&mut self, updates: &mut Vec<Update>)
         requires { length self.old.updates.items + length updates.old.items

@@ -14,7 +14,7 @@ use crate::{JournalFault, commit, gate, layout};
 use disk::{Device, DiskFault, SECTOR, Update};
 
 /// Syncs, since contents of an earlier run may still be unsynced, and then copies home what a
-/// commit record that stands names. Where that went well, nothing is recorded any more.
+/// commit record that is set names. If that succeeds, nothing is recorded any more.
 pub(crate) fn recover<D: Device>(
     device: &mut D,
     area: LogArea,
@@ -48,7 +48,7 @@ pub(crate) fn recover<D: Device>(
     replay(device, area, recorded)
 }
 
-/// Copies home what a commit record that stands names, where nothing is unsynced since a sync just
+/// Copies home what a commit record that is set names, if nothing is unsynced since a sync just
 /// before.
 fn replay<D: Device>(
     device: &mut D,
@@ -81,7 +81,7 @@ fn replay<D: Device>(
     Ok(())
 }
 
-/// Reads the commit record: where it has a form, `named` holds what it names.
+/// Reads the commit record: if it has a form, `named` holds what it names.
 pub(crate) fn read_gate<D: Device>(
     device: &mut D,
     area: LogArea,

@@ -9,7 +9,7 @@ use disk::{Device, SECTOR};
 
 /// What the journal of a device has in its base, without a mount.
 ///
-/// A target of a commit record that stands is read in the payload, where its content is, and each
+/// A target of a commit record that is set is read in the payload, where its content is, and each
 /// other sector at its own place.
 #[derive(Drop)]
 pub struct View<'a, D: Device> {
@@ -64,7 +64,7 @@ impl<'a, D: Device> View<'a, D> {
     ///
     /// # Errors
     ///
-    /// [`JournalFault::Fault`] where the device failed, and [`JournalFault::Down`] from then on.
+    /// [`JournalFault::Fault`] if the device failed, and [`JournalFault::Down`] from then on.
     pub fn read(&mut self, n: u32, content: &mut [u8; SECTOR]) -> Result<(), JournalFault>
         requires { n < (view_of self.old).size }
         ensures ok { D.keeps_word → OnOk result (content.new ≡ (view_of self.old).base n) }

@@ -1,4 +1,4 @@
--- The answers of READDIR over the calls of a listing.
+-- The results of READDIR over the calls of a listing.
 use Rattle.std.proofs.Common.{ℕ, Bool, true, false, List, [], ◌∷◌, ◌++◌, ◌≡◌, ◌≢◌, ◌+◌, ◌<◌, ◌≤◌, ◌==◌, ◌∙◌, Some, inl, inr, bytes_eq, length, map, refl, sym, ap, subst, arith, length-append, ne_eqb, lt-ltb}
 use Rattle.std.proofs.lemmas.Bool.{cases_eq, eqb-true}
 use Rattle.std.proofs.lemmas.List.{append-nil, map-append, get_or-map, length-map}
@@ -23,7 +23,7 @@ use Rattle.directory.proofs.ByStamp.{IsRising, rising_above}
 use Rattle.directory.proofs.PagingLaw.{after_above, at_after, Has, shown_pages, rising_index, every_paging_lem}
 use Rattle.directory.proofs.Places.{bytes_eq-true, bytes_eq-same}
 
--- The answer is the page of the state that the call found
+-- The result is the page of the state that the call found
 
 same_answer : (a b : ReadDirAnswer) → Outcome.Done (Answer.ReadDir a) ≡ Outcome.Done (Answer.ReadDir b) → a ≡ b
 same_answer a b same = cc
@@ -72,7 +72,7 @@ by_stamp-rising [] rising = refl
 by_stamp-rising (entry ∷ rest) rising =
     ap (λ l. with l entry.0 entry.1) (by_stamp-rising rest (rising_above rest entry.0 rising)) ∙ with_first rest entry rising
 
--- each entry stands under its own stamp
+-- each entry is under its own stamp
 each_there : (whole names : Keyed DirEntry) (least : ℕ) → IsAbove least names → ((key : ℕ) → least < key → at key whole ≡ at key names)
     → AllByRecursion (λ entry. at entry.0 whole ≡ Some entry.1) names
 each_there whole [] least above same = tt
@@ -83,7 +83,7 @@ each_there whole (entry ∷ rest) least above same = (
       same key up ∙ at-rest entry.0 key entry.1 rest (omega (arith, high))),
 )
 
--- Answered entries, taken back to the names that they are of
+-- Returned entries, taken back to the names that they are of
 
 back : (f : Record → Entry) (of : Entry → Record) (names : Keyed DirEntry) (entries rest : List Entry)
     → AllByRecursion (λ name. of (f name) ≡ name) names → map f names ≡ entries ++ rest
@@ -138,7 +138,7 @@ module _ (reading : Reading) (well : IsWellFormed reading.limits reading.state.t
       (after_above reading.arguments.cookie its_names (rising_above its_names 0 rising))
       (λ key high. sym (at_after reading.arguments.cookie key its_names high))
 
-  -- a listed name is shown as it stands
+  -- a listed name is shown as it is
   shown_again : (name : Record) → at name.0 its_names ≡ Some name.1 → record_shown its_names (listed name) ≡ name
   shown_again name is = ap (λ o. record_from name.0 name.1.name (number_shown o)) is
 
@@ -167,7 +167,7 @@ module _ (reading : Reading) (well : IsWellFormed reading.limits reading.state.t
   pub behind_is : (cookie : ℕ) → reading.arguments.cookie ≡ cookie → behind cookie (page_of reading) ≡ (page_of reading).shown ++ is_page.left
   behind_is cookie same = ap (λ c. after c (by_stamp its_names)) (sym same) ∙ (ap (after reading.arguments.cookie) by_stamp-its ∙ is_page.front)
 
-  -- a name stands once
+  -- a name is there once
   stands_once : (name : List ℕ) (a b : ℕ) → StandsUnder a name reading → StandsUnder b name reading → a ≡ b
   stands_once name a b one other = elim (cases_eq a b) [
     | inl same ↦ same
@@ -187,7 +187,7 @@ module _ (reading : Reading) (well : IsWellFormed reading.limits reading.state.t
       its_worth : (entry : DirEntry) → entry.name ≡ name → one_if (bytes_eq name entry.name) ≡ 1
       its_worth entry named = ap one_if (ap (bytes_eq name) named ∙ bytes_eq-same name)
 
-  -- so where it stands under a cookie, it is answered with that one
+  -- so if it is under a cookie, it is returned with that one
   pub only_cookie : (cookie : ℕ) (name : List ℕ) → StandsUnder cookie name reading
       → AllByRecursion (λ entry. bytes_eq name entry.name ≡ true → entry.cookie ≡ cookie) reading.answer.entries
   only_cookie cookie name has =
@@ -268,7 +268,7 @@ at_named key (entry ∷ rest) found is = step (key == entry.0) is (λ others. at
     step true is others = ap (λ (e : DirEntry). Some e.name) (same_Some entry.1 found is)
     step false is others = others is
 
--- A name that rising entries have under one cookie alone
+-- A name that rising entries have under only one cookie
 
 module _ (name : List ℕ) (cookie : ℕ) where
   abbrev IsOnly : Entry → Type 0

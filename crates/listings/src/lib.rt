@@ -1,4 +1,4 @@
-//! What a client is answered that lists a directory by READDIR, whatever changes between its calls.
+//! The listing that a client of READDIR gets of a directory, whatever changes between its calls.
 #![tactic(auto)]
 
 mod reading;

@@ -3,8 +3,8 @@
 ghost use Rattle.listings.specs.ReadingExample.{ReadingExample};
 ghost use Rattle.listings.specs.Readings.{EveryReading};
 
-/// Over the READDIRs of a listing no cookie is answered twice, and a name that stands under one
-/// cookie at every call is answered once, with that cookie.
+/// Over the READDIRs of a listing no cookie is returned twice, and a name that is under one cookie
+/// at every call is returned once, with that cookie.
 pub fn every_reading()
     ensures { EveryReading }
 {}

@@ -13,7 +13,7 @@ pub is_not_full : (most : ℕ) (opens : Opens) (asked : Open) (like : ℕ × Ope
 is_not_full most opens asked like is =
     ap (λ found. is_none found && (nat_le most (length opens.known) || nat_le (2 ^ 64 - 1) opens.given)) (sym is)
 
--- and so one that joins none finds it where the table has it
+-- and so one that joins none finds room if the table has it
 pub is_full_then : (most : ℕ) (opens : Opens) (asked : Open) → open_like opens asked ≡ None → is_table_full most opens asked ≡ (nat_le most (length opens.known) || nat_le (2 ^ 64 - 1) opens.given)
 is_full_then most opens asked is =
     ap (λ found. is_none found && (nat_le most (length opens.known) || nat_le (2 ^ 64 - 1) opens.given)) is

@@ -1,4 +1,4 @@
--- What the opens of the code stand for.
+-- What the opens of the code represent.
 use Rattle.std.specs.Prelude.{ℕ, ◌≡◌, ◌<◌, List, map, drop, find, length, slice_index_or, Some, false}
 use Rattle.std.specs.Int.{w64, from_be_bytes}
 use Rattle.std.specs.Option.{option_map}
@@ -48,7 +48,7 @@ pub record IsAt (serial : ℕ) (opens : model.Opens) (entry : Entry) : Type 0 wh
   pub known : at serial opens.known ≡ Some (open_of entry.state)
   pub serial_is : entry.serial ≡ serial
 
--- there is memory for one open more
+-- there is memory for one more open
 unfoldable pub HasMemory : Opens → Type 0
 HasMemory opens = vec_len opens.list < vec_capacity opens.list
 

@@ -14,20 +14,20 @@ use bitflags::Flags;
 use model_tree::status::Status;
 use wire::StateId;
 
-/// Where a stateid is used.
+/// The context in which a stateid is used.
 #[derive(Clone, Copy)]
 pub struct StateIdContext {
     /// The session's client.
     pub client: u64,
     /// The server's restart count.
     pub run: u32,
-    /// The current file's node, 0 where there is none.
+    /// The current file's node, 0 if there is none.
     pub number: u64,
     /// The current stateid.
     pub state: Option<StateId>,
 }
 
-/// What a stateid means where it is used.
+/// What a stateid means in its context.
 #[derive(Clone, Copy)]
 pub enum Found<'a> {
     /// No open.
@@ -78,7 +78,7 @@ pub(crate) fn by_seqid<'a>(state: &StateId, entry: &'a Entry) -> Found<'a>
 }
 
 impl StateIdContext {
-    // The stateid that is meant: the current one is carried whole.
+    // The stateid that is meant: for the current one, that of the context.
     pub(crate) fn meant(&self, state: &StateId) -> Option<StateId>
         ensures { (context : Context) → StandsAt self.now context
             → option_map state_view result ≡ meant context (state_view state.now) }
@@ -92,8 +92,8 @@ impl StateIdContext {
 }
 
 impl Found<'_> {
-    /// What READ, WRITE or a set size answers, which needs an open with this access or none:
-    /// OPENMODE where it lacks it.
+    /// The error with which READ, WRITE or a set size fails, which needs an open with this access
+    /// or none: OPENMODE if the open lacks it.
     pub fn refuse_access(&self, access: Access) -> Option<Status>
         ensures { result ≡ first_refusal (access_refusals access.0 (found_of self.now)) }
     {
@@ -105,7 +105,7 @@ impl Found<'_> {
         }
     }
 
-    /// What CLOSE answers, which needs an open.
+    /// The error with which CLOSE fails, which needs an open.
     pub fn refuse_close(&self) -> Option<Status>
         ensures { result ≡ first_refusal (close_refusals (found_of self.now)) }
     {

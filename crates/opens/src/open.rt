@@ -81,7 +81,7 @@ impl Entry {
             && self.state.number == asked.number
     }
 
-    /// Whether it is an open of the client on the file where a stateid is used.
+    /// Whether it is an open of the client on the file of the context.
     pub(crate) fn is_of(&self, standing: &StateIdContext) -> bool
         ensures { result ≡ (self.now.state.client == standing.now.client
             && self.now.state.number == standing.now.number) }

@@ -47,7 +47,7 @@ impl Opens {
         self.list.len()
     }
 
-    /// Takes the memory for one open more.
+    /// Takes the memory for one more open.
     pub fn reserve(&mut self) -> Result<(), AllocError>
         ensures room { OnOk result (HasMemory self.new) }
         ensures same { opens_of self.new ≡ opens_of self.old }
@@ -138,7 +138,7 @@ impl Opens {
         self.at(BigEndian::read_u64(&other.as_slice()[4..]))
     }
 
-    /// What a stateid means where it is used (RFC 8881, section 8.2.4).
+    /// What a stateid means in its context (RFC 8881, section 8.2.4).
     pub fn find(&self, standing: &StateIdContext, state: &StateId) -> Found<'_>
         ensures { (context : Context) → StandsAt standing.now context
             → found_of result ≡ found (opens_of self.now) context (state_view state.now) }

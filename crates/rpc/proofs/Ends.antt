@@ -1,4 +1,4 @@
--- Where a record ends: after what had come before, and at the end of what is taken of the piece.
+-- The end of a record: after what had come before, and at the end of what is taken of the piece.
 use Rattle.std.proofs.Common.{◌≡◌, ℕ, ◌+◌, ◌-◌, ◌<◌, ◌≤◌, inl, inr, true, List, [], ◌++◌, length, take, drop, Some, None, cond, refl, ap, sym, subst, ◌∙◌, arith}
 use Rattle.std.proofs.lemmas.List.{length-append, length-drop, take-append-le, take_all, take_at, take-append-drop, append-nil, get_or_append_left, get_or-append_right}
 use Rattle.std.proofs.lemmas.Bool.{cases_lt}
@@ -78,7 +78,7 @@ partial_in bytes Partial is = refl
 partial_in bytes (Refused fault) is = absurd cc
 partial_in bytes (Whole request rest) is = absurd cc
 
--- a search that found no end, where the bytes before were read through a reference
+-- a search that found no end, if the bytes before were read through a reference
 pub partial_by : (old read piece : List ℕ) → read ≡ old → scans.Partial ≡ scan_of (read ++ piece) (front record_limits (read ++ piece)) → front record_limits (old ++ piece) ≡ Partial
 partial_by old read piece same is =
     partial_in (old ++ piece) (front record_limits (old ++ piece))
@@ -111,14 +111,14 @@ taken old piece end old_are piece_are partial is =
       whole = ap (λ (n : ℕ). front record_limits (old ++ take (n - length old) piece)) at ∙ e.whole;
     }
 
--- the same, where the bytes before were read through a reference
+-- the same, if the bytes before were read through a reference
 pub taken_by : (old read piece : List ℕ) (end : ℕ) → read ≡ old → IsBytes read → IsBytes piece → front record_limits old ≡ Partial → scans.Whole end ≡ scan_of (read ++ piece) (front record_limits (read ++ piece))
     → Taken old piece end
 taken_by old read piece end same read_are piece_are partial is =
     taken old piece end (subst IsBytes same read_are) piece_are partial
     (subst (λ (all : List ℕ). scans.Whole end ≡ scan_of (all ++ piece) (front record_limits (all ++ piece))) same is)
 
--- what is left after the piece's front, and when it is whole
+-- what is left after the prefix of the piece, and when it is whole
 pub whole_there : (old piece after : List ℕ) (end len : ℕ) → (t : Taken old piece end) → len ≡ length old → after ≡ old ++ take (end - len) piece → front record_limits after ≡ Whole t.request []
 whole_there old piece after end len t len_is after_is =
     ap (front record_limits) (after_is ∙ ap (λ (n : ℕ). old ++ take (end - n) piece) len_is) ∙ t.whole

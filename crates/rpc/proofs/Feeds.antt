@@ -1,4 +1,4 @@
--- What a piece makes of a connection.
+-- What a piece does to a connection.
 use Rattle.std.proofs.Common.{◌≡◌, ℕ, ◌≤◌, Bool, true, false, cond, List, [], ◌++◌, length, drop, Some, None, refl, ap, sym, ◌∙◌, arith}
 use Rattle.model.specs.Wire.Record.{Front, Partial, Refused, Whole, front, front_from}
 use Rattle.model.specs.Wire.Rpc.{read_call, is_call_read}

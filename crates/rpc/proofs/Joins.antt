@@ -10,7 +10,7 @@ use Rattle.rpc.specs.declared.fragment.Fragment.TheVariants as fragments
 use Rattle.rpc.specs.Assembly.{record_limits, Finds, IsWhole}
 use Rattle.rpc.proofs.Walks.{Walks, waits, refuses, last, next, part_of, behind_part}
 
--- what is gathered stands at the front, and the record goes on at the place
+-- what is gathered is at the front, and the record goes on at the place
 abbrev pub gathered_in : (bytes : List ℕ) → Place → Gathered
 gathered_in bytes place = record { bytes = take place.size bytes; fragments = place.fragments }
 

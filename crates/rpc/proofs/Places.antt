@@ -123,7 +123,7 @@ stands bytes body head rest operations same is e =
     } in
     subst (λ (whole : List ℕ). StandsIn whole (record { tag = head.0; count = head.1.1; operations = operations })) same here
 
--- and their record: the COMPOUND stands in it as it stands in them
+-- and their record: it has the COMPOUND as they have it
 pub stands_there : (bytes body : List ℕ) (compound : Compound) → EndsWith bytes body → StandsIn body compound
     → (let one : Compound = record {
       tag = take (length compound.tag) (drop (length bytes - length body + 4) bytes);

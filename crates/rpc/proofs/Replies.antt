@@ -55,7 +55,7 @@ record_parts before after tail size xid reply after_is tail_is size_is =
     ∙ ap (λ (n : ℕ). before ++ (frame_header n ++ text)) size_is
     ∙ ap (λ (all : List ℕ). before ++ all) (sym (framed_parts text))
 
--- where there was no memory for a part there was none for the whole
+-- if there was no memory for a part, there was none for the whole
 
 pub err_more : {A : Type 0} (r : Result A Refusal) (P Q : Type 0) → (P → Q) → OnErr r P → OnErr r Q
 err_more (Ok x) P Q f h = tt
@@ -65,7 +65,7 @@ pub err_any : {A : Type 0} (r : Result A Refusal) (P : Type 0) → P → OnErr r
 err_any (Ok x) P h = tt
 err_any (Err e) P h = h
 
--- the front of a record is no longer than the record
+-- the beginning of a record is no longer than the record
 pub front_fits : (size xid : ℕ) (reply : Reply) → size ≡ length (reply_text xid (reply_view reply)) → length (frame_header size ++ front_of xid reply) ≤ length (framed (reply_text xid (reply_view reply)))
 front_fits size xid reply size_is =
     let whole = record_parts [] (frame_header size ++ front_of xid reply) (tail_of reply) size xid reply refl refl size_is in

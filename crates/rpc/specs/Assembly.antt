@@ -1,5 +1,5 @@
--- What an assembler keeps of a connection's next record (RFC 5531, section 11), and what a piece of
--- the stream makes of it.
+-- What an assembler keeps of a connection's next record (RFC 5531, section 11), and how a piece of
+-- the stream changes it.
 use Rattle.std.specs.Prelude.{◌≡◌, ℕ, ◌+◌, ◌-◌, ◌≤◌, ◌<◌, Bool, true, false, List, [], ◌++◌, length, take, drop, Option, Some, None, if◌then◌else◌}
 use Rattle.model.specs.Wire.Record as spec
 use Rattle.model.specs.Wire.Record.{RecordLimits, Gathered, Front, Partial, Refused, Whole, front, fragment}
@@ -42,7 +42,7 @@ released (Gathers bytes) = Gathers bytes
 released (Holds request) = Gathers []
 released (Refuses fault) = Refuses fault
 
--- the connection that an assembler stands for
+-- the connection that an assembler represents
 abbrev pub connection_of : Assembly → Connection
 connection_of (Gathers bytes) = Quiet bytes
 connection_of (Holds request) = Waiting request
@@ -102,7 +102,7 @@ pub record IsSoundBuffer (state : State) (bytes : List ℕ) (spare : ℕ) : Type
 
 -- Steps
 
--- what stands at the front of the bytes, by its size
+-- what the bytes begin with, by its size
 abbrev pub Finds : Gathered → List ℕ → Fragment → Type 0
 Finds gathered bytes found.Waits = fragment record_limits gathered bytes ≡ spec.Waits
 Finds gathered bytes found.TooBig =
@@ -116,7 +116,7 @@ Finds gathered bytes (found.Brings size is_last) =
     × (fragment record_limits gathered bytes
     ≡ spec.Brings (take size (drop 4 bytes)) is_last (drop size (drop 4 bytes)))
 
--- where the record at the front of the bytes ends
+-- the end of the record that the bytes begin with
 abbrev pub scan_of : List ℕ → Front → Scan
 scan_of bytes Partial = scans.Partial
 scan_of bytes (Refused fault) = scans.Refused (fault_of fault)
@@ -126,7 +126,7 @@ scan_of bytes (Whole request rest) = scans.Whole (length bytes - length rest)
 abbrev pub IsWhole : List ℕ → Type 0
 IsWhole bytes = (request : List ℕ) × (front record_limits bytes ≡ Whole request [])
 
--- what a piece makes of the bytes before
+-- how a piece changes the bytes before
 abbrev pub Receives : (old piece : List ℕ) → Progress → (new : List ℕ) → Type 0
 Receives old piece progress.More new =
     (front record_limits (old ++ piece) ≡ Partial) × (new ≡ old ++ piece)

@@ -1,4 +1,4 @@
--- Where the parts of a call stand in its record.
+-- The places of the parts of a call in its record.
 use Rattle.std.specs.Prelude.{◌≡◌, ℕ, ◌+◌, ◌-◌, ◌≤◌, nat_le, Bool, ◌&&◌, List, length, take, drop}
 use Rattle.model.specs.Wire.Rpc.{Compound}
 use Rattle.rpc.specs.declared.call.CallRead.{CallRead}
@@ -27,7 +27,7 @@ abbrev pub IsOfBody : (body : List ℕ) → Request → Type 0
 IsOfBody body (requests.Answers reply) = Unit {0}
 IsOfBody body (requests.Runs cred compound) = StandsIn body (compound_view compound)
 
--- the COMPOUND that stands there in a record
+-- the COMPOUND that is there in a record
 abbrev pub compound_at : List ℕ → CompoundPlace → Compound
 compound_at bytes place = record {
   tag = take place.tag_size (drop place.tag bytes);

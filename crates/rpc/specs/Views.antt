@@ -81,11 +81,11 @@ success_head xid = spec.words (xid ∷ 1 ∷ 0 ∷ 0 ∷ 0 ∷ 0 ∷ [])
 abbrev pub compound_front : Status → (tag : List ℕ) → (count : ℕ) → List ℕ
 compound_front status tag count = number w32 (code_of status) ++ (counted tag ++ number w32 count)
 
--- the header of a record of so many bytes, as it is sent: one fragment
+-- the header of a record of `size` bytes, as it is sent: one fragment
 abbrev pub frame_header : (size : ℕ) → List ℕ
 frame_header size = number w32 (2 ^ 31 + size)
 
--- a reply up to the bytes that stand in it as they are, and those bytes
+-- a reply up to the bytes that it has as they are, and those bytes
 abbrev pub front_of : (xid : ℕ) → Reply → List ℕ
 front_of xid replies.VersionRefused = spec.words (xid ∷ 1 ∷ 1 ∷ 0 ∷ 2 ∷ 2 ∷ [])
 front_of xid (replies.AuthRefused stat) = spec.words (xid ∷ 1 ∷ 1 ∷ 1 ∷ auth_stat_of stat ∷ [])

@@ -45,10 +45,10 @@ impl Assembler {
         })
     }
 
-    /// Takes the front of the piece, up to the end of the first whole record, and answers how many
-    /// bytes that is; none while a whole record waits. `RecordTooBig` and `TooManyFragments` refuse
-    /// a fragment's header as soon as it is there, in this order, and `NotACall` a whole record;
-    /// each is answered for good. It takes no memory.
+    /// Takes a prefix of the piece, up to the end of the first whole record, and returns its
+    /// length; 0 while a whole record waits. `RecordTooBig` and `TooManyFragments` refuse a
+    /// fragment's header as soon as it is there, in this order, and `NotACall` a whole record; from
+    /// then on every call returns the same error. It takes no memory.
     pub fn feed(&mut self, piece: &[u8]) -> Result<usize, RecordFault>
         ensures arrived { IfOk result
             (λ n. connection_of self.new
@@ -93,8 +93,8 @@ impl Assembler {
         }
     }
 
-    /// Lets the whole record go that waits, and keeps its memory: what comes next begins another
-    /// one. Where none waits, nothing changes.
+    /// Releases the whole record that waits, and keeps its memory: what comes next begins another
+    /// one. If none waits, nothing changes.
     pub fn release(&mut self)
         ensures assembly { self.new ≡ released self.old }
         ensures connection { connection_of self.new ≡ let_go (connection_of self.old) }

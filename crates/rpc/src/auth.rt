@@ -1,4 +1,4 @@
-//! The caller, as AUTH_SYS tells it (RFC 5531, appendix A).
+//! The caller, as AUTH_SYS encodes it (RFC 5531, appendix A).
 
 ghost use Rattle.std.specs.Prelude.{◌≡◌, Some, None, MatchOption};
 ghost use Rattle.model.specs.Wire.Rpc.{cred_told, credential_in};
@@ -8,8 +8,8 @@ use model_tree::acl::Cred;
 use wire::SystemCredential;
 use xdr::Reader;
 
-/// The credential of AUTH_SYS, where the body is exactly its form: a stamp, a machine name of at
-/// most 255 bytes, a uid, a gid, and at most 16 further gids.
+/// The credential of AUTH_SYS, if the body is exactly its form: a stamp, a machine name of at most
+/// 255 bytes, a uid, a gid, and at most 16 further gids.
 pub(crate) fn read_auth_sys(body: &[u8]) -> Option<SystemCredential<'_>>
     ensures { MatchOption result (credential_in body.now ≡ None)
         (λ found. credential_in body.now ≡ Some (credential_view found)) }
@@ -21,7 +21,7 @@ pub(crate) fn read_auth_sys(body: &[u8]) -> Option<SystemCredential<'_>>
     }
 }
 
-/// The caller that the credential tells.
+/// The caller that the credential names.
 pub fn cred_from(found: SystemCredential<'_>) -> Cred
     ensures { result ≡ cred_told (credential_view found.entry) }
 {

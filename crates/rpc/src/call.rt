@@ -54,7 +54,7 @@ pub struct Auth<'a> {
     pub body: &'a [u8],
 }
 
-/// What stands between the RPC version and the arguments.
+/// The fields between the RPC version and the arguments.
 #[derive(Clone, Copy)]
 pub struct Header<'a> {
     pub program: u32,
@@ -64,7 +64,7 @@ pub struct Header<'a> {
     pub verifier: Auth<'a>,
 }
 
-/// The call that a record's bytes are (RFC 5531, section 9). `NotACall` where it ends within the
+/// The call that a record's bytes encode (RFC 5531, section 9). `NotACall` if it ends within the
 /// call's header, is another message, or has a credential or a verifier that is above 400 bytes or
 /// padded with other bytes than zero.
 #[tactic(auto, unfolding(model::specs::Wire::Rpc::read_call))]

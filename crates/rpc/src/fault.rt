@@ -8,7 +8,7 @@ pub enum RecordFault {
     /// A fragment's header brings the record above its limit.
     #[error("a record above 16384 bytes")]
     RecordTooBig,
-    /// A fragment's header after as many fragments as a record may have.
+    /// A fragment's header after the maximal number of fragments.
     #[error("a record of more than 64 fragments")]
     TooManyFragments,
     /// A whole record that holds no call.

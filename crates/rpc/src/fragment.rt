@@ -1,5 +1,5 @@
 //! Fragments of a record (RFC 5531, section 11): a header, whose top bit says that it is the last
-//! one and whose other bits are its size, and so many bytes.
+//! one and whose other bits are its size, and that many bytes.
 
 ghost use Rattle.std.specs.Prelude.{◌≡◌, ◌+◌, ◌<◌, ◌≤◌, ◌^◌, ◌++◌, length, take, drop, slice_index};
 ghost use Rattle.std.specs.Int.{w32, from_be_bytes};
@@ -21,7 +21,7 @@ pub const MAX_RECEIVED: usize = MAX_RECORD_BYTES + (MAX_FRAGMENTS + 1) * HEADER_
 /// A place in a record, between two fragments.
 #[derive(Clone, Copy)]
 pub struct Place {
-    /// Where the next header begins.
+    /// The place at which the next header begins.
     pub at: usize,
     /// The bytes of the fragments before, and their number.
     pub size: usize,
@@ -29,20 +29,20 @@ pub struct Place {
 }
 
 impl Place {
-    /// Where a record begins.
+    /// The beginning of a record.
     pub const START: Place = Place {
         at: 0,
         size: 0,
         fragments: 0,
     };
 
-    /// Behind a fragment of so many bytes.
+    /// The place after a fragment of `size` bytes.
     pub fn behind(self, size: usize) -> Place
         // A record has room for it
         requires end { self.at + HEADER_BYTES + size < 2 ^ 64 }
         requires bytes { self.size + size ≤ MAX_RECORD_BYTES }
         requires fragments { self.fragments < MAX_FRAGMENTS }
-        // Where it ends
+        // The place of its end
         ensures at { result.at ≡ self.at + HEADER_BYTES + size }
         ensures size { result.size ≡ self.size + size }
         ensures fragments { result.fragments ≡ self.fragments + 1 }
@@ -55,21 +55,21 @@ impl Place {
     }
 }
 
-/// What stands at a place.
+/// What is at a place.
 #[derive(Clone, Copy)]
 pub enum Fragment {
     /// No whole fragment.
     Waits,
     /// A header that brings the record above its limit.
     TooBig,
-    /// A header after as many fragments as a record may have.
+    /// A header after the maximal number of fragments.
     TooMany,
     /// A whole fragment.
     Brings { size: usize, is_last: bool },
 }
 
-/// What stands at a place in the bytes of `old` and `piece`, one after the other. A header is
-/// refused as soon as it is there.
+/// What is at a place in the bytes of `old` and `piece`, one after the other. A header is refused
+/// as soon as it is there.
 pub fn fragment_at(old: &[u8], piece: &[u8], place: Place) -> Fragment
     requires within { place.at ≤ length old.now + length piece.now }
     requires small { place.size ≤ MAX_RECORD_BYTES }

@@ -7,8 +7,8 @@ ghost use Rattle.rpc.specs.Assembly.{record_limits, IsWhole};
 use crate::fragment::{Fragment, HEADER_BYTES, Place, fragment_at};
 use bytes::BytesMut;
 
-/// Joins what the fragments of a whole record hold, and answers where it begins; it ends where the
-/// bytes end. Where there is one fragment, no byte is moved.
+/// Joins what the fragments of a whole record hold, and returns the place at which it begins; it
+/// ends with the bytes. If there is one fragment, no byte is moved.
 pub fn drop_headers(bytes: &mut BytesMut) -> usize
     requires { IsWhole bytes.old.items }
     ensures request { front record_limits bytes.old.items ≡ Whole (drop result bytes.new.items) [] }
@@ -26,8 +26,8 @@ pub fn drop_headers(bytes: &mut BytesMut) -> usize
     }
 }
 
-/// Moves what the fragments of a whole record hold to its front, and answers how many bytes they
-/// are.
+/// Moves what the fragments of a whole record hold to its front, and returns the number of these
+/// bytes.
 fn join_fragments(bytes: &mut [u8]) -> usize
     requires { IsWhole bytes.old }
     ensures { front record_limits bytes.old ≡ Whole (take result bytes.new) [] }

@@ -28,8 +28,8 @@ pub const COMPOUND: u32 = 1;
 /// The minor version of a COMPOUND.
 pub const MINOR_VERSION: u32 = 1;
 
-/// The flavour that tells no caller (RFC 5531, section 10.1).
+/// The flavour that names no caller (RFC 5531, section 10.1).
 pub const AUTH_NONE: u32 = 0;
 
-/// The flavour that tells the caller's numbers (RFC 5531, appendix A).
+/// The flavour that gives the caller's numbers (RFC 5531, appendix A).
 pub const AUTH_SYS: u32 = 1;

@@ -1,4 +1,4 @@
-//! Where a COMPOUND stands in the record of its call.
+//! The place of a COMPOUND in the record of its call.
 
 ghost use Rattle.std.specs.Prelude.{◌<◌, ◌≤◌};
 ghost use Rattle.rpc.specs.declared.tag.TheConstants.{MAX_TAG_BYTES};
@@ -9,15 +9,15 @@ use crate::tag::Tag;
 /// The bytes of the length of a tag, with which the arguments of a COMPOUND begin.
 const TAG_START: usize = 4;
 
-/// Where a COMPOUND stands in its record, so that it is had again without reading the call again.
+/// The place of a COMPOUND in its record, so that it is found again without reading the call again.
 #[derive(Clone, Copy)]
 pub struct CompoundPlace {
-    /// Where the bytes of its tag begin, and how many they are.
+    /// The place at which the bytes of its tag begin, and their number.
     pub(crate) tag: usize,
     pub(crate) tag_size: usize,
     /// How many operations there are.
     pub(crate) count: u32,
-    /// Where the bytes of all of them begin.
+    /// The place at which the bytes of all of them begin.
     pub(crate) operations: usize,
     ghost some: { 0 < count },
     ghost short: { tag_size ≤ MAX_TAG_BYTES },
@@ -43,7 +43,7 @@ impl CompoundPlace {
         }
     }
 
-    /// The COMPOUND that stands there.
+    /// The COMPOUND that is there.
     pub fn compound<'a>(&self, request: &'a [u8]) -> Compound<'a>
         requires { is_within request.now self.now ≡ true }
         ensures { compound_view result ≡ compound_at request.now self.now }

@@ -1,4 +1,4 @@
-//! What a piece makes of the bytes before it.
+//! How a piece changes the bytes before it.
 
 ghost use Rattle.std.specs.Prelude.{◌≡◌, ◌≤◌, ◌+◌, length};
 ghost use Rattle.model.specs.Wire.Record.{Partial, front};
@@ -10,19 +10,19 @@ use crate::join::drop_headers;
 use crate::scan::{Scan, scan_record};
 use bytes::BytesMut;
 
-/// What a piece made of the bytes before it.
+/// How a piece changed the bytes before it.
 #[derive(Clone, Copy)]
 pub enum Progress {
     /// The whole piece was taken, and the record is not whole.
     More,
-    /// So many bytes were taken, and from `start` on stands a whole record that holds a call.
+    /// `taken` bytes were taken, and from `start` on there is a whole record that holds a call.
     Whole { taken: usize, start: usize },
     /// A header or the record is refused.
     Refused(RecordFault),
 }
 
-/// Takes the front of the piece, up to the end of the record, into memory that is there. Of a whole
-/// record what its fragments hold is left.
+/// Appends a prefix of the piece, up to the end of the record, in memory that is there. Of a whole
+/// record only what its fragments hold is left.
 pub fn receive_piece(bytes: &mut BytesMut, piece: &[u8]) -> Progress
     requires partial { front record_limits bytes.old.items ≡ Partial }
     requires room { max_received ≤ length bytes.old.items + bytes.old.spare }

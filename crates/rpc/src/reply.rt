@@ -1,7 +1,6 @@
 //! Replies (RFC 5531, section 9; RFC 8881, section 16.2).
 //!
-//! No write is refused where memory was reserved for it. A refused one may leave a front of its
-//! text.
+//! No write fails if memory was reserved for it. A failed one may leave a prefix of its text.
 
 ghost use Rattle.std.specs.Prelude.{◌≡◌, ℕ, ◌+◌, ◌<◌, ◌^◌, ◌∷◌, ◌++◌, [], length, IfOk, OnErr, IfErr};
 ghost use Rattle.xdr.specs.Clauses.{Wrote};
@@ -49,7 +48,7 @@ pub enum Reply<'a> {
     ProcedureUnavailable,
     /// The arguments cannot be read.
     GarbageArguments,
-    /// A procedure's result, spelled: no bytes where it is NULL.
+    /// The encoded result of a procedure: no bytes if it is NULL.
     Success(&'a [u8]),
     /// The result of a COMPOUND.
     Compound(CompoundResult<'a>),
@@ -76,7 +75,7 @@ impl CompoundResult<'_> {
         8 + opaque_size(self.tag.bytes) + self.results.len()
     }
 
-    /// Its bytes, after those of `out`: refused only where `out` has no memory for them.
+    /// Writes its bytes after those of `out`: fails only if `out` has no memory for them.
     pub fn write(&self, out: Writer) -> Result<Vec<u8>, Refusal>
         ensures ok { IfOk result (λ bytes. bytes.items ≡ out.bytes ++ result_text self.now) }
         ensures full { OnErr result
@@ -107,7 +106,7 @@ impl<'a> Reply<'a> {
         }
     }
 
-    /// What stands in it as it is.
+    /// The bytes that it has as they are.
     fn tail(&self) -> &'a [u8]
         ensures { result.now ≡ tail_of self.now }
     {
@@ -119,8 +118,8 @@ impl<'a> Reply<'a> {
     }
 }
 
-/// The record of a reply, as it is sent, after the bytes of `out`: one fragment (RFC 5531, section
-/// 11). It is refused only where `out` has no memory for it.
+/// Writes the record of a reply, as it is sent, after the bytes of `out`: one fragment (RFC 5531,
+/// section 11). It fails only if `out` has no memory for it.
 pub fn write_reply(out: Writer, xid: u32, reply: &Reply<'_>) -> Result<Vec<u8>, Refusal>
     requires { length (tail_of reply.now) < 2 ^ 30 }
     ensures ok { IfOk result (λ bytes.
@@ -145,7 +144,7 @@ fn append_to(out: Writer, tail: &[u8]) -> Result<Vec<u8>, Refusal>
     Ok(bytes)
 }
 
-/// Writes a record's header, and the reply up to what stands in it as it is.
+/// Writes a record's header, and the reply up to the bytes that it has as they are.
 #[tactic(auto, using(xdr::proofs::Writing::wrote_on, xdr::proofs::Writing::wrote_exit, xdr::proofs::Writing::wrote_end))]
 fn write_front(w: &mut Writer, size: u32, xid: u32, reply: &Reply<'_>) -> Result<(), Refusal>
     requires { size < 2 ^ 31 }

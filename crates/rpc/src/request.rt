@@ -25,7 +25,7 @@ pub enum Request<'a> {
     Runs(Cred, Compound<'a>),
 }
 
-/// What stands before the operations of a COMPOUND of any minor version.
+/// What comes before the operations of a COMPOUND of any minor version.
 #[derive(Clone, Copy)]
 pub struct Head<'a> {
     pub tag: Tag<'a>,
@@ -35,8 +35,8 @@ pub struct Head<'a> {
 
 impl<'a> Call<'a> {
     /// What the call asks for, by the tests in their order: program, version and procedure; the
-    /// credential; the head of the COMPOUND, its minor version, and that no bytes follow where no
-    /// operation is counted.
+    /// credential; the head of the COMPOUND, its minor version, and that no bytes follow if it
+    /// counts no operation.
     #[tactic(auto, unfolding(model::specs::Wire::Rpc::request_of))]
     pub fn request(self) -> Request<'a>
         ensures request { request_of (call_view self.entry) ≡ request_view result }

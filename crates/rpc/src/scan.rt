@@ -1,4 +1,4 @@
-//! Where a record ends.
+//! The end of a record.
 
 ghost use Rattle.std.specs.Prelude.{◌≡◌, ◌++◌};
 ghost use Rattle.xdr.specs.Laws.{IsBytes};
@@ -8,7 +8,7 @@ ghost use Rattle.rpc.specs.Assembly.{record_limits, scan_of};
 use crate::fault::RecordFault;
 use crate::fragment::{Fragment, HEADER_BYTES, Place, fragment_at};
 
-/// What stands at the front of bytes.
+/// What the bytes begin with.
 #[derive(Clone, Copy)]
 pub enum Scan {
     /// No whole record.

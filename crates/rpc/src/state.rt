@@ -7,7 +7,7 @@ use crate::fault::RecordFault;
 pub enum State {
     /// What has come of the next record, headers included.
     Gathers,
-    /// From this place on a whole record that holds a call, without headers.
+    /// From this place on there is a whole record that holds a call, without headers.
     Holds { start: usize },
     /// Of no use: a header or a record was refused.
     Refuses(RecordFault),

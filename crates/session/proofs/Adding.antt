@@ -1,4 +1,4 @@
--- EXCHANGE_ID's new record, by what the records answer.
+-- EXCHANGE_ID's new record, by what the records return.
 use Rattle.std.proofs.Common.{◌≡◌, ℕ, ◌+◌, List, [], ◌∷◌, ◌++◌, Option, Result, Ok, Err, sym, ap, ◌∙◌}
 use Rattle.model_tree.specs.declared.status.Status.{Status}
 use Rattle.model.specs.Operations.Operation.{ExchangeIdArguments}

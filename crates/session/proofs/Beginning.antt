@@ -53,7 +53,7 @@ inside_replays : (a : Bool) (b : Begun) (reply : List ℕ) → cond a b (Refuses
 inside_replays true b reply e = e
 inside_replays false b reply e = cc
 
--- a retry is answered by the kept reply
+-- the reply to a retry is the kept one
 pub replays_kept : (uid count : ℕ) (arguments : SequenceArguments) (seats : Seats) (session : Session) (reply : List ℕ) → begin_by uid count arguments seats (Some session) ≡ Replays reply → session_reply arguments.slot session ≡ Some reply
 replays_kept uid count arguments seats session reply e =
     let slot : Slot = slot_at session arguments.slot in
@@ -72,7 +72,7 @@ by_held : (uid : ℕ) (arguments : SequenceArguments) (held : Option HeldReply) 
 by_held uid arguments None e = absurd (cc)
 by_held uid arguments (Some held) e = (held.result, dead_held uid arguments held (arguments.sequence == held.number && uid == held.uid) e, refl)
 
--- what is not refused is answered by the reply that is held
+-- the reply to what is not refused is the one that is held
 pub dead_replays : (uid : ℕ) (arguments : SequenceArguments) (seat : Option Seat) → refusal_of (begin_dead uid arguments seat) ≡ None
     → (reply : List ℕ) × (begin_dead uid arguments seat ≡ Replays reply) × (reply_held arguments.slot seat ≡ Some reply)
 dead_replays uid arguments None e = absurd (cc)

@@ -43,7 +43,7 @@ two_head true b s t e = cc
 two_head false true s t e = cc
 two_head false false s t e = refl
 
--- where there is room, a serial is left
+-- if there is room, a serial is left
 pub serial_left : (client : Client) (table : Table) → first_refusal (room_refusals client table) ≡ None → table.session_serial < 2 ^ 64 - 1
 serial_left client table e =
     leb-false (2 ^ 64 - 1) table.session_serial

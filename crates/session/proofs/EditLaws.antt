@@ -1,4 +1,4 @@
--- What edits make of seats: none, and one of one session's seat.
+-- How edits change seats: none, and one of one session's seat.
 use Rattle.std.proofs.Common.{◌≡◌, ℕ, zero, suc, ◌<◌, Bool, true, false, cond, List, [], ◌∷◌, length, map, replicate, get_or, set, position, Option, None, Some, is_some, refl, sym, ap, ◌∙◌, subst, arith, bytes_eq}
 use Rattle.std.proofs.lemmas.Bool.{true≢false, false_from_ne_true, and_parts}
 use Rattle.std.proofs.lemmas.List.Quantifiers.{position-Some}
@@ -19,7 +19,7 @@ same_place (Holds slot held) place e = absurd (true≢false (sym e))
 cons_same : (a b : Option Seat) (xs ys : Seats) → a ≡ b → xs ≡ ys → (a ∷ xs) ≡ (b ∷ ys)
 cons_same a b xs ys e h = cc
 
--- where all stay, nothing changes
+-- if all stay, nothing changes
 pub idle : (edits : List SeatEdit) (seats : Seats) → all_stay edits ≡ true → edited_all edits seats ≡ seats
 idle [] seats e = refl
 idle (edit ∷ edits) [] e = refl
@@ -125,7 +125,7 @@ module _ (id : List ℕ) where
             none_placed seats (λ k d h. fails (suc k) d (omega arith))
             (sym (ap (λ (b : Bool). is_some (cond b (Some seat) (seat_of id seats))) (fails 0 None (omega arith))) ∙ has)
 
-  -- What becomes of it
+  -- Its result
 
   pub freed_one : (seats : Seats) → map (edited_if id Frees) seats ≡ freed (is_seat_of id) seats
   freed_one [] = refl

@@ -1,4 +1,4 @@
--- The clients that a session ends, told by their numbers.
+-- The clients that a session ends, given by their numbers.
 use Rattle.std.proofs.Common.{◌≡◌, ℕ, ◌<◌, not, ◌&&◌, ◌==◌, List, map, filter, length, get_or, refl, sym, ap, ◌∙◌}
 use Rattle.std.proofs.lemmas.List.{get_or_default}
 use Rattle.std.proofs.lemmas.Bool.{eqb-true, ne_eqb, eq-eqb}
@@ -17,7 +17,7 @@ number_of client = client.number
 pub one_client : (number : ℕ) (clients : List Client) → OneKey client_of number_of (is_client number) clients
 one_client number clients j k d within within' here here' = eqb-true _ _ here ∙ sym (eqb-true _ _ here')
 
--- of a record of the list, whether its number is among those that end tells whether it ends
+-- whether a record of the list ends is the same as whether its number is among those that end
 ends : (client : Known) (clients : List Client) → Rises number_of clients → (k : ℕ) (d : Client) → k < length clients
     → among (ended_by client (map client_of clients)) (get_or clients k d).number ≡ is_replaced_by client (client_of (get_or clients k d))
 ends client clients rises k d within =

@@ -30,7 +30,7 @@ any_filtered_cons : {A B : Type 0} (g : B → Bool) (f : A → B) (b : Bool) (x 
 any_filtered_cons g f true x xs rest e = ap (λ r. g (f x) || r) e
 any_filtered_cons g f false x xs rest e = e
 
--- whether something that the filter keeps passes
+-- whether something that the filter keeps passes the test
 pub any_filtered : {A B : Type 0} (g : B → Bool) (f : A → B) (p : A → Bool) (xs : List A) → list_any g (map f (filter p xs)) ≡ list_any (λ x. p x && g (f x)) xs
 any_filtered g f p [] = refl
 any_filtered g f p (x ∷ xs) = any_filtered_cons g f (p x) x (filter p xs) (list_any (λ y. p y && g (f y)) xs) (any_filtered g f p xs)
@@ -54,7 +54,7 @@ position-map p f xs =
     ap (λ n. cond (nat_lt n (length (map f xs))) (Some n) None) (prefix_len-map (λ y. not (p y)) f xs)
     ∙ ap (λ n. cond (nat_lt (position_or_len (λ x. p (f x)) xs) n) (Some (position_or_len (λ x. p (f x)) xs)) None) (length-map xs f)
 
--- Where no position is found
+-- If no position is found
 
 past_from : (n m : ℕ) (b : Bool) → nat_lt n m ≡ b → cond b (Some n) None ≡ None → b ≡ false
 past_from n m true e h = cc
@@ -118,7 +118,7 @@ changed_none_cons : {B : Type 0} (change : B → B) (z : B) (rest rest' : List B
 changed_none_cons change z rest rest' true fails e = cc
 changed_none_cons change z rest rest' false fails e = ap (λ l. z ∷ l) e
 
--- where none passes, nothing changes
+-- if none passes, nothing changes
 pub changed_none : {A B : Type 0} (f : A → B) (test : B → Bool) (change : B → B) (xs : List A) → ((k : ℕ) (d : A) → k < length xs → test (f (get_or xs k d)) ≡ false)
     → changed_where test change (map f xs) ≡ map f xs
 changed_none f test change [] fails = refl
@@ -159,7 +159,7 @@ none_pass : {A : Type 0} (q : A → Bool) (xs : List A) → ((k : ℕ) (d : A) �
 none_pass q [] fails = refl
 none_pass q (x ∷ xs) fails = false_or (q x) (list_any q xs) false (fails 0 x (omega arith)) (none_pass q xs (λ k d h. fails (suc k) d (omega arith)))
 
--- where no other element passes
+-- if no other element passes
 pub any_one : {A : Type 0} (q : A → Bool) (xs : List A) (i : ℕ) (d : A) → i < length xs → ((k : ℕ) (e : A) → k < length xs → (k ≡ i → ⊥) → q (get_or xs k e) ≡ false) → list_any q xs ≡ q (get_or xs i d)
 any_one q [] i d within others = absurd (omega arith)
 any_one q (x ∷ xs) zero d within others = or_same (q x) (list_any q xs) (none_pass q xs (λ k e h. others (suc k) e (omega arith) (λ same. omega arith)))

@@ -1,4 +1,4 @@
--- What a planned session makes of a table.
+-- How a planned session changes a table.
 use Rattle.std.proofs.Common.{◌≡◌, ℕ, ◌+◌, Bool, true, false, if◌then◌else◌, List, [], ◌∷◌, ◌++◌, replicate, Option, None, is_some, refl, sym, ap, ◌∙◌}
 use Rattle.model.specs.Operations.Operation.{Channel, CreateSessionArguments}
 use Rattle.model.specs.Operations.Answer.{CreateSessionAnswer}
@@ -9,7 +9,7 @@ use Rattle.session.specs.Limits.{served}
 use Rattle.session.specs.Seating.{place_for, seat_with, edits_with}
 use Rattle.session.proofs.Taking.{persists_is, seats_are}
 
--- what is answered, and the session, by the fore channel and whether there is a seat
+-- the result, and the session, by the fore channel and whether there is a seat
 abbrev pub answer_at : CreateSessionArguments → ℕ → ℕ → Bool → Channel → CreateSessionAnswer
 answer_at arguments serial number seated fore = record {
   session = session_id number (serial + 1);

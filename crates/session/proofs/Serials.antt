@@ -1,4 +1,4 @@
--- A session's id tells its serial.
+-- A session's id encodes its serial.
 use Rattle.std.proofs.Common.{◌≡◌, ℕ, ◌<◌, ◌≤◌, ◌^◌, true, List, get_or, sym, ◌∙◌, arith}
 use Rattle.std.proofs.lemmas.Slice.Eq.{bytes_eq-Decides}
 use Rattle.model.specs.Sessions.Session.{session_id, is_session}

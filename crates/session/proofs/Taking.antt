@@ -1,4 +1,4 @@
--- Where a new seat stands, once those that give way are freed.
+-- The place of a new seat, once those that give way are freed.
 use Rattle.std.proofs.Common.{◌≡◌, ℕ, zero, suc, ◌+◌, ◌<◌, ◌≤◌, Bool, true, false, cond, ◌&&◌, [], ◌∷◌, length, map, get_or, set, position, Option, None, Some, IfSome, is_some, refl, sym, ap, ◌∙◌, subst, arith}
 use Rattle.std.proofs.lemmas.Bool.{true≢false}
 use Rattle.std.proofs.lemmas.List.Quantifiers.{position-Some}
@@ -72,7 +72,7 @@ module _ (gone : Seat → Bool) where
         let at = position-Some (is_left_free gone) seats i None found in
         taking_there seats i at.0 at.1 at.2
 
-    -- they are given, where the new one is
+    -- they are given, if the new one is
     pub given_edited : (run serial : ℕ) (seats : Seats) (place : Option ℕ) → ((i : ℕ) → place ≡ Some i → position (is_left_free gone) seats ≡ Some i)
         → 1 ≤ run → run_of new.session ≡ run → serial_in new.session ≡ serial + 1 → AreGiven run serial seats → AreGiven run (serial + 1) (edited_all (edits_with gone place new seats) seats)
     given_edited run serial seats None found counted of_run next given =

@@ -1,4 +1,4 @@
--- What the calls on a table answer, and the table that they leave.
+-- What the calls on a table return, and the table that they leave.
 use Rattle.std.specs.Prelude.{◌≡◌, ℕ, ◌+◌, List, Some, Result, Ok, Err}
 use Rattle.std.specs.List.{find}
 use Rattle.model_tree.specs.declared.status.Status.{Status}
@@ -20,8 +20,8 @@ abbrev pub Refuses : NotDone → Type 0
 Refuses (refusal.Status reason) = IsRefusal reason
 Refuses refusal.Memory = Unit {0}
 
--- EXCHANGE_ID answers what is wanted, and leaves that table. For want of memory, which only a new
--- record has, the table stays.
+-- EXCHANGE_ID returns what it should, and leaves that table. If memory runs out, which happens only
+-- for a new record, the table stays.
 abbrev pub Exchanged : Result answer.ExchangeIdAnswer Status × model.Table → model.Table
     → model.Table → Result ExchangedId NotDone → Type 0
 Exchanged wanted old new (Ok known) = wanted ≡ (Ok (exchanged_answer new.settings.name known), new)
@@ -29,7 +29,7 @@ Exchanged wanted old new (Err (refusal.Status reason)) = wanted ≡ (Err reason,
 Exchanged wanted old new (Err refusal.Memory) =
     (wanted.1.client_serial ≡ old.client_serial + 1) × (new ≡ old)
 
--- what a SEQUENCE that runs answers, and by which client
+-- the result of a SEQUENCE that runs, and its client
 abbrev pub IsBegun : SequenceArguments → model.Session → ℕ → answer.SequenceAnswer → Type 0
 IsBegun arguments session client answered =
     (client ≡ session.client) × (answered ≡ sequence_answer arguments session)

@@ -1,5 +1,5 @@
 -- CREATE_SESSION, DESTROY_SESSION, and a reply that a seat is to hold, in two steps. The plan takes
--- all memory and says what becomes of the seats, so that the volume keeps them first; then the table
+-- all memory and says how the seats change, so that the volume keeps them first; then the table
 -- changes.
 use Rattle.std.specs.Prelude.{◌≡◌, ◌<◌, ℕ, ◌+◌, List, [], ◌∷◌, ◌++◌, None, Some, Result, Ok, Err, vec_len, vec_capacity}
 use Rattle.std.specs.List.{find}
@@ -43,7 +43,7 @@ pub record Opens (new old : model.Table) (plan : NewSession) : Type 0 where
   pub given : AreGiven old.run plan.session.serial (edited_all (edits_view plan.edits) old.seats)
   pub table : new ≡ opened client plan old
 
--- the plan is to do what is wanted
+-- the plan does what it should
 pub record IsPlanned (wanted : CreateSessionOutcome) (old : model.Table)
     (plan : NewSession) : Type 0 where
   pub answer : wanted.answer ≡ Ok (create_session_view plan.answer)
@@ -52,8 +52,8 @@ pub record IsPlanned (wanted : CreateSessionOutcome) (old : model.Table)
   pub edits : AreEdits old.run (edits_view plan.edits) old.seats
   pub opens : Opens wanted.table old plan
 
--- Where a kept result is answered again, or none is, the table is to stay. For want of memory, which
--- only a new session has, there is no plan.
+-- If a kept result is returned again, or there is none, the table is to stay. If memory runs out,
+-- which happens only for a new session, there is no plan.
 abbrev pub Plans : CreateSessionOutcome → model.Table → Result Creation NotDone → Type 0
 Plans wanted old (Ok (creation.Again answer)) =
     wanted ≡ record { answer = Ok (create_session_view answer); ended_clients = []; table = old }
@@ -69,7 +69,7 @@ abbrev pub HasRoomFor : Table → Creation → Type 0
 HasRoomFor table (creation.Again answer) = Unit {0}
 HasRoomFor table (creation.New plan) = HasRoom table
 
--- what is wanted is answered, and that table is left
+-- the result is the one that it should be, and that table is left
 abbrev pub Created : CreateSessionOutcome → model.Table → CreatedSession → Type 0
 Created wanted new created =
     (wanted.answer ≡ Ok (create_session_view created.answer))

@@ -1,4 +1,4 @@
--- What a new record or session finds where others give way to it.
+-- What a new record or session finds if others give way to it.
 use Rattle.std.specs.Prelude.{◌==◌, ◌≡◌, ◌<◌, ◌≤◌, ℕ, ◌+◌, ◌*◌, ◌-◌, ◌^◌, Bool, true, false, not, ◌&&◌, ◌||◌, if◌then◌else◌, nat_le, List, [], ◌∷◌, ◌++◌, length, map, filter, Option, None, Some, Result, Ok, Err}
 use Rattle.model_tree.specs.declared.status.Status.TheVariants as status
 use Rattle.model.specs.Operations.Operation.{ExchangeIdArguments, CreateSessionArguments}
@@ -22,8 +22,8 @@ abbrev pub is_yielded : Option ℕ → model.Client → Bool
 is_yielded None client = false
 is_yielded (Some number) client = is_unconfirmed_client number client
 
--- the record stays where a new one of the owner id is made, and the confirmed record `dropped` and
--- the unconfirmed one `yielded` go
+-- the record stays if a new one of the owner id is made, and the confirmed record `dropped` and the
+-- unconfirmed one `yielded` go
 abbrev pub stays : List ℕ → (dropped yielded : Option ℕ) → model.Client → Bool
 stays owner dropped yielded client =
     not (is_unconfirmed_of owner client) && not (is_dropped dropped client)
@@ -92,8 +92,8 @@ ended_by client clients = map (λ other. other.number) (filter (is_replaced_by c
 abbrev pub reclaimed : model.Client → model.Client
 reclaimed known = record known { has_reclaimed = true }
 
--- why CREATE_SESSION is refused where the record's next number is `next`: by its arguments, and
--- then for want of room
+-- why CREATE_SESSION fails if the record's next number is `next`: by its arguments, and then for
+-- lack of room
 abbrev pub argument_refusals : ℕ → CreateSessionArguments → Refusals
 argument_refusals next arguments =
     (not (arguments.sequence == next), status.SeqMisordered)

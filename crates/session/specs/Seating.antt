@@ -23,7 +23,7 @@ abbrev pub has_held_slot : ℕ → Option Seat → Bool
 has_held_slot place None = false
 has_held_slot place (Some seat) = nat_lt place (length seat.slots)
 
--- the edits change that one alone
+-- the edits change only that one
 pub record EditsOne (id : List ℕ) (edit : SeatEdit) (seats : Seats)
     (edits : List SeatEdit) : Type 0 where
   pub edited : edited_all edits seats ≡ map (edited_if id edit) seats
@@ -45,7 +45,7 @@ abbrev pub gives_way_if : (lacks : Bool) → Client → Table → Seat → Bool
 gives_way_if lacks client table seat =
     lacks && is_oldest_dead table seat || is_done_with client table seat
 
--- where the new session's seat will stand
+-- the place of the new session's seat
 abbrev pub place_for : (lacks : Bool) → CreateSessionArguments → Client → Table → Option ℕ
 place_for lacks arguments client table =
     if asks_seat arguments table

@@ -1,4 +1,4 @@
--- What the code's slots stand for.
+-- What the code's slots represent.
 use Rattle.std.specs.Prelude.{ℕ, List, Option, None, Some, Result, Ok, Err}
 use Rattle.model.specs.Sessions.Session as model
 use Rattle.model_tree.specs.declared.status.Status.{Status}

@@ -1,4 +1,4 @@
--- What the code's client records, sessions and tables stand for.
+-- What the code's client records, sessions and tables represent.
 use Rattle.std.specs.Prelude.{ℕ, Bool, List, map, Option, None, Some, ◌==◌}
 use Rattle.std.specs.List.{find, list_any}
 use Rattle.std.specs.Option.{option_map}
@@ -98,7 +98,7 @@ among numbers number = list_any (λ known. known == number) numbers
 abbrev pub session_reply : ℕ → model.Session → Option (List ℕ)
 session_reply place session = kept_reply (slot_at session place).state
 
--- of no session it is what a seat holds
+-- for no session it is what a seat holds
 abbrev pub kept_reply_in : List ℕ → ℕ → Seats → Option model.Session → Option (List ℕ)
 kept_reply_in id place seats None = reply_held place (seat_of id seats)
 kept_reply_in id place seats (Some session) = session_reply place session
@@ -106,11 +106,11 @@ kept_reply_in id place seats (Some session) = session_reply place session
 unfoldable pub reply_kept : List ℕ → ℕ → model.Table → Option (List ℕ)
 reply_kept id place table = kept_reply_in id place table.seats (find (is_session id) table.sessions)
 
--- the whole answer of EXCHANGE_ID, by a server of this name
+-- the whole result of EXCHANGE_ID, by a server of this name
 abbrev pub exchanged_answer : (name : List ℕ) → ExchangedId → ExchangeIdAnswer
 exchanged_answer name known = exchange_answer name known.client known.sequence known.flags
 
--- the table that a new record is made beside, where the record `dropped` goes
+-- the table that a new record is added to, if the record `dropped` goes
 abbrev pub cleared_of : Option ℕ → model.Table → model.Table
 cleared_of None table = table
 cleared_of (Some number) table = model.without_client number table

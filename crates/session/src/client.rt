@@ -16,7 +16,7 @@ pub struct Client {
     pub has_reclaimed: bool,
     pub sequence: u32,
     pub kept: Option<CreateSessionAnswer>,
-    // What a proof knows so of the number without a read.
+    // What a proof knows of the number without a read.
     ghost principal_fits: { principal < 2 ^ 32 },
     ghost owned: { length owner.items ≤ 1024 },
 }
@@ -50,8 +50,8 @@ impl Client {
         self.is_confirmed_of(&client.owner) && self.number != client.number
     }
 
-    /// Whether it stays where a new record of this owner id is made, and the record `dropped` and
-    /// the unconfirmed one `yielded` go.
+    /// Whether it stays if a new record of this owner id is made, and the record `dropped` and the
+    /// unconfirmed one `yielded` go.
     pub fn stays(&self, owner: &[u8], dropped: Option<u64>, yielded: Option<u64>) -> bool
         ensures { result ≡ stays owner.now dropped yielded (client_of self.now) }
     {
@@ -67,7 +67,7 @@ impl Client {
         !self.is_confirmed && self.stays(owner, dropped, None)
     }
 
-    /// The kept result, where a CREATE_SESSION of this number asks for it again.
+    /// The kept result, if a CREATE_SESSION of this number asks for it again.
     pub fn repeated(&self, sequence: u32) -> Option<CreateSessionAnswer>
         ensures { result
             ≡ (if next_number sequence == self.now.sequence then self.now.kept else None) }

@@ -17,7 +17,7 @@ pub struct Clients {
     pub run: u32,
     pub serial: u32,
     pub list: Vec<Client>,
-    // What a proof knows so of the numbers without a read.
+    // What a proof knows of the numbers without a read.
     ghost run_fits: { run < 2 ^ 32 },
     ghost serial_fits: { serial < 2 ^ 32 },
     ghost rising: { AllPairs (λ earlier later. earlier.number < later.number) list.items },
@@ -89,7 +89,7 @@ impl Clients {
         self.list.retain(|client| client.number != number);
     }
 
-    /// How many records stay where a new one of this owner id is made, and the record `dropped` and
+    /// How many records stay if a new one of this owner id is made, and the record `dropped` and
     /// the unconfirmed one `yielded` go.
     pub fn count_staying(&self, owner: &[u8], dropped: Option<u64>, yielded: Option<u64>) -> usize
         ensures { result ≡ length (records_staying owner.now dropped yielded
@@ -154,7 +154,7 @@ impl Clients {
         Ok(number)
     }
 
-    /// RECLAIM_COMPLETE was answered OK for this client.
+    /// RECLAIM_COMPLETE succeeded for this client.
     pub fn reclaim(&mut self, number: u64)
         ensures { roll_of self.new ≡ roll_with self.old
             (changed_where (is_client number) reclaimed (clients_of self.old)) }

@@ -33,9 +33,9 @@ impl Table {
     /// In this order: STALE_CLIENTID for an unknown client; CLID_INUSE for another principal's;
     /// SEQ_MISORDERED for a number other than the record's next, unless it is the one before and
     /// its result is kept; INVAL for a flag that may not be set; TOOSMALL for a fore channel below
-    /// the record size or without operations or requests; DELAY where a session that would end runs
-    /// a request, where the session would be the 33rd, or where no serial is left. `Memory` comes
-    /// only where a session would be made.
+    /// the record size or without operations or requests; DELAY if a session that would end runs a
+    /// request, if the session would be the 33rd, or if no serial is left. `Memory` is returned
+    /// only if a session would be made.
     pub fn plan_session(
         &mut self,
         uid: u32,
@@ -97,8 +97,8 @@ impl Table {
         Ok(Creation::New(plan))
     }
 
-    // DELAY where a session that would end runs a request, and where there is no place or no serial
-    // for one more.
+    // DELAY if a session that would end runs a request, or if there is no place or no serial for
+    // one more.
     fn check_room(&self, client: &Client) -> Result<(), Status>
         ensures first { result_err result
             ≡ first_refusal (room_refusals (client_of client.now) (table_of self.now)) }
@@ -131,7 +131,7 @@ impl Table {
         MAX_SESSIONS <= staying || self.sessions.serial == u64::MAX
     }
 
-    // The session of this client, where those of the ended clients give way to it.
+    // The session of this client, if those of the ended clients give way to it.
     fn plan_new(
         &self,
         client: &Client,
@@ -170,7 +170,7 @@ impl Table {
     }
 }
 
-// The tests of the arguments alone, where this is the record's next number.
+// The tests of just the arguments, given the record's next number.
 fn check_arguments(next: u32, arguments: &CreateSessionArguments<'_>) -> Result<(), Status>
     ensures first { result_err result
         ≡ first_refusal (argument_refusals next (create_session_view arguments.now)) }
@@ -197,7 +197,7 @@ fn is_too_small(fore: &Channel) -> bool
         || fore.max_requests == 0
 }
 
-// The fore channel that is answered, by whether the session has a seat.
+// The fore channel that is returned, by whether the session has a seat.
 fn fore_channel(asked: &Channel, has_seat: bool) -> Channel
     ensures { channel_view result
         ≡ fore_channel (limits_for served has_seat) (channel_view asked.now) }

@@ -19,11 +19,11 @@ use model_tree::status::Status;
 
 #[tactic(auto, unfolding(crate::specs::Views::table_of, model::specs::Sessions::Session::destroy_session, model::specs::Sessions::Session::destroy_client_id, model::specs::Sessions::Session::reclaim_complete))]
 impl Table {
-    /// What DESTROY_SESSION makes of the seats.
+    /// How DESTROY_SESSION changes the seats.
     ///
     /// # Errors
-    /// BADSESSION for a session that is unknown and has no seat; DELAY where a slot of it runs;
-    /// `Memory` only where neither is so.
+    /// BADSESSION for a session that is unknown and has no seat; DELAY if a slot of it runs;
+    /// `Memory` only if neither is so.
     pub fn plan_end(&self, id: &[u8; 16]) -> Result<SeatEdits, NotDone>
         ensures planned { PlansEnd id.now (table_of self.now) result }
         ensures refused { IfErr result Refuses }
@@ -50,8 +50,7 @@ impl Table {
         Ok(())
     }
 
-    /// DESTROY_SESSION, where it is not refused, with the edits that were planned. It takes no
-    /// memory.
+    /// DESTROY_SESSION, if it is not refused, with the edits that were planned. It takes no memory.
     pub fn end_session(&mut self, id: &[u8; 16], edits: SeatEdits)
         requires { edited_all (edits_view edits) (table_of self.old).seats
             ≡ freed (is_seat_of id.now) (table_of self.old).seats }
@@ -62,10 +61,10 @@ impl Table {
         edit_seats(&mut self.seats, edits);
     }
 
-    /// DESTROY_CLIENTID, where the clients of `with_opens` have opens.
+    /// DESTROY_CLIENTID, given that the clients of `with_opens` have opens.
     ///
     /// # Errors
-    /// STALE_CLIENTID for an unknown client; CLIENTID_BUSY where it has a session or an open.
+    /// STALE_CLIENTID for an unknown client; CLIENTID_BUSY if it has a session or an open.
     pub fn destroy_clientid(&mut self, number: u64, with_opens: &[u64]) -> Result<(), Status>
         ensures answered { destroy_client_id (among with_opens.now) number (table_of self.old)
             ≡ (result_err result, table_of self.new) }

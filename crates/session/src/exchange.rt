@@ -17,7 +17,7 @@ use model::not_done::NotDone;
 use model_tree::status::Status;
 use wire::{ExchangeIdAnswer, ExchangeIdArguments};
 
-/// What EXCHANGE_ID returns of a client's record. The rest of the answer is the server's name.
+/// What EXCHANGE_ID returns of a client's record. The rest of the result is the server's name.
 #[derive(Clone, Copy, PartialEq, Eq)]
 pub struct ExchangedId {
     pub client: u64,
@@ -26,13 +26,13 @@ pub struct ExchangedId {
 }
 
 impl Table {
-    /// EXCHANGE_ID by this uid, where the clients of `with_opens` have opens.
+    /// EXCHANGE_ID by this uid, given that the clients of `with_opens` have opens.
     ///
     /// # Errors
-    /// INVAL where a flag is set that may not be; CLID_INUSE where the owner id's confirmed record
-    /// is another principal's and has a session or an open; DELAY where no serial is left, or the
-    /// new record would be the 65th and no unconfirmed one gives way to it. `Memory` leaves the
-    /// table as it was, and comes only where a record would be made.
+    /// INVAL if a flag is set that may not be; CLID_INUSE if the owner id's confirmed record is
+    /// another principal's and has a session or an open; DELAY if no serial is left, or the new
+    /// record would be the 65th and no unconfirmed one gives way to it. `Memory` leaves the table
+    /// as it was, and is returned only if a record would be made.
     pub fn exchange_id(
         &mut self,
         uid: u32,
@@ -101,7 +101,7 @@ impl Table {
         }
     }
 
-    /// The whole answer of EXCHANGE_ID, with the server's name.
+    /// The whole result of EXCHANGE_ID, with the server's name.
     #[tactic(auto, unfolding(crate::specs::Views::table_of))]
     pub fn identity_answer(&self, exchanged: ExchangedId) -> ExchangeIdAnswer<'_>
         ensures answer { answer_view result

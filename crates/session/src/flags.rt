@@ -17,7 +17,7 @@ bitflag_items! {
         const USE_NON_PNFS = 0x10000;
         const USE_PNFS_MDS = 0x20000;
         const USE_PNFS_DS = 0x40000;
-        /// Of an answer alone: the client's record is confirmed.
+        /// Only in a result: the client's record is confirmed.
         const CONFIRMED = 0x80000000;
     }
 }

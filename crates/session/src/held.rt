@@ -3,7 +3,7 @@
 ghost use Rattle.std.specs.Prelude.{◌≤◌, length};
 ghost use Rattle.session.specs.declared.limits.TheConstants.{MAX_RECORD_BYTES};
 
-/// A whole COMPOUND result, of at most as many bytes as a record has.
+/// A whole COMPOUND result, of at most the number of bytes that a record has.
 #[derive(Drop)]
 pub struct KeptReply {
     pub bytes: Vec<u8>,

@@ -4,7 +4,7 @@ use crate::session::Session;
 use model_tree::seats::SeatEdits;
 use wire::CreateSessionAnswer;
 
-/// What CREATE_SESSION answers, and the clients that ended with it: their opens are to end.
+/// The result of CREATE_SESSION, and the clients that ended with it: their opens are to end.
 #[derive(Drop)]
 pub struct CreatedSession {
     pub answer: CreateSessionAnswer,
@@ -16,7 +16,7 @@ pub struct CreatedSession {
 pub struct NewSession {
     pub answer: CreateSessionAnswer,
     pub ended: Vec<u64>,
-    /// What becomes of the seats.
+    /// How the seats change.
     pub edits: SeatEdits,
     pub(crate) session: Session,
 }
@@ -24,7 +24,7 @@ pub struct NewSession {
 /// What a CREATE_SESSION that is not refused does.
 #[derive(Drop)]
 pub enum Creation {
-    /// The kept result is answered again, and nothing changes.
+    /// The kept result is returned again, and nothing changes.
     Again(CreateSessionAnswer),
     /// `Table::add_session` makes the session.
     New(NewSession),

@@ -43,7 +43,7 @@ impl Table {
     }
 
     /// The slot keeps the reply, whatever it held, and the memory of the reply before comes back.
-    /// Where no session has this id, or the session no such slot, nothing changes, and the reply's
+    /// If no session has this id, or the session has no such slot, nothing changes, and the reply's
     /// own comes back. No seat holds the reply: for that there is `finish_held`.
     pub fn finish(&mut self, id: &[u8; 16], slot: u32, reply: Vec<u8>) -> Option<Vec<u8>>
         requires { length reply.items ≤ MAX_RECORD_BYTES }
@@ -52,8 +52,8 @@ impl Table {
         self.sessions.keep(id, slot, reply)
     }
 
-    /// What a reply makes of the session's seat, which is to hold it. Where the session has no seat,
-    /// or the seat no such slot, each place stays.
+    /// The edits that make the session's seat hold a reply. If the session has no seat, or the seat
+    /// no such slot, each place stays.
     pub fn plan_hold(&self, id: &[u8; 16], slot: u32, reply: &[u8]) -> Result<SeatEdits, AllocError>
         requires { length reply.now ≤ 16360 }
         ensures { IfOk result (IsHoldPlanned id.now slot reply.now (table_of self.now)) }

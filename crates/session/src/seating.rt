@@ -1,4 +1,4 @@
-//! Which seats change where a session is made or ends, and where a reply is held (RFC 8881, section
+//! Which seats change when a session is made or ends, and when a reply is held (RFC 8881, section
 //! 2.10.6.5).
 
 ghost use Rattle.std.specs.Prelude.{◌≡◌, ◌≤◌, ◌<◌, map, position, replicate, None, Some, IfSome, IfOk};
@@ -111,7 +111,7 @@ impl Table {
             && self.first_left_free(client, false).is_none()
     }
 
-    // Whether this is a session that stays where one of the client is made.
+    // Whether this is a session that stays if one of the client is made.
     fn is_staying(&self, client: &Client, id: &[u8; 16]) -> bool
         ensures { result ≡ list_any (is_session id.now)
             (staying (client_of client.now) (table_of self.now)) }
@@ -158,8 +158,8 @@ impl Table {
         }
     }
 
-    /// What becomes of the seats where the client gets a session of this id and of so many slots,
-    /// whose seat is to stand at `place`.
+    /// How the seats change if the client gets a session of this id with `slots` slots, whose seat
+    /// is to be at `place`.
     pub(crate) fn plan_seats(
         &self,
         client: &Client,
@@ -206,7 +206,7 @@ impl Table {
         }
     }
 
-    /// This edit of the session's seat, and no other. Where it has none each place stays.
+    /// This edit of the session's seat, and no other. If it has none, each place stays.
     pub(crate) fn edit_seat(&self, id: &[u8; 16], edit: SeatEdit) -> Result<SeatEdits, AllocError>
         requires { (seat : KnownSeat) → seat_of id.now (table_of self.now).seats ≡ Some seat
             → CanEdit (edit_view edit) (Some seat) }

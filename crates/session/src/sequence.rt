@@ -19,10 +19,10 @@ use wire::{SequenceAnswer, SequenceArguments};
 /// What a SEQUENCE that is not refused does.
 #[derive(Clone, Copy, PartialEq, Eq)]
 pub enum Begun {
-    /// The request is a retry: the reply that is kept answers it, which `Table::kept` gives.
+    /// The request is a retry: its reply is the kept one, which `Table::kept` gives.
     Replays,
     /// The slot runs the request, of the session of this client. `Table::finish` ends it, or
-    /// `Table::finish_held` where the session has a seat.
+    /// `Table::finish_held` if the session has a seat.
     Runs { client: u64, answer: SequenceAnswer },
 }
 
@@ -68,7 +68,7 @@ impl Table {
         Ok(Begun::Runs { client, answer })
     }
 
-    // Why SEQUENCE is refused on a session that is none of this run's. What its seat holds is given
+    // Why SEQUENCE fails on a session that is none of this run's. What its seat holds is returned
     // to the held number by the held uid.
     #[tactic(auto, unfolding(crate::specs::Views::table_of))]
     fn check_dead(&self, uid: u32, arguments: &SequenceArguments) -> Result<(), Status>

@@ -144,8 +144,8 @@ impl Session {
         }
     }
 
-    /// The slot keeps the reply to what it ran, and gives back the memory of the one before. Where
-    /// there is no such slot the session stays, and the reply's own comes back.
+    /// The slot keeps the reply to what it ran, and gives back the memory of the one before. If
+    /// there is no such slot, the session stays, and the reply's own comes back.
     pub fn keep(&mut self, slot: u32, reply: Vec<u8>) -> Option<Vec<u8>>
         requires small { length reply.items ≤ MAX_RECORD_BYTES }
         ensures { session_of self.new ≡ finished_slot slot reply.items (session_of self.old) }
@@ -167,7 +167,7 @@ impl Session {
         self.slots.get(slot as usize)?.kept()
     }
 
-    /// The number of the slot's last request and its uid. Where there is no such slot both are 0.
+    /// The number of the slot's last request and its uid. If there is no such slot, both are 0.
     pub fn last(&self, slot: u32) -> (u32, u32)
         ensures { result ≡ (
           (slot_at (session_of self.now) slot).last,

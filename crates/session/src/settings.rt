@@ -93,7 +93,7 @@ impl ServerName {
         self.bytes.as_slice()
     }
 
-    /// The same name once more.
+    /// A copy of the name.
     ///
     /// # Errors
     /// Only for memory.
@@ -110,7 +110,7 @@ impl Settings {
     ghost use Rattle.std.specs.Prelude.{◌≡◌, IfOk};
     ghost use Rattle.session.specs.Views.{settings_of};
 
-    /// The same settings once more.
+    /// A copy of the settings.
     ///
     /// # Errors
     /// Only for memory.

@@ -13,7 +13,7 @@ use std::mem;
 #[derive(Drop)]
 pub enum SlotState {
     Free,
-    /// The memory of the reply before stays, and goes back where this one's is kept.
+    /// The memory of the reply before stays, and is given back when this one's is kept.
     Running(Option<Vec<u8>>),
     Kept(KeptReply),
 }
@@ -29,7 +29,7 @@ pub struct Slot {
 /// What a slot does with a request.
 #[derive(Clone, Copy, PartialEq, Eq)]
 pub enum Next {
-    /// The request is a retry, answered by the kept reply.
+    /// The request is a retry, whose reply is the kept one.
     Replays,
     /// The slot runs it.
     Runs,
@@ -91,7 +91,7 @@ impl Slot {
     }
 }
 
-/// The memory of a reply, where the slot has any.
+/// The memory of a reply, if the slot has any.
 fn memory_of(state: SlotState) -> Option<Vec<u8>> {
     match state {
         SlotState::Free => None,

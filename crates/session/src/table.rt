@@ -1,4 +1,4 @@
-//! What a server knows of its clients in one run, beside the seats of its volume.
+//! What a server knows of its clients in one run, apart from the seats of its volume.
 
 ghost use Rattle.std.specs.Prelude.{◌≤◌};
 ghost use Rattle.model_tree.specs.Seats.SeatViews.{seats_view};

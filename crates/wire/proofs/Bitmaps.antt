@@ -27,7 +27,7 @@ pub trimmed_is : (words : List ℕ) → is_trimmed (trimmed words) ≡ true
 trimmed_is [] = refl
 trimmed_is (word ∷ words) = more_trimmed word (trimmed words) (trimmed_is words)
 
--- A bitmap has no zero word at its end where it is empty, or its last word is another number.
+-- A bitmap has no zero word at its end if it is empty or its last word is another number.
 
 -- of n or the last word
 by_last : (n : ℕ) (words : List ℕ) → is_trimmed (n ∷ words) ≡ not (eqb (get_or (n ∷ words) (length words) 0) 0)

@@ -189,7 +189,7 @@ pub argument_exact : Exact argument
 unfolding arguments_at
 argument_exact = union_exact argument_told arguments_at argument_takes argument_again
 
--- a reader that gives what is read takes exactly its spellings
+-- a reader that gives what is read takes exactly its encodings
 pub argument_accepted : (old new : List ℕ) (result : Result Argument' Refusal) → IsBytes old → ReadsBy argument_view argument.read old new result → Accepts argument_view argument old new result
 argument_accepted old new result bytes reads = accepts argument_view argument argument_exact old new result bytes reads
 

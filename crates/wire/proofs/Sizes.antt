@@ -1,4 +1,4 @@
--- How long spellings are.
+-- How long encodings are.
 use Rattle.std.proofs.Common.{◌≡◌, ℕ, ◌+◌, ◌<◌, ◌==◌, Bool, true, false, cond, List, [], ◌∷◌, ◌++◌, length, take, drop, get_or, ◌≤◌, None, Some, sym, ap, ◌∙◌, arith}
 use Rattle.std.specs.Int.{w32, w64}
 use Rattle.std.proofs.lemmas.List.{length-append}
@@ -68,7 +68,7 @@ pub create_session_length : (a : CreateSessionAnswer) (m n : ℕ) → length a.s
 create_session_length a m n len is_m is_n =
     rw (is_m, is_n) (sym (with_session a.session (channel.spelling (channel_view a.fore)) (channel.spelling (channel_view a.back)) a.sequence a.flags len))
 
--- what follows a refusal
+-- what follows an error
 behind_short : (b : Bool) → length (cond b (number w32 0) []) ≤ 4
 behind_short true = omega (arith, length-number_32 0)
 behind_short false = omega arith

@@ -1,4 +1,5 @@
--- The writes of a function, one after the other, as its steps tell of them: with `writes`, `search` finds the steps.
+-- The writes of a function, one after the other, as its steps give them: with `writes`, `search`
+-- finds the steps.
 use Rattle.std.proofs.Common.{◌≡◌, List, ℕ, ◌++◌, Result, Continue, Break, ap, subst, ◌∙◌}
 use Rattle.std.specs.Result.{IsErrAnd, result_from_control_flow}
 use Rattle.xdr.specs.declared.refusal.Refusal.{Refusal}

@@ -34,7 +34,7 @@ open_view a = record {
   was_set = a.was_set;
 }
 
--- what is spelled after the change
+-- what is encoded after the change
 abbrev pub open_rest : OpenAnswer → List ℕ
 open_rest a =
     (unsigned_int & trimmed_bitmap & always 0 unsigned_int).spelling (a.flags, (a.was_set, tt))
@@ -49,7 +49,7 @@ entry_view e = record {
   attributes = attributes_view e.attributes;
 }
 
--- the lengths of its name and of its attributes' values have a spelling
+-- the lengths of its name and of its attributes' values can be encoded
 abbrev pub EntryFits : Entry → Type 0
 EntryFits e = (length e.name.now < 2 ^ 32) × (length e.attributes.values.now < 2 ^ 32)
 
@@ -81,7 +81,7 @@ exchange_id_view a = record {
   scope = a.scope.now;
 }
 
--- what is spelled after the flags, and after the minor id
+-- what is encoded after the flags, and after the minor id
 abbrev pub exchange_id_names : ExchangeIdAnswer → List ℕ
 exchange_id_names a =
     (any_opaque & any_opaque & always 0 unsigned_int).spelling (a.major_id.now, (a.scope.now, tt))

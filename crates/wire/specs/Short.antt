@@ -1,4 +1,4 @@
--- Results whose spelling is short.
+-- Results whose encoding is short.
 use Rattle.std.specs.Prelude.{◌≢◌, ◌≤◌, IsTrue, length}
 use Rattle.xdr.specs.Forms.{is_trimmed}
 use Rattle.model_tree.specs.declared.status.Status.{Status}
@@ -9,8 +9,8 @@ use Rattle.model.specs.Operations.Answer as spec
 abbrev pub IsRefusal : Status → Type 0
 IsRefusal reason = code_of reason ≢ 0
 
--- What the types of the fields do not tell. GETATTR, READ, READDIR and EXCHANGE_ID answer what may
--- be long.
+-- What the types of the fields do not say. The results of GETATTR, READ, READDIR and EXCHANGE_ID
+-- may be long.
 abbrev pub IsShortAnswer : spec.Answer → Type 0
 IsShortAnswer (spec.Answer.Access a) = Unit {0}
 IsShortAnswer (spec.Answer.Close a) = Unit {0}

@@ -1,4 +1,4 @@
-//! Results of the operations, where they ended well (RFC 8881, section 18).
+//! Results of the operations that succeeded (RFC 8881, section 18).
 
 ghost use Rattle.std.specs.Prelude.{◌<◌, ◌^◌, length, All};
 ghost use Rattle.xdr.specs.Clauses.{Wrote};
@@ -16,7 +16,7 @@ pub struct AccessAnswer {
 }
 
 impl AccessAnswer {
-    /// Writes it. A refusal may leave a front of it.
+    /// Writes it. On an error a prefix of it may have been written.
     pub(crate) fn write(&self, w: &mut Writer) -> Result<(), Refusal>
         ensures { Wrote w.old w.new result (access_answer.spelling (access_view self.now)) }
     {
@@ -33,7 +33,7 @@ pub struct CreateAnswer {
 }
 
 impl CreateAnswer {
-    /// Writes it. A refusal may leave a front of it.
+    /// Writes it. On an error a prefix of it may have been written.
     pub(crate) fn write(&self, w: &mut Writer) -> Result<(), Refusal>
         ensures { Wrote w.old w.new result (create_answer.spelling (create_view self.now)) }
     {
@@ -52,7 +52,7 @@ pub struct OpenAnswer {
 }
 
 impl OpenAnswer {
-    /// Writes it. A refusal may leave a front of it.
+    /// Writes it. On an error a prefix of it may have been written.
     pub(crate) fn write(&self, w: &mut Writer) -> Result<(), Refusal>
         ensures { Wrote w.old w.new result (open_answer.spelling (open_view self.now)) }
     {
@@ -78,7 +78,7 @@ pub struct ReadAnswer<'a> {
 }
 
 impl ReadAnswer<'_> {
-    /// Writes it. A refusal may leave a front of it.
+    /// Writes it. On an error a prefix of it may have been written.
     pub(crate) fn write(&self, w: &mut Writer) -> Result<(), Refusal>
         requires { length self.now.data.now < 2 ^ 32 }
         ensures { Wrote w.old w.new result (read_answer.spelling (read_view self.now)) }
@@ -97,7 +97,7 @@ pub struct Entry<'a> {
 }
 
 impl Entry<'_> {
-    /// Writes it. A refusal may leave a front of it.
+    /// Writes it. On an error a prefix of it may have been written.
     pub(crate) fn write(&self, w: &mut Writer) -> Result<(), Refusal>
         requires { EntryFits self.now }
         ensures { Wrote w.old w.new result (entry.spelling (entry_view self.now)) }
@@ -116,7 +116,7 @@ pub struct ReadDirAnswer<'a> {
 }
 
 impl ReadDirAnswer<'_> {
-    /// Writes it. A refusal may leave a front of it.
+    /// Writes it. On an error a prefix of it may have been written.
     #[tactic(auto, using(xdr::proofs::Writing::wrote_on, xdr::proofs::Writing::wrote_exit, xdr::proofs::Writing::wrote_end))]
     pub(crate) fn write(&self, w: &mut Writer) -> Result<(), Refusal>
         requires { All EntryFits self.now.entries.items }
@@ -163,7 +163,7 @@ pub struct RenameAnswer {
 }
 
 impl RenameAnswer {
-    /// Writes it. A refusal may leave a front of it.
+    /// Writes it. On an error a prefix of it may have been written.
     pub(crate) fn write(&self, w: &mut Writer) -> Result<(), Refusal>
         ensures { Wrote w.old w.new result (rename_answer.spelling (rename_view self.now)) }
     {
@@ -181,7 +181,7 @@ pub struct WriteAnswer {
 }
 
 impl WriteAnswer {
-    /// Writes it. A refusal may leave a front of it.
+    /// Writes it. On an error a prefix of it may have been written.
     pub(crate) fn write(&self, w: &mut Writer) -> Result<(), Refusal>
         ensures { Wrote w.old w.new result (write_answer.spelling (write_view self.now)) }
     {
@@ -202,7 +202,7 @@ pub struct ExchangeIdAnswer<'a> {
 }
 
 impl ExchangeIdAnswer<'_> {
-    /// Writes it. A refusal may leave a front of it.
+    /// Writes it. On an error a prefix of it may have been written.
     pub fn write(&self, w: &mut Writer) -> Result<(), Refusal>
         requires { (length self.now.major_id.now < 2 ^ 32) × (length self.now.scope.now < 2 ^ 32) }
         ensures { Wrote w.old w.new result
@@ -244,7 +244,7 @@ pub struct CreateSessionAnswer {
 }
 
 impl CreateSessionAnswer {
-    /// Writes it. A refusal may leave a front of it.
+    /// Writes it. On an error a prefix of it may have been written.
     pub(crate) fn write(&self, w: &mut Writer) -> Result<(), Refusal>
         ensures { Wrote w.old w.new result
             (create_session_answer.spelling (create_session_view self.now)) }
@@ -275,7 +275,7 @@ pub struct SequenceAnswer {
 }
 
 impl SequenceAnswer {
-    /// Writes it. A refusal may leave a front of it.
+    /// Writes it. On an error a prefix of it may have been written.
     pub(crate) fn write(&self, w: &mut Writer) -> Result<(), Refusal>
         ensures { Wrote w.old w.new result (sequence_answer.spelling (sequence_view self.now)) }
     {

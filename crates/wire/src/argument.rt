@@ -240,8 +240,8 @@ impl<'a> Argument<'a> {
 
     /// Reads an operation's number and its arguments.
     ///
-    /// What is read is exactly its spelling; a refusal other than `Memory` comes only where no
-    /// front of the bytes is one.
+    /// What is read is exactly its encoding; an error other than `Memory` is returned only if no
+    /// prefix of the bytes is one.
     #[tactic(auto, using(crate::proofs::ExactArguments::argument_accepted))]
     pub fn read_numbered(alloc: Global, r: &mut Reader<'a>) -> Result<Argument<'a>, Refusal>
         ensures accepts { Accepts argument_view argument r.old r.new result }

@@ -1,4 +1,4 @@
-//! What CREATE answers (RFC 8881, section 18.4).
+//! The result of CREATE (RFC 8881, section 18.4).
 
 ghost use Rattle.std.specs.Prelude.{◌≡◌, ◌≤◌, IsTrue, length};
 ghost use Rattle.xdr.specs.Forms.{is_trimmed};
@@ -11,7 +11,7 @@ use crate::small::{Bitmap, ChangeInfo, trimmed};
 use xdr::Words;
 
 impl CreateAnswer {
-    /// The directory's change, where each of the given attributes was set.
+    /// The directory's change, if each of the given attributes was set.
     #[tactic(auto, using(crate::proofs::Bitmaps::trimmed_is))]
     pub fn new(change: ChangeInfo, given: &Bitmap) -> CreateAnswer
         ensures answered { create_view result

@@ -62,7 +62,7 @@ impl<'a> RenameArguments<'a> {
 /// The number of NF4DIR among the types of `nfs_ftype4`.
 const DIRECTORY: u32 = 2;
 
-/// `CREATE4args`: of a type other than NF4DIR nothing that follows is looked at.
+/// `CREATE4args`: of a type other than NF4DIR nothing that follows is read.
 #[derive(Drop)]
 pub enum CreateArguments<'a> {
     NewDirectory {

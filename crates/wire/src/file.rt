@@ -75,7 +75,7 @@ impl ReadArguments {
     }
 }
 
-/// `stable_how4`: what of a WRITE is to be on the device before its answer.
+/// `stable_how4`: what of a WRITE must be on the device before its reply.
 #[derive(Clone, Copy, PartialEq, Eq)]
 pub enum StableHow {
     /// UNSTABLE4: nothing; the bytes may be lost until the next COMMIT.
@@ -101,7 +101,7 @@ impl StableHow {
         Ok(how)
     }
 
-    /// Writes it. A refusal may leave a front of it.
+    /// Writes it. On an error a prefix of it may have been written.
     pub fn write(self, w: &mut Writer) -> Result<(), Refusal>
         ensures { Wrote w.old w.new result ((below 3).spelling (stable_number self)) }
     {

@@ -185,7 +185,7 @@ impl Answer<'_> {
 }
 
 impl<'a> Outcome<'a> {
-    /// The result OK of an operation whose answer is short: it fits its grammar, and takes at most
+    /// The result OK of an operation whose result is short: it fits its grammar, and takes at most
     /// 256 bytes.
     pub fn short(answer: Answer<'a>) -> Outcome<'a>
         requires { IsShortAnswer (answer_view answer) }
@@ -197,8 +197,7 @@ impl<'a> Outcome<'a> {
         Outcome::Done(answer)
     }
 
-    /// The result of an operation that is refused: it fits its grammar, and takes at most 256
-    /// bytes.
+    /// The result of an operation that failed: it fits its grammar, and takes at most 256 bytes.
     pub fn refused(operation: Operation, status: Status) -> Outcome<'a>
         requires { IsRefusal status }
         ensures is { result ≡ outcomes.Refused (number_of operation) status }

@@ -1,5 +1,5 @@
-//! The laws of the grammars: each is exact, and so one value has one spelling and no spelling
-//! begins another.
+//! The laws of the grammars: each is exact, and so one value has one encoding and no encoding is a
+//! prefix of another.
 
 ghost use Rattle.xdr.specs.Laws.{Exact, OneSpelling};
 ghost use Rattle.model.specs.Wire.WireArguments.{argument};
@@ -12,7 +12,7 @@ pub fn arguments_are_exact()
     ensures one { OneSpelling argument }
 {}
 
-/// A result of an operation, whether it ended well or was refused.
+/// A result of an operation, whether it succeeded or failed.
 #[tactic(auto, using(model::proofs::Wire::ExactAnswers::outcome_exact, model::proofs::Wire::ExactAnswers::one_outcome))]
 pub fn outcomes_are_exact()
     ensures exact { Exact outcome }

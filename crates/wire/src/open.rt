@@ -8,7 +8,7 @@ ghost use Rattle.wire.specs.ArgumentViews.{claim_view, exclusive_number, opening
 use crate::small::{ANY_LENGTH, Attributes, MAX_OWNER_BYTES};
 use xdr::{Reader, Refusal};
 
-/// `openflag4`, with `createhow4` where a file may be made.
+/// `openflag4`, with `createhow4` if a file may be created.
 #[derive(Drop)]
 pub enum OpenType<'a> {
     NoCreate,
@@ -16,7 +16,7 @@ pub enum OpenType<'a> {
     Guarded(Attributes<'a>),
 }
 
-/// `open_claim4`: of a claim other than these two nothing that follows is looked at.
+/// `open_claim4`: of a claim other than these two nothing that follows is read.
 #[derive(Clone, Copy, PartialEq, Eq)]
 pub enum Claim<'a> {
     /// CLAIM_NULL: a name in the current directory.
@@ -63,8 +63,8 @@ impl ExclusiveCreate {
     }
 }
 
-/// How a file is opened. At an exclusive create nothing that follows is looked at, the claim
-/// neither.
+/// How a file is opened. After an exclusive create nothing that follows is read, not even the
+/// claim.
 #[derive(Drop)]
 pub enum Opening<'a> {
     Opens { how: OpenType<'a>, claim: Claim<'a> },

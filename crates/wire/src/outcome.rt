@@ -15,7 +15,7 @@ use crate::small::{Attributes, Bitmap, ChangeInfo, StateId};
 use model_tree::status::Status;
 use xdr::{Refusal, Writer};
 
-/// What an operation answers where its status is OK.
+/// The result of an operation whose status is OK.
 #[derive(Drop)]
 pub enum Answer<'a> {
     Access(AccessAnswer),
@@ -46,7 +46,7 @@ pub enum Answer<'a> {
 }
 
 impl Answer<'_> {
-    /// The operation that answers so.
+    /// The operation whose result it is.
     pub fn operation(&self) -> Operation
         ensures { number_of result ≡ (answer_told (answer_view self.now)).number }
     {
@@ -79,7 +79,7 @@ impl Answer<'_> {
         }
     }
 
-    /// Writes the values after the status. A refusal may leave a front of them.
+    /// Writes the values after the status. On an error a prefix of them may have been written.
     #[tactic(auto, using(xdr::proofs::Writing::wrote_nothing))]
     fn write(&self, w: &mut Writer) -> Result<(), Refusal>
         requires { (answer_told (answer_view self.now)).Fits }
@@ -119,8 +119,8 @@ impl Answer<'_> {
 #[derive(Drop)]
 pub enum Outcome<'a> {
     Done(Answer<'a>),
-    /// The status is not OK. The number is that of the operation, or 10044 where the operation is
-    /// none (section 15.2).
+    /// The status is not OK. The number is that of the operation, or 10044 if the operation is none
+    /// (section 15.2).
     Refused { operation: u32, status: Status },
 }
 
@@ -164,7 +164,7 @@ fn write_refused(operation: u32, status: Status, w: &mut Writer) -> Result<(), R
     write_behind_refusal(operation, w)
 }
 
-/// After a refused SETATTR an empty bitmap stands (RFC 8881, section 18.30).
+/// After the status of a failed SETATTR there is an empty bitmap (RFC 8881, section 18.30).
 #[tactic(auto, using(xdr::proofs::Writing::wrote_nothing))]
 fn write_behind_refusal(operation: u32, w: &mut Writer) -> Result<(), Refusal>
     ensures { Wrote w.old w.new result (behind_refusal operation) }

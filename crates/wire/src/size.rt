@@ -51,7 +51,7 @@ impl Entry<'_> {
     }
 }
 
-/// How many bytes entries take, with the truth values round them.
+/// How many bytes entries take, with the truth values around them.
 #[tactic(auto, using(crate::proofs::Sizes::chain_length))]
 fn entries_size(entries: &[Entry<'_>]) -> usize
     requires fits { All EntryFits entries.now }

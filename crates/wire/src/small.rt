@@ -74,7 +74,7 @@ impl StateId {
         Ok(StateId { seqid, other })
     }
 
-    /// Writes it. A refusal may leave a front of it.
+    /// Writes it. On an error a prefix of it may have been written.
     pub fn write(&self, w: &mut Writer) -> Result<(), Refusal>
         ensures { Wrote w.old w.new result (state_id.spelling (state_view self.now)) }
     {
@@ -83,7 +83,7 @@ impl StateId {
     }
 }
 
-/// `fattr4`: which attributes, and their values by rising number, spelled one after the other.
+/// `fattr4`: which attributes, and their values by rising number, encoded one after the other.
 #[derive(Drop)]
 pub struct Attributes<'a> {
     pub bitmap: Bitmap,
@@ -102,7 +102,7 @@ impl<'a> Attributes<'a> {
         Ok(Attributes { bitmap, values })
     }
 
-    /// Writes it. A refusal may leave a front of it.
+    /// Writes it. On an error a prefix of it may have been written.
     pub fn write(&self, w: &mut Writer) -> Result<(), Refusal>
         requires { length self.now.values.now < 2 ^ 32 }
         ensures { Wrote w.old w.new result (attributes.spelling (attributes_view self.now)) }
@@ -121,7 +121,7 @@ pub struct ChangeInfo {
 }
 
 impl ChangeInfo {
-    /// Writes it. A refusal may leave a front of it.
+    /// Writes it. On an error a prefix of it may have been written.
     pub(crate) fn write(&self, w: &mut Writer) -> Result<(), Refusal>
         ensures { Wrote w.old w.new result (change_info.spelling (change_view self.now)) }
     {
@@ -168,7 +168,7 @@ impl Channel {
         })
     }
 
-    /// Writes it. A refusal may leave a front of it.
+    /// Writes it. On an error a prefix of it may have been written.
     pub fn write(&self, w: &mut Writer) -> Result<(), Refusal>
         ensures { Wrote w.old w.new result (channel.spelling (channel_view self.now)) }
     {
@@ -219,7 +219,7 @@ fn write_ird(w: &mut Writer, ird: Option<u32>) -> Result<(), Refusal>
 pub struct Implementation<'a> {
     pub domain: &'a [u8],
     pub name: &'a [u8],
-    /// As the number that their eight bytes spell.
+    /// As the number that their eight bytes encode.
     pub seconds: u64,
     pub nanoseconds: u32,
 }

@@ -1,4 +1,4 @@
--- What is answered of a node's attributes, and how long it is.
+-- What is returned of a node's attributes, and how long it is.
 use Rattle.std.proofs.Common.{◌≡◌, ℕ, Bool, true, false, cond, ◌+◌, ◌*◌, ◌%◌, List, [], ◌∷◌, ◌++◌, length, map, replicate, refl, sym, ap, subst, ◌∙◌, arith}
 use Rattle.std.specs.Prelude.{Result}
 use Rattle.std.specs.Int.{w32}
@@ -47,7 +47,7 @@ same_number node attribute.OwnerGroup = refl
 same_number node attribute.TimeModify = refl
 same_number node attribute.SuppattrExclcreat = refl
 
--- bytes that need none after them are spelled after their length as they are
+-- bytes that need none after them are encoded after their length as they are
 pub counted_whole : (bytes : List ℕ) → length bytes % 4 ≡ 0 → counted bytes ≡ number w32 (length bytes) ++ bytes
 unfolding counted padded
 counted_whole bytes whole =
@@ -55,7 +55,7 @@ counted_whole bytes whole =
     ap (λ n. number w32 (length bytes) ++ (bytes ++ replicate n 0)) none ∙ ap (λ l. number w32 (length bytes) ++ l) (append-nil bytes)
 
 module _ (node : NodeAttributes) (bitmap : List ℕ) where
-  -- the texts of those that are asked are the spelling of the values that are asked
+  -- the texts of those that are asked for are the encoding of the values that are asked for
   pub texts_are : (attributes : List Attribute)
       → flat_map (asked_text node bitmap) attributes ≡ flat_map value_text (asked_values (attributes_of bitmap) (map (value_of node) attributes))
   unfolding asked_text
@@ -85,7 +85,7 @@ module _ (node : NodeAttributes) (bitmap : List ℕ) where
   abbrev pub words : List ℕ
   words = trimmed (common bitmap supported_bitmap)
 
-  -- it is spelled as its bitmap, and the values after their length
+  -- it is encoded as its bitmap, and the values after their length
   pub spelled : answered_attributes.spelling (attributes_answered node bitmap) ≡ elements (λ n. number w32 n) words ++ counted values_text
   unfolding attributes_answered
   spelled = ap (λ (text : List ℕ). elements (λ n. number w32 n) words ++ counted text) (sym (texts_are every_attribute))
@@ -98,7 +98,7 @@ module _ (node : NodeAttributes) (bitmap : List ℕ) where
   abbrev Spelled : Written → Written → Result (Unit {0}) Refusal → Type 0
   Spelled a c r = Wrote a c r (answered_attributes.spelling (attributes_answered node bitmap))
 
-  -- what was written in parts is what is spelled
+  -- what was written in parts is the encoding
   module _ (ws : List ℕ) (is : ws ≡ words) {a c : Written} {r : Result (Unit {0}) Refusal} where
     pub front_written : Wrote a c r (elements (λ n. number w32 n) ws ++ counted values_text) → Spelled a c r
     front_written w =

@@ -16,7 +16,7 @@ range-more a n = rw add-one (go a n)
         let next : (a + 1) + n ≡ a + suc n = omega arith in
         ap (λ l. a ∷ l) (go (a + 1) n ∙ ap (λ m. range_with_len (a + 1) n ++ m ∷ []) next)
 
--- the attributes of a word, one bit more
+-- the attributes of a word, one more bit
 pub bits-more : (first word bit : ℕ) (is_set : Bool) → (bit_at word bit == 1) ≡ is_set
     → map (λ bit. first + bit) (filter (λ bit. bit_at word bit == 1) (range_with_len 0 (bit + 1)))
     ≡ map (λ bit. first + bit) (filter (λ bit. bit_at word bit == 1) (range_with_len 0 bit)) ++ cond is_set ((first + bit) ∷ []) []
@@ -50,7 +50,7 @@ pub bit-passed : (first word bit : ℕ) (before old : List ℕ)
 bit-passed first word bit before old was clear =
     was ∙ ap (λ l. before ++ l) (sym (bits-more first word bit false (ne_eqb _ _ clear) ∙ append-nil _))
 
--- the attributes of a bitmap, one word more
+-- the attributes of a bitmap, one more word
 pub words-more : (first word : ℕ) (words : List ℕ)
     → attributes_from first (words ++ word ∷ []) ≡ attributes_from first words ++ attributes_of_word (first + 32 * length words) word
 words-more first word [] =

@@ -9,8 +9,8 @@ use Rattle.wire_attributes.specs.declared.entry.AclEntry.{AclEntry}
 use Rattle.wire_attributes.specs.declared.value.Value.{Value}
 use Rattle.wire_attributes.specs.Views.{entry_view, value_view}
 
--- The values are those whose spelling the bytes are; a refusal, but for memory, comes only where no
--- values of these attributes have it.
+-- The values are those whose encoding the bytes are; an error other than `Memory` is returned only
+-- if no values of these attributes have it.
 abbrev pub AreValues : (attributes bytes : List ℕ) → Result (Vec Value) Refusal → Type 0
 AreValues attributes bytes (Ok vs) =
     (spec.values attributes).Fits (map value_view vs.items)
@@ -19,7 +19,7 @@ AreValues attributes bytes (Err e) =
     (e ≡ Memory) ⊎ ((vs : List spec.Value) → (spec.values attributes).Fits vs
     → bytes ≢ (spec.values attributes).spelling vs)
 
--- They are what the definition reads of the whole of the bytes.
+-- They are what the definition reads from the whole of the bytes.
 abbrev pub AreRead : (attributes bytes : List ℕ) → Result (Vec Value) Refusal → Type 0
 AreRead attributes bytes (Ok vs) =
     spec.whole_values attributes bytes ≡ Some (map value_view vs.items)

@@ -45,13 +45,13 @@ pub record WithinLimits (limits : Limits) (kind : NodeKind) (settings : Settings
       → ForSome settings.acl (λ acl. IsTrue (is_list_for limits.aces_set limits.aces kind acl))
   pub nine_bits : ForSome settings.mode (λ mode. mode ≤ 511)
 
--- a result that is refused by the first of these tests that holds, and by nothing else
+-- a result that is the error of the first of these tests that holds, and of nothing else
 abbrev pub IsChecked : {T : Type 0} → Refusals → Result T Status → Type 0
 IsChecked refusals result =
     MatchResult result (λ _. first_refusal refusals ≡ None)
     (λ reason. first_refusal refusals ≡ Some reason)
 
--- the same, but that memory may run out
+-- the same, except that memory may run out
 abbrev pub IsRefusedBy : Refusals → NotDone → Type 0
 IsRefusedBy refusals (refusal.Status reason) = first_refusal refusals ≡ Some reason
 IsRefusedBy refusals refusal.Memory = Unit {0}

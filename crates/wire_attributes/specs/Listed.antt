@@ -1,4 +1,4 @@
--- An entry of a directory, as READDIR answers it.
+-- An entry of a directory, as READDIR returns it.
 use Rattle.std.specs.Prelude.{◌≤◌, [], length}
 use Rattle.model.specs.Operations.Answer as answer
 use Rattle.model.specs.Attributes.NodeAttributes.{unreadable}

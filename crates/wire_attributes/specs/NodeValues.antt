@@ -100,7 +100,7 @@ value_of node attribute.OwnerGroup = spec.OwnerGroup (decimal node.group)
 value_of node attribute.TimeModify = spec.TimeModify (time_of node.time_modify)
 value_of node attribute.SuppattrExclcreat = spec.SuppattrExclcreat []
 
--- the spelling of an attribute's value, and what is spelled of it where these are asked
+-- the encoding of an attribute's value, and what of it is encoded if these are asked for
 abbrev pub value_spelled : NodeAttributes → Attribute → List ℕ
 value_spelled node attribute = value_text (value_of node attribute)
 
@@ -113,7 +113,7 @@ asked_text node bitmap attribute =
     spelled_if (is_among (attributes_of bitmap) (attribute_number attribute))
     (value_spelled node attribute)
 
--- what is answered of these attributes
+-- what is returned of these attributes
 unfoldable pub attributes_answered : NodeAttributes → (bitmap : List ℕ) → operation.Attributes
 attributes_answered node bitmap = record {
   bitmap = trimmed (common bitmap supported_bitmap);

@@ -45,8 +45,8 @@ value_view (value.OwnerGroup v) = spec.OwnerGroup v.now
 value_view (value.TimeModify v) = spec.TimeModify (time_view v)
 value_view (value.SuppattrExclcreat v) = spec.SuppattrExclcreat v
 
--- which values have a spelling, as far as their types leave it open: the lengths of texts and
--- lists, and bitmaps without zero words at the end
+-- which values can be encoded, as far as their types leave it open: the lengths of texts and lists,
+-- and bitmaps without zero words at the end
 abbrev pub EntryFits : AclEntry → Type 0
 EntryFits e = length e.who.now < 2 ^ 32
 
@@ -78,7 +78,7 @@ ValueFits (value.OwnerGroup v) = length v.now < 2 ^ 32
 ValueFits (value.TimeModify v) = Unit {0}
 ValueFits (value.SuppattrExclcreat v) = IsTrue (is_trimmed v)
 
--- an entry's spelling, and a value's
+-- an entry's encoding, and a value's
 abbrev pub entry_spelling : AclEntry → List ℕ
 entry_spelling e = spec.acl_entry.spelling (entry_view e)
 

@@ -10,8 +10,8 @@ use crate::who::who_of;
 use bitflags::Flags;
 use model_tree::acl::{Ace, AceFlags, AceKind, Mask, Who};
 
-/// The entry that one on the wire stands for, where its type is ALLOW or DENY and its text names
-/// somebody. Which flags and rights it has is not looked at.
+/// The entry that one on the wire represents, if its type is ALLOW or DENY and its text names
+/// somebody. Its flags and rights are not checked.
 #[tactic(auto, unfolding(model::specs::Attributes::AclText::ace_in))]
 pub fn ace_of(entry: &AclEntry<'_>) -> Option<Ace>
     ensures { result ≡ ace_in (entry_view entry.now) }
@@ -27,7 +27,7 @@ pub fn ace_of(entry: &AclEntry<'_>) -> Option<Ace>
     })
 }
 
-/// The entry on the wire that stands for this one, whose name the text is.
+/// The entry on the wire that represents this one, whose name the text is.
 pub fn entry_of<'a>(ace: &Ace, text: &'a [u8]) -> AclEntry<'a>
     requires flags { bits_without ace.now.flags.0 identifier_group ≡ ace.now.flags.0 }
     requires text { text.now ≡ who_text ace.now.who }
@@ -57,7 +57,7 @@ pub(crate) fn number_of_kind(kind: AceKind) -> u32
     kind as u32
 }
 
-/// With IDENTIFIER_GROUP where the number is a group's.
+/// With IDENTIFIER_GROUP if the number is a group's.
 pub(crate) fn wire_flags(flags: AceFlags, name: Who) -> AceFlags
     ensures { result.0 ≡ entry_flags flags.0 name }
 {

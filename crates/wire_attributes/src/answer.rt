@@ -1,4 +1,4 @@
-//! The attributes of a node that are asked (RFC 8881, sections 3.3.9, 18.7 and 18.23).
+//! The attributes of a node that are asked for (RFC 8881, sections 3.3.9, 18.7 and 18.23).
 
 ghost use Rattle.std.specs.Prelude.{◌≡◌, ◌+◌, ◌*◌, ◌%◌, ◌≤◌, ◌^◌, ◌++◌, length};
 ghost use Rattle.std.specs.List.{flat_map};
@@ -14,12 +14,12 @@ use crate::node::{NodeAttributes, SUPPORTED, write_words};
 use wire::{Bitmap, trimmed};
 use xdr::{Refusal, Words, Writer};
 
-/// `fattr4` of a node: of the attributes that a bitmap asks those that the server has, and their
-/// values. It is spelled where it is written; no value stands in memory of its own.
+/// `fattr4` of a node: of the attributes that a bitmap asks for those that the server has, and
+/// their values. It is encoded when it is written; no value has memory of its own.
 #[derive(Clone, Copy)]
 pub struct AttributesAnswer<'a> {
     pub node: NodeAttributes<'a>,
-    /// The bitmap that is asked, of any length.
+    /// The bitmap that is asked for, of any length.
     pub asked: &'a [u32],
 }
 
@@ -46,7 +46,7 @@ fn common(asked: &[u32]) -> Bitmap
 }
 
 impl AttributesAnswer<'_> {
-    /// Whether an attribute is asked.
+    /// Whether an attribute is asked for.
     fn asks(&self, attribute: Attribute) -> bool
         ensures { result
             ≡ is_among (attributes_of self.now.asked.now) (attribute_number attribute) }
@@ -54,7 +54,7 @@ impl AttributesAnswer<'_> {
         is_asked(self.asked, attribute.number())
     }
 
-    /// How many bytes the value of an attribute takes, where it is asked.
+    /// How many bytes the value of an attribute takes if it is asked for.
     fn asked_size(&self, attribute: Attribute) -> usize
         requires { HasFewEntries self.now.node }
         ensures value { result ≡ length (asked_text self.now.node self.now.asked.now attribute) }
@@ -91,7 +91,8 @@ impl AttributesAnswer<'_> {
         8 + 4 * trimmed(common(self.asked).as_slice()).len() + self.values_size()
     }
 
-    /// Writes the value of an attribute, where it is asked. A refusal may leave a front of it.
+    /// Writes the value of an attribute if it is asked for. On an error a prefix of it may have
+    /// been written.
     fn write_asked(&self, w: &mut Writer, attribute: Attribute) -> Result<(), Refusal>
         requires { HasFewEntries self.now.node }
         ensures { Wrote w.old w.new result
@@ -103,7 +104,7 @@ impl AttributesAnswer<'_> {
         self.node.write_value(w, attribute)
     }
 
-    /// Writes the values. A refusal may leave a front of them.
+    /// Writes the values. On an error a prefix of them may have been written.
     fn write_values(&self, w: &mut Writer) -> Result<(), Refusal>
         requires { HasFewEntries self.now.node }
         ensures { Wrote w.old w.new result
@@ -115,7 +116,7 @@ impl AttributesAnswer<'_> {
         Ok(())
     }
 
-    /// Writes it. A refusal may leave a front of it.
+    /// Writes it. On an error a prefix of it may have been written.
     pub fn write(&self, w: &mut Writer) -> Result<(), Refusal>
         requires { HasFewEntries self.now.node }
         ensures { Wrote w.old w.new result (answered_attributes.spelling (answer_view self.now)) }

@@ -15,7 +15,7 @@ pub fn is_asked(bitmap: &[u32], attribute: u32) -> bool
     }
 }
 
-/// The numbers, rising: bit m of word n stands for attribute 32 n + m.
+/// The numbers, rising: bit m of word n represents attribute 32 n + m.
 pub fn numbers_of(alloc: Global, bitmap: &[u32]) -> Result<Vec<u32>, AllocError>
     requires { length bitmap.now ≤ 8 }
     ensures { IfOk result (λ numbers. numbers.items ≡ attributes_of bitmap.now) }
@@ -29,7 +29,7 @@ pub fn numbers_of(alloc: Global, bitmap: &[u32]) -> Result<Vec<u32>, AllocError>
     Ok(numbers)
 }
 
-// Puts the numbers of a word after others; the word's first bit stands for this one.
+// Puts the numbers of a word after others; the word's first bit represents this one.
 fn push_numbers(numbers: &mut Vec<u32>, first: u32, word: u32) -> Result<(), AllocError>
     requires { first < 256 }
     ensures { OnOk result (numbers.new.items ≡ numbers.old.items ++ attributes_of_word first word) }

@@ -1,4 +1,4 @@
-//! The entries of an access control list, as they stand on the wire (RFC 8881, section 6.2.1).
+//! The entries of an access control list, as they are on the wire (RFC 8881, section 6.2.1).
 
 ghost use Rattle.std.specs.Prelude.{◌<◌, ◌^◌, length, map, All};
 ghost use Rattle.std.specs.List.{flat_map};
@@ -10,7 +10,7 @@ ghost use Rattle.wire_attributes.specs.Clauses.{ReadsEntries};
 use std::alloc::Global;
 use xdr::{Reader, Refusal, Writer};
 
-/// `nfsace4`: what its numbers and its text mean is not looked at.
+/// `nfsace4`: what its numbers and its text mean is not checked.
 #[derive(Drop, PartialEq, Eq)]
 pub struct AclEntry<'a> {
     /// `acetype4`
@@ -81,7 +81,7 @@ fn each_entry<'a>(
     Ok((list, at))
 }
 
-/// Writes a list. A refusal may leave a front of it.
+/// Writes a list. On an error a prefix of it may have been written.
 #[tactic(auto, using(xdr::proofs::Writing::wrote_on, xdr::proofs::Writing::wrote_exit, xdr::proofs::Writing::wrote_end))]
 pub(crate) fn write_entries(w: &mut Writer, list: &[AclEntry<'_>]) -> Result<(), Refusal>
     requires count { length list.now < 2 ^ 32 }

@@ -1,4 +1,4 @@
-//! An entry of a directory, as READDIR answers it (RFC 8881, section 18.23).
+//! An entry of a directory, as READDIR returns it (RFC 8881, section 18.23).
 
 ghost use Rattle.std.specs.Prelude.{◌≡◌, ◌≤◌, ◌^◌, [], length};
 ghost use Rattle.model.specs.Attributes.NodeAttributes.{unreadable};
@@ -18,7 +18,7 @@ const RDATTR_ERROR: u32 = 0x800;
 #[derive(Clone, Copy)]
 pub enum ListedAttributes<'a> {
     Shown(AttributesAnswer<'a>),
-    /// Its list is asked, and the caller may not read it: rdattr_error alone, with ACCESS.
+    /// Its list is asked for, and the caller may not read it: only rdattr_error, with ACCESS.
     Unreadable,
     /// Its node is gone: no attribute.
     Gone,
@@ -32,7 +32,7 @@ pub struct ListedEntry<'a> {
     pub attributes: ListedAttributes<'a>,
 }
 
-/// Writes rdattr_error with ACCESS. A refusal may leave a front of it.
+/// Writes rdattr_error with ACCESS. On an error a prefix of it may have been written.
 #[tactic(auto, unfolding(xdr::specs::Grammar::number), using(xdr::proofs::Writing::wrote_on, xdr::proofs::Writing::wrote_exit, xdr::proofs::Writing::wrote_end))]
 fn write_unreadable(w: &mut Writer) -> Result<(), Refusal>
     ensures { Wrote w.old w.new result (answered_attributes.spelling unreadable) }
@@ -41,7 +41,7 @@ fn write_unreadable(w: &mut Writer) -> Result<(), Refusal>
     w.write_opaque(&(Status::Access as u32).to_be_bytes())
 }
 
-/// Writes no attribute. A refusal may leave a front of it.
+/// Writes no attribute. On an error a prefix of it may have been written.
 #[tactic(auto, using(xdr::proofs::Writing::wrote_on, xdr::proofs::Writing::wrote_exit, xdr::proofs::Writing::wrote_end))]
 fn write_gone(w: &mut Writer) -> Result<(), Refusal>
     ensures { Wrote w.old w.new result
@@ -66,7 +66,7 @@ impl ListedAttributes<'_> {
         }
     }
 
-    /// Writes them. A refusal may leave a front of them.
+    /// Writes them. On an error a prefix of them may have been written.
     pub fn write(&self, w: &mut Writer) -> Result<(), Refusal>
         requires { ListedFits self.now }
         ensures { Wrote w.old w.new result (answered_attributes.spelling (listed_view self.now)) }
@@ -90,7 +90,7 @@ impl ListedEntry<'_> {
         8 + opaque_size(self.name) + self.attributes.size()
     }
 
-    /// Writes it. A refusal may leave a front of it.
+    /// Writes it. On an error a prefix of it may have been written.
     #[tactic(auto, using(xdr::proofs::Writing::wrote_on, xdr::proofs::Writing::wrote_exit, xdr::proofs::Writing::wrote_end))]
     pub fn write(&self, w: &mut Writer) -> Result<(), Refusal>
         requires { EntryFits self.now }

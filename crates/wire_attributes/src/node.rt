@@ -1,4 +1,4 @@
-//! The values of a node's attributes, spelled without a copy of its list (RFC 8881, sections 5.6 to
+//! The values of a node's attributes, encoded without a copy of its list (RFC 8881, sections 5.6 to
 //! 5.8, and 6.2).
 
 ghost use Rattle.std.specs.Prelude.{◌≡◌, ◌%◌, ◌≤◌, length, map};
@@ -37,7 +37,7 @@ const ACL_SUPPORT: u32 = 3;
 
 const NANOSECONDS: u64 = 1_000_000_000;
 
-/// What a node shows of itself, and the limits of its volume that it shows.
+/// What a node says about itself, and the limits of its volume that it reports.
 #[derive(Clone, Copy)]
 pub struct NodeAttributes<'a> {
     pub kind: NodeKind,
@@ -52,7 +52,7 @@ pub struct NodeAttributes<'a> {
     pub size: u64,
     pub max_file_size: u64,
     pub max_name: u32,
-    /// The most bytes that one READ gives or one WRITE takes.
+    /// The most bytes that one READ returns or one WRITE takes.
     pub max_transfer: u64,
 }
 
@@ -104,7 +104,7 @@ fn owner_size(number: u32) -> usize
     opaque_size(who_bytes(&mut digits, Who::User(number)))
 }
 
-/// Writes an entry. A refusal may leave a front of it.
+/// Writes an entry. On an error a prefix of it may have been written.
 fn write_ace(w: &mut Writer, ace: &Ace) -> Result<(), Refusal>
     ensures { Wrote w.old w.new result (acl_entry.spelling (entry_text ace.now)) }
 {
@@ -118,7 +118,7 @@ fn write_ace(w: &mut Writer, ace: &Ace) -> Result<(), Refusal>
     entry.write(w)
 }
 
-/// Writes the entries of a list. A refusal may leave a front of them.
+/// Writes the entries of a list. On an error a prefix of them may have been written.
 fn write_aces(w: &mut Writer, acl: &[Ace]) -> Result<(), Refusal>
     ensures { Wrote w.old w.new result
         (flat_map (λ ace. acl_entry.spelling (entry_text ace)) acl.now) }
@@ -129,7 +129,7 @@ fn write_aces(w: &mut Writer, acl: &[Ace]) -> Result<(), Refusal>
     Ok(())
 }
 
-/// Writes a list. A refusal may leave a front of it.
+/// Writes a list. On an error a prefix of it may have been written.
 #[tactic(auto, using(xdr::proofs::Writing::wrote_on, xdr::proofs::Writing::wrote_exit, xdr::proofs::Writing::wrote_end))]
 fn write_acl(w: &mut Writer, acl: &[Ace]) -> Result<(), Refusal>
     requires { length acl.now ≤ Acl.MAX_STORED }
@@ -140,7 +140,7 @@ fn write_acl(w: &mut Writer, acl: &[Ace]) -> Result<(), Refusal>
     write_aces(w, acl)
 }
 
-/// Writes a number as a text. A refusal may leave a front of it.
+/// Writes a number as a text. On an error a prefix of it may have been written.
 fn write_owner(w: &mut Writer, number: u32) -> Result<(), Refusal>
     ensures { Wrote w.old w.new result (counted (who_text (who.User number))) }
 {
@@ -148,7 +148,7 @@ fn write_owner(w: &mut Writer, number: u32) -> Result<(), Refusal>
     w.write_opaque(who_bytes(&mut digits, Who::User(number)))
 }
 
-/// Writes words after their number. A refusal may leave a front of them.
+/// Writes words after their number. On an error a prefix of them may have been written.
 #[tactic(auto, unfolding(xdr::specs::Forms::elements), using(xdr::proofs::Writing::wrote_on, xdr::proofs::Writing::wrote_exit, xdr::proofs::Writing::wrote_end))]
 pub(crate) fn write_words(w: &mut Writer, words: &[u32]) -> Result<(), Refusal>
     requires { length words.now ≤ 8 }
@@ -167,7 +167,7 @@ fn write_each_word(w: &mut Writer, words: &[u32]) -> Result<(), Refusal>
     Ok(())
 }
 
-/// Writes a moment, in nanoseconds since 1970. A refusal may leave a front of it.
+/// Writes a moment, in nanoseconds since 1970. On an error a prefix of it may have been written.
 #[tactic(auto, using(xdr::proofs::Writing::wrote_on, xdr::proofs::Writing::wrote_exit, xdr::proofs::Writing::wrote_end))]
 fn write_time(w: &mut Writer, moment: u64) -> Result<(), Refusal>
     ensures { Wrote w.old w.new result (time.spelling (time_of moment)) }
@@ -176,7 +176,7 @@ fn write_time(w: &mut Writer, moment: u64) -> Result<(), Refusal>
     w.write_u32((moment % NANOSECONDS) as u32)
 }
 
-/// Writes the only file system's id. A refusal may leave a front of it.
+/// Writes the only file system's id. On an error a prefix of it may have been written.
 #[tactic(auto, using(xdr::proofs::Writing::wrote_on, xdr::proofs::Writing::wrote_exit, xdr::proofs::Writing::wrote_end))]
 fn write_fsid(w: &mut Writer) -> Result<(), Refusal>
     ensures { Wrote w.old w.new result
@@ -232,7 +232,7 @@ impl NodeAttributes<'_> {
         }
     }
 
-    /// Writes an attribute's value. A refusal may leave a front of it.
+    /// Writes an attribute's value. On an error a prefix of it may have been written.
     pub(crate) fn write_value(&self, w: &mut Writer, attribute: Attribute) -> Result<(), Refusal>
         requires { HasFewEntries self.now }
         ensures { Wrote w.old w.new result (value_spelled self.now attribute) }
@@ -256,7 +256,7 @@ impl NodeAttributes<'_> {
             Attribute::MaxFileSize => w.write_u64(self.max_file_size),
             Attribute::MaxName => w.write_u32(self.max_name),
             Attribute::MaxRead | Attribute::MaxWrite => w.write_u64(self.max_transfer),
-            // Nobody keeps it: the list is gone through where it is asked.
+            // Nobody keeps it: the list is read when it is asked for.
             Attribute::Mode => w.write_u32(mode_of(self.acl)),
             Attribute::NumLinks => w.write_u32(1),
             Attribute::Owner => write_owner(w, self.owner),

@@ -73,7 +73,7 @@ fn group_in(values: &[Value<'_>]) -> Option<u32>
     group_in(others)
 }
 
-// The entries that those on the wire stand for.
+// The entries that those on the wire represent.
 fn aces_in(alloc: Global, entries: &[AclEntry<'_>]) -> Result<Acl, AllocError>
     ensures { IfOk result (λ acl. acl ≡ aces_in (map entry_view entries.now)) }
 {

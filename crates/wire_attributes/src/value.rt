@@ -41,7 +41,7 @@ impl FileSystemId {
 /// `nfstime4`.
 #[derive(Clone, Copy, PartialEq, Eq)]
 pub struct Time {
-    /// Since 1970, as the number that their eight bytes spell.
+    /// Since 1970, as the number that their eight bytes encode.
     pub seconds: u64,
     pub nanoseconds: u32,
 }
@@ -92,7 +92,7 @@ fn write_kind(w: &mut Writer, kind: NodeKind) -> Result<(), Refusal>
     }
 }
 
-/// The value of an attribute. On the wire it stands without its attribute's number.
+/// The value of an attribute. On the wire it comes without its attribute's number.
 #[derive(Drop)]
 pub enum Value<'a> {
     SupportedAttrs(Bitmap),
@@ -201,7 +201,7 @@ impl<'a> Value<'a> {
         Ok(value)
     }
 
-    /// Writes it. A refusal may leave a front of it.
+    /// Writes it. On an error a prefix of it may have been written.
     pub(crate) fn write(&self, w: &mut Writer) -> Result<(), Refusal>
         requires { ValueFits self.now }
         ensures { Wrote w.old w.new result (value_spelling self.now) }

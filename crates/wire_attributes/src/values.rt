@@ -14,9 +14,9 @@ use std::alloc::Global;
 use wire::Attributes;
 use xdr::{Reader, Refusal, Writer};
 
-/// The values of the attributes of these numbers, where the bytes are exactly they.
+/// The values of the attributes of these numbers, if the bytes are exactly they.
 ///
-/// A refusal is `Short`, `Value` or `Long` where the bytes are no such values, and `Memory`.
+/// `Short`, `Value` or `Long` if the bytes are no such values, and `Memory`.
 #[tactic(auto, using(model::proofs::Wire::AttributeExact::are_values, crate::proofs::Whole::no_values, crate::proofs::Whole::too_many_bytes, crate::proofs::Whole::read_whole, crate::proofs::Whole::no_whole, crate::proofs::Whole::not_whole))]
 pub fn read_values<'a>(
     alloc: Global,
@@ -33,7 +33,7 @@ pub fn read_values<'a>(
     Ok(values)
 }
 
-/// The values of attributes as they were read, where the bytes after the bitmap are exactly these.
+/// The values of attributes as they were read, if the bytes after the bitmap are exactly these.
 pub fn values_of<'a>(alloc: Global, given: &Attributes<'a>) -> Result<Vec<Value<'a>>, Refusal>
     ensures values { AreValues (attributes_of given.now.bitmap) given.now.values.now result }
     ensures read { AreRead (attributes_of given.now.bitmap) given.now.values.now result }
@@ -59,7 +59,7 @@ fn each_value<'a>(
     Ok((values, at))
 }
 
-/// Writes values, each without its attribute's number. They are to stand by rising number.
+/// Writes values, each without its attribute's number. They are to come by rising number.
 #[tactic(auto, using(xdr::proofs::Writing::wrote_undone, xdr::proofs::Writing::unchanged))]
 pub fn write_values(w: &mut Writer, values: &[Value<'_>]) -> Result<(), Refusal>
     requires { All ValueFits values.now }

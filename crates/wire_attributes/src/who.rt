@@ -9,8 +9,8 @@ use std::alloc::Global;
 use xdr::Refusal;
 
 /// Whom a text names: OWNER@, GROUP@ or EVERYONE@, or a number of 32 bits in decimal digits without
-/// zeros in front. `is_group` tells whether a number is a group's; a special name is the same with
-/// it and without.
+/// leading zeros. `is_group` says whether a number is a group's; a special name is the same with it
+/// and without.
 #[tactic(auto, using(crate::proofs::Naming::names_none))]
 pub fn who_of(text: &[u8], is_group: bool) -> Option<Who>
     ensures { result ≡ who_in is_group text.now }

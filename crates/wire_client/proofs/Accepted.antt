@@ -1,4 +1,4 @@
--- Results that are read are exactly their spellings; a number that no operation has begins none.
+-- Results that are read are exactly their encodings; a number that no operation has begins none.
 use Rattle.std.proofs.Common.{◌≡◌, ◌≢◌, ℕ, List, Result, Err, refl, sym}
 use Rattle.std.proofs.lemmas.Bool.{ne_eqb}
 use Rattle.xdr.specs.declared.refusal.Refusal.{Refusal}

@@ -8,7 +8,7 @@ use Rattle.xdr.specs.Grammar.{◌>>=◌, number_at}
 use Rattle.xdr.specs.Forms.{links_at, truth_at}
 use Rattle.xdr.proofs.Loops.{with_front, regroup}
 
--- an element more
+-- one more element
 pub chain_on : {V : Type 0} (read : List ℕ → Result (V × List ℕ) Refusal) (front : List V) (n i : ℕ) (bytes behind after : List ℕ) (v : V) (total : Result (List V × List ℕ) Refusal)
     → i < n → (number_at w32 bytes >>= truth_at) ≡ Ok (true, behind) → read behind ≡ Ok (v, after) → with_front front (links_at read (n - i) bytes) ≡ total
     → with_front (front ++ v ∷ []) (links_at read (n - (i + 1)) after) ≡ total
@@ -18,7 +18,7 @@ chain_on read front n i bytes behind after v total lt more h so_far =
     let one : with_front front (links_at read (n - i) bytes) ≡ with_front (front ++ v ∷ []) (links_at read (n - (i + 1)) after) = rw (k, more, h) (regroup front v (links_at read (n - (i + 1)) after)) in
     sym one ∙ so_far
 
--- no element more
+-- no more elements
 pub chain_ends : {V : Type 0} (read : List ℕ → Result (V × List ℕ) Refusal) (front : List V) (n i : ℕ) (bytes behind : List ℕ) (total : Result (List V × List ℕ) Refusal)
     → i < n → (number_at w32 bytes >>= truth_at) ≡ Ok (false, behind) → with_front front (links_at read (n - i) bytes) ≡ total → total ≡ Ok (front, behind)
 unfolding links_at
@@ -45,7 +45,7 @@ chain_broken read front n i bytes behind e total lt more h so_far =
     let one : with_front front (links_at read (n - i) bytes) ≡ Err e = rw (k, more, h) refl in
     sym so_far ∙ one
 
--- as many elements as there may be
+-- the maximal number of elements
 pub chain_long : {V : Type 0} (read : List ℕ → Result (V × List ℕ) Refusal) (front : List V) (n i : ℕ) (bytes : List ℕ) (total : Result (List V × List ℕ) Refusal)
     → n ≤ i → with_front front (links_at read (n - i) bytes) ≡ total → total ≡ Err Short
 unfolding links_at

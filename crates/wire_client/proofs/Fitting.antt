@@ -1,4 +1,4 @@
--- An argument that has a spelling can be written.
+-- An argument that can be encoded can be written.
 use Rattle.std.proofs.Common.{ℕ, ◌≤◌, List, [], ◌∷◌, length, Option, None, Some, arith}
 use Rattle.std.specs.Prelude.{map}
 use Rattle.std.specs.Option.{option_map}

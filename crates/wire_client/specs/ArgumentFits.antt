@@ -1,4 +1,4 @@
--- Which arguments have a spelling, as far as their types leave it open: RFC 8881, section 18.
+-- Which arguments can be encoded, as far as their types leave it open: RFC 8881, section 18.
 use Rattle.std.specs.Prelude.{◌≢◌, ℕ, ◌<◌, ◌≤◌, ◌^◌, List, length, All, Option, Some, None}
 use Rattle.wire.specs.declared.small.Attributes.{Attributes}
 use Rattle.wire.specs.declared.small.Implementation.{Implementation}

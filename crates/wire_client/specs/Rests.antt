@@ -1,4 +1,4 @@
--- What is spelled after the first fields of longer arguments.
+-- What is encoded after the first fields of longer arguments.
 use Rattle.std.specs.Prelude.{ℕ, List, ◌++◌, map}
 use Rattle.std.specs.Option.{option_map}
 use Rattle.std.specs.Int.{w32}
@@ -55,7 +55,7 @@ abbrev pub open_rest : OpenArguments → List ℕ
 open_rest a =
     (unsigned_hyper & owner_id & opening).spelling (a.client, (a.owner.now, opening_view a.opening))
 
--- an open type and a claim, but of an exclusive create
+-- an open type and a claim, except of an exclusive create
 abbrev pub opens_text : OpenType → Claim → List ℕ
 opens_text how by = opening.spelling (opening_view (openings.Opens how by))
 

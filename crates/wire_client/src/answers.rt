@@ -1,4 +1,4 @@
-//! Results of the operations, where they ended well (RFC 8881, section 18).
+//! Results of the operations that succeeded (RFC 8881, section 18).
 
 ghost use Rattle.std.specs.Prelude.{map};
 ghost use Rattle.xdr.specs.Clauses.{Scans, ReadsBy};

@@ -12,7 +12,7 @@ use xdr::{Refusal, Writer};
 /// The number of NF4DIR among the types of `nfs_ftype4`.
 const DIRECTORY: u32 = 2;
 
-/// Writes `CREATE4args`. A refusal may leave a front of them.
+/// Writes `CREATE4args`. On an error a prefix of them may have been written.
 #[tactic(auto, using(xdr::proofs::Writing::wrote_on, xdr::proofs::Writing::wrote_exit, xdr::proofs::Writing::wrote_end, crate::proofs::Alone::wrote_alone))]
 pub(crate) fn write_create(w: &mut Writer, a: &CreateArguments<'_>) -> Result<(), Refusal>
     requires { CreateFits a.now }
@@ -28,7 +28,7 @@ pub(crate) fn write_create(w: &mut Writer, a: &CreateArguments<'_>) -> Result<()
     }
 }
 
-/// Writes `READDIR4args`. A refusal may leave a front of them.
+/// Writes `READDIR4args`. On an error a prefix of them may have been written.
 pub(crate) fn write_read_dir(w: &mut Writer, a: &ReadDirArguments) -> Result<(), Refusal>
     ensures { Wrote w.old w.new result (read_dir_arguments.spelling (read_dir_view a.now)) }
 {
@@ -45,7 +45,7 @@ fn write_read_dir_rest(w: &mut Writer, a: &ReadDirArguments) -> Result<(), Refus
     a.bitmap.write(w)
 }
 
-/// Writes `RENAME4args`. A refusal may leave a front of them.
+/// Writes `RENAME4args`. On an error a prefix of them may have been written.
 pub(crate) fn write_rename(w: &mut Writer, a: &RenameArguments<'_>) -> Result<(), Refusal>
     requires { RenameFits a.now }
     ensures { Wrote w.old w.new result (rename_arguments.spelling (rename_view a.now)) }

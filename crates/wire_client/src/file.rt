@@ -8,7 +8,7 @@ ghost use Rattle.wire_client.specs.ArgumentFits.{AttributesFit, WriteFits};
 use wire::{CloseArguments, CommitArguments, ReadArguments, SetAttrArguments, WriteArguments};
 use xdr::{Refusal, Writer};
 
-/// Writes `CLOSE4args`. A refusal may leave a front of them.
+/// Writes `CLOSE4args`. On an error a prefix of them may have been written.
 pub(crate) fn write_close(w: &mut Writer, a: &CloseArguments) -> Result<(), Refusal>
     ensures { Wrote w.old w.new result (close_arguments.spelling (close_view a.now)) }
 {
@@ -16,7 +16,7 @@ pub(crate) fn write_close(w: &mut Writer, a: &CloseArguments) -> Result<(), Refu
     a.state.write(w)
 }
 
-/// Writes `COMMIT4args`. A refusal may leave a front of them.
+/// Writes `COMMIT4args`. On an error a prefix of them may have been written.
 pub(crate) fn write_commit(w: &mut Writer, a: &CommitArguments) -> Result<(), Refusal>
     ensures { Wrote w.old w.new result (commit_arguments.spelling (commit_view a.now)) }
 {
@@ -24,7 +24,7 @@ pub(crate) fn write_commit(w: &mut Writer, a: &CommitArguments) -> Result<(), Re
     w.write_u32(a.count)
 }
 
-/// Writes `READ4args`. A refusal may leave a front of them.
+/// Writes `READ4args`. On an error a prefix of them may have been written.
 pub(crate) fn write_read(w: &mut Writer, a: &ReadArguments) -> Result<(), Refusal>
     ensures { Wrote w.old w.new result (read_arguments.spelling (read_view a.now)) }
 {
@@ -33,7 +33,7 @@ pub(crate) fn write_read(w: &mut Writer, a: &ReadArguments) -> Result<(), Refusa
     w.write_u32(a.count)
 }
 
-/// Writes `WRITE4args`. A refusal may leave a front of them.
+/// Writes `WRITE4args`. On an error a prefix of them may have been written.
 pub(crate) fn write_write(w: &mut Writer, a: &WriteArguments<'_>) -> Result<(), Refusal>
     requires { WriteFits a.now }
     ensures { Wrote w.old w.new result (write_arguments.spelling (write_view a.now)) }
@@ -44,7 +44,7 @@ pub(crate) fn write_write(w: &mut Writer, a: &WriteArguments<'_>) -> Result<(), 
     w.write_opaque(a.data)
 }
 
-/// Writes `SETATTR4args`. A refusal may leave a front of them.
+/// Writes `SETATTR4args`. On an error a prefix of them may have been written.
 pub(crate) fn write_set_attr(w: &mut Writer, a: &SetAttrArguments<'_>) -> Result<(), Refusal>
     requires { AttributesFit a.now.attributes }
     ensures { Wrote w.old w.new result (set_attr_arguments.spelling (set_attr_view a.now)) }

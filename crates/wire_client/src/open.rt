@@ -70,7 +70,7 @@ fn write_created(
     write_claim(w, by)
 }
 
-/// Writes `OPEN4args`. A refusal may leave a front of them.
+/// Writes `OPEN4args`. On an error a prefix of them may have been written.
 pub(crate) fn write_open(w: &mut Writer, a: &OpenArguments<'_>) -> Result<(), Refusal>
     requires { OpenFits a.now }
     ensures { Wrote w.old w.new result (open_arguments.spelling (open_view a.now)) }

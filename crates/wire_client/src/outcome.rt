@@ -19,8 +19,8 @@ use xdr::{Reader, Refusal};
 
 /// Reads a result: an operation's number, its status, and the values after it (`nfs_resop4`).
 ///
-/// What is read is exactly its spelling; a refusal other than `Memory` comes only where no front of
-/// the bytes is one.
+/// What is read is exactly its encoding; an error other than `Memory` is returned only if no prefix
+/// of the bytes is one.
 #[tactic(auto, using(crate::proofs::Accepted::outcome_accepted))]
 pub fn read_outcome<'a>(alloc: Global, r: &mut Reader<'a>) -> Result<Outcome<'a>, Refusal>
     ensures accepts { Accepts outcome_view outcome r.old r.new result }
@@ -46,7 +46,7 @@ fn read_numbered<'a>(alloc: Global, r: &mut Reader<'a>) -> Result<Outcome<'a>, R
     Ok(result)
 }
 
-/// After a refused SETATTR an empty bitmap stands (RFC 8881, section 18.30).
+/// After the status of a failed SETATTR there is an empty bitmap (RFC 8881, section 18.30).
 fn read_refused<'a>(operation: u32, code: u32, r: &mut Reader<'a>) -> Result<Outcome<'a>, Refusal>
     ensures { Scans outcome_view (λ bytes. refused_by operation
         (refusal_of code) bytes) r.old r.new result }

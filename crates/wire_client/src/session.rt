@@ -16,7 +16,7 @@ use crate::small::{write_implementations, write_security};
 use wire::{CallbackSecurity, CreateSessionArguments, ExchangeIdArguments, SequenceArguments};
 use xdr::{Refusal, Writer};
 
-/// Writes `EXCHANGE_ID4args`. A refusal may leave a front of them.
+/// Writes `EXCHANGE_ID4args`. On an error a prefix of them may have been written.
 pub(crate) fn write_exchange_id(w: &mut Writer, a: &ExchangeIdArguments<'_>) -> Result<(), Refusal>
     requires { ExchangeIdFits a.now }
     ensures { Wrote w.old w.new result (exchange_id_arguments.spelling (exchange_id_view a.now)) }
@@ -35,7 +35,7 @@ fn write_exchange_id_rest(w: &mut Writer, a: &ExchangeIdArguments<'_>) -> Result
     write_implementations(w, &a.implementation)
 }
 
-/// Writes `CREATE_SESSION4args`. A refusal may leave a front of them.
+/// Writes `CREATE_SESSION4args`. On an error a prefix of them may have been written.
 pub(crate) fn write_create_session(
     w: &mut Writer,
     a: &CreateSessionArguments<'_>,
@@ -88,7 +88,7 @@ fn write_each_security(w: &mut Writer, list: &[CallbackSecurity<'_>]) -> Result<
     Ok(())
 }
 
-/// Writes `SEQUENCE4args`. A refusal may leave a front of them.
+/// Writes `SEQUENCE4args`. On an error a prefix of them may have been written.
 pub(crate) fn write_sequence(w: &mut Writer, a: &SequenceArguments) -> Result<(), Refusal>
     ensures { Wrote w.old w.new result (sequence_arguments.spelling (sequence_view a.now)) }
 {

@@ -52,7 +52,7 @@ fn write_implementation(w: &mut Writer, a: &Implementation<'_>) -> Result<(), Re
     w.write_u32(a.nanoseconds)
 }
 
-/// Writes an array of at most one. A refusal may leave a front of it.
+/// Writes an array of at most one. On an error a prefix of it may have been written.
 #[tactic(auto, using(xdr::proofs::Writing::wrote_on, xdr::proofs::Writing::wrote_exit, xdr::proofs::Writing::wrote_end))]
 pub(crate) fn write_implementations(
     w: &mut Writer,
@@ -88,7 +88,7 @@ fn write_credential_rest(w: &mut Writer, a: &SystemCredential<'_>) -> Result<(),
     a.gids.write(w)
 }
 
-/// Writes a `callback_sec_parms4`. A refusal may leave a front of it.
+/// Writes a `callback_sec_parms4`. On an error a prefix of it may have been written.
 #[tactic(auto, using(xdr::proofs::Writing::wrote_on, xdr::proofs::Writing::wrote_exit, xdr::proofs::Writing::wrote_end))]
 pub(crate) fn write_security(w: &mut Writer, a: &CallbackSecurity<'_>) -> Result<(), Refusal>
     requires { SecurityFits a.now }

@@ -54,7 +54,7 @@ const REFUSALS: [Status; 44] = [
     Status::NotOnlyOp,
 ];
 
-/// The status of this number, but OK.
+/// The status of this number, except OK.
 pub(crate) fn refusal_of_number(number: u32) -> Option<Status>
     ensures { result ≡ refusal_of number }
 {

@@ -15,7 +15,7 @@ pub returns-then-fragments-ge-MAX_FRAGMENTS : goal.returns-then-fragments-ge-MAX
 returns-then-fragments-ge-MAX_FRAGMENTS g c =
     too_many _ _ _ _ c.in-Some.header _ c.in-Some.ensures (omega arith) c.if-fragments-ge-MAX_FRAGMENTS.true
 
--- what was read stands at its place in the room
+-- what was read is at its place in the room
 placed : (a k n : ℕ) (xs ys : List ℕ) → a ≤ length xs → n ≤ length ys → take n (drop a (put_mid a k xs ys)) ≡ take n ys
 placed a k n xs ys within fits =
     let after = post_of a k xs in

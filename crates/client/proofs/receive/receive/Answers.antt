@@ -18,7 +18,7 @@ overflow_add-size g c =
     let bounds = bounds _ _ _ _ _ _ _ _ _ c.loop-more.invariant c.in-Brings.ensures in
     omega (arith, bounds.small)
 
--- what was fetched, where it is known whether it is the last
+-- what was fetched, if it is known whether it is the last
 abbrev Brought : (read now : Option (List ℕ)) → (size fragments more : ℕ) → (room after : List ℕ) → Bool → Type 0
 Brought read now size fragments more room after is_last = Fetches read now size fragments room after (fetched.Brings more is_last)
 

@@ -4,7 +4,7 @@ use Rattle.std.proofs.KnownBytes.{Appends-trans, Appends-kept}
 use Rattle.client.proofs.stream.write_bytes.Goals as goal
 use Rattle.client.proofs.stream.write_bytes.Goals.{in-Ok, in-Err+else-ne}
 
--- what is written moves from the rest to the front
+-- what is written moves from the rest to what is done
 moves : (all done rest : List ℕ) (n : ℕ) → all ≡ done ++ rest → all ≡ (done ++ take n rest) ++ take (length rest - n) (drop n rest)
 moves all done rest n e =
     e ∙ ap (λ l. done ++ l) (sym (take-append-drop n rest)) ∙ sym (append_assoc done (take n rest) (drop n rest))

@@ -73,7 +73,7 @@ returns-clause-ok g c = λ k stored.
     (fixed g here same k)
     (IsFixedAs-gate c.closed.result [] _ _ c.closed.ensures (c.in_ok-write_sector.ensures.ok k))
 
--- at most so many are written home as one gate names
+-- at most as many are written home as one gate names
 few : (g : Over) (c : After-deref g) → length c.deref.result.now ≤ c.args.area.sectors
 few g c = omega (
   arith,

@@ -32,7 +32,7 @@ done g c e k = committed_at c.commit.result c.args.self.now.area c.deref-2.resul
     (g.D.Device.history c.args.self.now.device) (g.D.Device.history c.commit.new.device)
     (sym c.is_err.ensures.value ∙ e) c.deref-2.ensures.value (c.commit.ensures.ok k (stored g c k))
 
--- which sectors are shown then, and of which of them the updates are kept
+-- which sectors are named then, and of which of them the updates are kept
 shown : (g : Over) (c : After-is_err g) → c.is_err.result ≡ false
     → (c.commit.new.recorded.targets.items ≡ way_for c.args.self.now.area c.args.self.now.recorded.targets.items c.deref.result.now ++ c.deref.result.now)
     × (targets c.commit.new.recorded.updates.items ≡ way_for c.args.self.now.area c.args.self.now.recorded.targets.items c.deref.result.now)

@@ -6,7 +6,7 @@ use Rattle.opens.specs.Views.{open_of, opens_of}
 use Rattle.opens.proofs.Naming.{is_full_then, is_not_full, none_like_0, none_like_high}
 use Rattle.opens.proofs.opens.Opens.is_full.Goals as goal
 
--- an entry, whichever
+-- any entry
 some : Open → Entry
 some like = record { serial = 0; state = record like { number = 1; numbered = omega arith }; numbered = omega arith }
 
@@ -15,7 +15,7 @@ unfolding opens_of
 returns-in-Some-clause-is c =
     is_not_full c.args.most (opens_of c.args.self.now) (open_of c.args.asked.now) _ (c.in-Some.ensures.some.first (some c.args.asked.now))
 
--- an open of the number 0 joins none, and none would of a high one
+-- an open of the number 0 joins none, nor would one of a high number
 
 pub returns-in-Some-clause-high : goal.returns-in-Some-clause-high
 unfolding opens_of
