@@ -1,4 +1,4 @@
--- What is asked of the tree is answered by the cached nodes.
+-- Looking a number up in the tree is looking it up in the cached nodes.
 use Rattle.std.proofs.Common.{◌≡◌, ℕ, zero, suc, List, [], ◌∷◌, Option, Some, None, get_or, refl, sym, ap, ◌∙◌, arith}
 use Rattle.std.proofs.lemmas.Option.{same_Some, none-some}
 use Rattle.disk.specs.Moments.{Image}

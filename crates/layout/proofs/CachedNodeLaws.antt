@@ -1,4 +1,4 @@
--- A cached node that is held is what is read.
+-- A cached node that is held is the one that is read.
 use Rattle.std.proofs.Common.{◌≡◌, ◌≤◌, ◌<◌, ◌+◌, ◌-◌, ◌*◌, ℕ, zero, suc, List, [], ◌∷◌, ◌++◌, Option, Some, None, length, get_or, take, drop, min, refl, sym, ap, ap₂, ◌∙◌, arith, subst}
 use Rattle.std.specs.List.{AllByRecursion}
 use Rattle.std.proofs.lemmas.List.{length-take, length-drop, drop-drop, take-append-drop}
@@ -28,7 +28,7 @@ use Rattle.inode.proofs.ReadBack.{fields-back, form-back}
 use Rattle.extents.proofs.ReadBack.{runs-back}
 use Rattle.directory.proofs.ReadBack.{records-back}
 
--- of a list of which all have P so has each part
+-- if all elements of a list have P, so have those of each part
 all-take : {A : Type 0} (P : A → Type 0) (n : ℕ) (xs : List A) → AllByRecursion P xs → AllByRecursion P (take n xs)
 all-take P zero xs all = tt
 all-take P (suc n) [] all = tt

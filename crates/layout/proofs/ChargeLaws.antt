@@ -77,7 +77,7 @@ unfolding namings_of
 sum_card a n card =
     omega (arith, sum_to-plus (λ i. times (a + i) card.fields.run_sectors) (λ i. times_set (a + i) card.blocks) n, sum_times a n card.fields.run_sectors, sum_times_set a n card.blocks)
 
--- runs are at most as many as blocks
+-- there are no more runs than blocks
 pub few_runs : (from count : ℕ) (runs : List Run) → AreRising from count runs → from ≤ count → length runs + from ≤ count
 few_runs from count [] rising h = omega arith
 few_runs from count (run ∷ runs) rising h =

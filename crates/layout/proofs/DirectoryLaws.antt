@@ -23,7 +23,7 @@ length-block i xs = length-take 15 (drop (15 * i) xs) ∙ ap (min 15) (length-dr
 in-block : (i j : ℕ) (xs : List Record) → j < 15 → get_or (names_of_block i xs) j none ≡ get_or xs (15 * i + j) none
 in-block i j xs h = get_or-take 15 (drop (15 * i) xs) j none h ∙ get_or-drop (15 * i) xs j none
 
--- blocks of as many names, the same each
+-- blocks with the same number of names, each name the same
 same_block : (i : ℕ) (xs ys : List Record) → min 15 (length xs - 15 * i) ≡ min 15 (length ys - 15 * i) → ((k : ℕ) → 15 * i ≤ k → k < 15 * i + 15 → k < length xs → get_or xs k none ≡ get_or ys k none)
     → names_of_block i xs ≡ names_of_block i ys
 same_block i xs ys many same =
@@ -104,7 +104,7 @@ at_above [] k all h = absurd (omega arith)
 at_above (x ∷ xs) zero all h = all.0
 at_above (x ∷ xs) (suc k) all h = at_above xs k all.1 (omega arith)
 
--- where a record of the rest stood
+-- the place at which a record of the rest was before
 record From (names : List Record) (place k : ℕ) : Type 0 where
   pub stood : ℕ
   pub within : stood < length names

@@ -1,4 +1,4 @@
--- Edits of one file, one after the other.
+-- Consecutive edits of one file.
 use Rattle.std.proofs.Common.{◌≡◌, ◌+◌, ◌++◌, ℕ, List, Option, Some, None, length, refl, sym, ap, ◌∙◌}
 use Rattle.model_tree.specs.Trees.Edit.{altered, altered_at, overwritten, resized, with_content}
 use Rattle.model_tree.specs.Trees.Keyed.{at, with}

@@ -1,4 +1,4 @@
--- A file's bytes, and what changes of its blocks make of them.
+-- A file's bytes, and the effects of changes of its blocks on them.
 use Rattle.std.proofs.Common.{◌≡◌, ◌≢◌, ◌≤◌, ◌<◌, ◌+◌, ◌-◌, ◌*◌, ◌/◌, ◌%◌, ℕ, List, ◌++◌, Option, Some, None, length, get_or, set, take, drop, max, replicate, refl, sym, ap, ap₂, ◌∙◌, arith, append_assoc, inl, inr, lt-ltb, le-ltb, ltb, if◌then◌else◌}
 use Rattle.std.proofs.lemmas.Bool.{cases_eq, cases_lt}
 use Rattle.std.proofs.lemmas.List.{append-nil, length-append, length-replicate, length-take, length-drop, get_or_append_left, get_or-append_right, get_or-take, get_or-drop, get_or-replicate, get_or_past, get_or-set_same, get_or-set_other, get_or_default}
@@ -44,7 +44,7 @@ below-moved f g size c j k is same = elim (cases_lt k size) [
   | inr high ↦ below-past f (size - c) j (omega arith) ∙ sym (below-past g size k high)
 ]
 
--- the same bytes after so many others
+-- the same bytes after `c` others
 over-moved : (f g : ℕ → ℕ) (offset from c : ℕ) (part : List ℕ) (k j : ℕ) → offset ≡ c + from → k ≡ c + j → f k ≡ g j → over f offset part k ≡ over g from part j
 over-moved f g offset from c part k j at is same = elim (cases_lt j from) [
   | inl low ↦ over-front f offset part k (omega arith) ∙ same ∙ sym (over-front g from part j low)
@@ -168,7 +168,7 @@ grown-bytes old new was is bytes size hold fits same =
       | inr high ↦ hold.tail k (omega arith) ∙ sym (below-past (byte_at old was) size k high)
     ])
 
--- ---- what changes of blocks make of the bytes
+-- ---- the effects of changes of blocks on the bytes
 
 -- a byte by its block
 pub in-block : (image : Image) (blocks : List (Option ℕ)) (i k : ℕ) → k / 4096 ≡ i → byte_at image blocks k ≡ get_or (content_at image (get_or blocks i None)) (k % 4096) 0

@@ -1,4 +1,4 @@
--- A cached node whose sectors are kept is held still, and is the same node.
+-- A cached node whose sectors are kept is still held, and is the same node.
 use Rattle.std.proofs.Common.{◌≡◌, ◌<◌, ◌/◌, ◌%◌, ℕ, zero, suc, List, [], ◌∷◌, Option, Some, None, get_or, map, refl, ap, ◌∙◌, arith}
 use Rattle.std.specs.List.{range_with_len}
 use Rattle.std.proofs.lemmas.Option.{same_Some, none-some}

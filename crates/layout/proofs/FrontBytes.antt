@@ -1,8 +1,8 @@
--- A sector that is written from its front on.
+-- A sector that is written from its beginning.
 use Rattle.std.proofs.Common.{◌≡◌, ◌≤◌, ◌+◌, ◌++◌, ◌∙◌, ℕ, List, take, replicate, length, ap, sym, arith}
 use Rattle.std.proofs.lemmas.List.{take_all, length-replicate}
 
--- one that has these bytes in front and zeros after them is both end to end
+-- one that begins with these bytes and has zeros after them is both end to end
 pub behind_front : (count rest : ℕ) (old new front : List ℕ) → count + rest ≡ 4096 → length new ≡ 4096 → take count old ≡ front
     → take (count + length (replicate {A = ℕ} rest 0)) new ≡ take count old ++ replicate rest 0 → new ≡ front ++ replicate rest 0
 behind_front count rest old new front whole long fields zeros =

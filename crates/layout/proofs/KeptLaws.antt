@@ -1,4 +1,4 @@
--- What a volume keeps: its tree, and the seats that its sectors tell.
+-- What a volume keeps: its tree, and the seats that its sectors encode.
 use Rattle.std.proofs.Common.{ℕ, ◌≡◌, ◌<◌, ◌+◌, Option, None, refl, sym, ap, ap₂, ◌∙◌, arith}
 use Rattle.disk.specs.Moments.{Image}
 use Rattle.model_tree.specs.Seats.Seats.{Seats, no_seats}
@@ -16,7 +16,7 @@ pub version_parts : (nodes : ℕ) (version : Version) (seats : Seats) → IsVers
     → (number : VersionNumber) × (mark : Option ℕ) × IsMark number nodes mark × MayHaveSeats number mark seats × (version ≡ version_by number mark seats)
 version_parts nodes version seats (By number mark of is may) = (number, mark, is, may, refl)
 
--- a tree that stands in a version that a volume may have stands with its seats
+-- an image that represents a tree in a version that a volume may have represents it with its seats
 pub stands_by : (number : VersionNumber) (mark : Option ℕ) (size nodes : ℕ) (image : Image) (run : ℕ) (kept : Kept) → IsMark number nodes mark → MayHaveSeats number mark kept.seats → AreKept run kept.seats
     → TreeStands (version_by number mark kept.seats) size nodes image run kept.tree → StandsAs size nodes image run kept
 stands_by number mark size nodes image run kept is may keeps stands = record {
@@ -35,7 +35,7 @@ stands_now size nodes image run kept now = current_stands size nodes image run k
 pub same_kept : (a b : Kept) → a.tree ≡ b.tree → a.seats ≡ b.seats → a ≡ b
 same_kept a b trees seats = ap₂ (λ (t : Tree) (s : Seats). let of : Kept = record { tree = t; seats = s } in of) trees seats
 
--- The sectors tell the seats
+-- The sectors determine the seats
 
 pub seats_told : (size nodes : ℕ) (image : Image) (run : ℕ) (kept : Kept) → StandsAs size nodes image run kept → seats_at image ≡ kept.seats
 seats_told size nodes image run kept stands = seats-back kept.seats (λ n. image (100 + n)) stands.keeps.places

@@ -1,4 +1,4 @@
--- Each node but the root has one name: what a check compares.
+-- Each node except the root has one name: what a check compares.
 use Rattle.std.proofs.Common.{◌≡◌, ◌≢◌, ◌<◌, ◌+◌, ◌/◌, ◌%◌, ℕ, suc, Bool, true, false, List, [], ◌∷◌, Option, Some, None, length, get_or, refl, sym, ap, ◌∙◌, arith, inl, inr, eqb, eq-eqb, ne_eqb}
 use Rattle.std.specs.Prelude.{All, not, ◌&&◌, is_some}
 use Rattle.std.proofs.lemmas.Bool.{cases_eq, cases_lt}

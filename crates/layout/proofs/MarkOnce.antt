@@ -46,7 +46,7 @@ mark_fits : (number : VersionNumber) (nodes moved : ℕ) → nodes < 2 ^ 32 → 
 mark_fits One nodes moved fits is = omega (arith, fits, is.1)
 mark_fits Two nodes moved fits is = omega (arith, fits, is)
 
--- the sector of the mark tells it
+-- the sector of the mark determines it
 pub one_mark : (number : VersionNumber) (nodes : ℕ) (a b : Option ℕ) → nodes < 2 ^ 32 → IsMark number nodes a → IsMark number nodes b
     → mark_held a ≡ mark_held b → a ≡ b
 one_mark number nodes None None fits one other same = refl
@@ -65,7 +65,7 @@ numbers_apart Two Two same = refl
 numbers_apart One Two same = absurd (cc)
 numbers_apart Two One same = absurd (cc)
 
--- and the first sector the number
+-- and the first sector determines the number
 pub one_number : (a b : VersionNumber) (sectors nodes run other_sectors other_nodes other_run : ℕ)
     → superblock (number_of_version a) sectors nodes run ≡ superblock (number_of_version b) other_sectors other_nodes other_run → a ≡ b
 one_number a b sectors nodes run other_sectors other_nodes other_run same = numbers_apart a b
@@ -80,7 +80,7 @@ pub first_number : (number : VersionNumber) (mark : Option ℕ) (seats : Seats) 
     → superblock (version_by number mark seats).number size nodes run ≡ superblock (number_of_version number) size nodes run
 first_number number mark seats size nodes run = ap (λ (n : ℕ). superblock n size nodes run) (version_number number mark seats)
 
--- so what stands on sectors stands in the version that both tell
+-- so what an image represents, it represents in the version that both encode
 pub record StandsTold (number : VersionNumber) (mark : Option ℕ) (size nodes : ℕ) (image : Image) (run : ℕ) (kept : Kept) : Type 0 where
   pub may : MayHaveSeats number mark kept.seats
   pub stands : TreeStands (version_by number mark kept.seats) size nodes image run kept.tree

@@ -1,4 +1,4 @@
--- Marks in memory, and in the bitmap's sectors.
+-- Marks in memory, and in the sectors of the bitmap.
 use Rattle.std.proofs.Common.{◌≡◌, ◌≢◌, ◌≤◌, ◌<◌, ◌+◌, ◌-◌, ◌/◌, ◌%◌, ◌^◌, ◌⊎◌, ℕ, Bool, true, false, List, Option, Some, None, length, get_or, set, refl, sym, ap, ap₂, ◌∙◌, arith, subst, inl, inr, ltb, lt-ltb, le-ltb, if◌then◌else◌, slice_get}
 use Rattle.std.proofs.lemmas.Bool.{cases_eq, cases_lt}
 use Rattle.std.proofs.lemmas.List.{get_or_past, get_or-set_same, get_or-set_other}
@@ -83,7 +83,7 @@ each_mark first places place = record {
 
 -- ---- the bitmap's sectors
 
--- past the two sectors no bit stands
+-- past the two sectors no bit is set
 pub bit_of-past : (bytes : List ℕ) (i : ℕ) → length bytes ≡ 4096 → 32768 ≤ i → bit_of bytes i ≡ 0
 bit_of-past bytes i long h =
     let none : get_or bytes (i / 8) 0 ≡ 0 = get_or_past bytes (i / 8) 0 (omega arith) in

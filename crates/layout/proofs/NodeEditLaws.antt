@@ -32,7 +32,7 @@ node_of-bytes : (image : Image) (card : CachedNode) → card.fields.kind ≡ kin
 unfolding node_of
 node_of-bytes image card is = ap (λ (k : NodeKind). node_with card.fields (content_of image k card)) is
 
--- the tree with a node for another that shows the same is the tree that an edit makes of its node
+-- the tree with the changed node is the tree that an edit of this node gives
 module _ (nodes : ℕ) (old new : Image) (marked mark : ℕ → ℕ) (cards : List (Option CachedNode)) (place : ℕ) (was is : CachedNode) (steps : NodeSteps nodes old new marked mark cards place was is) where
   edited_as : (change : Node → Node) (node : Node) → node_of old was ≡ node → with (tree_of old cards) is.fields.number (change node) ≡ altered change (tree_of old cards) was.fields.number
   edited_as change node is_node =

@@ -1,4 +1,4 @@
--- How often numbers stand in a list.
+-- How often numbers occur in a list.
 use Rattle.std.proofs.Common.{◌≡◌, ◌≢◌, ◌≤◌, ◌<◌, ◌+◌, ℕ, zero, suc, List, [], ◌∷◌, ◌++◌, Option, Some, None, length, take, get_or, refl, sym, ap, ◌∙◌, arith, inl, inr, eqb, eq-eqb, ne_eqb}
 use Rattle.std.proofs.lemmas.Bool.{cases_eq}
 use Rattle.std.proofs.lemmas.List.Sorted.{sum_by-IsPermutation}
@@ -20,7 +20,7 @@ pub times-append : (n : ℕ) (a b : List ℕ) → times n (a ++ b) ≡ times n a
 times-append n [] b = omega arith
 times-append n (x ∷ a) b = omega (arith, times-append n a b)
 
--- what stands in a list stands in it once at least
+-- what is in a list occurs in it at least once
 pub times-at : (xs : List ℕ) (i d : ℕ) → i < length xs → 0 < times (get_or xs i d) xs
 times-at [] i d h = absurd (omega arith)
 times-at (x ∷ xs) zero d h = omega (arith, once-here x)
@@ -41,7 +41,7 @@ times-sum n (x ∷ xs) = ap (λ k. once_if (eqb n x) + k) (times-sum n xs) ∙ s
 pub times-moved : (n : ℕ) (xs ys : List ℕ) → IsPermutation xs ys → times n ys ≡ times n xs
 times-moved n xs ys moved = times-sum n ys ∙ sum_by-IsPermutation (λ x. once_if (eqb n x)) xs ys moved ∙ sym (times-sum n xs)
 
--- a number that stands in a list has a place there
+-- a number that occurs in a list has a place there
 pub place-of : (n : ℕ) (xs : List ℕ) → 0 < times n xs → (i : ℕ) × ((i < length xs) × (get_or xs i 0 ≡ n))
 place-of n [] some = absurd (omega arith)
 place-of n (x ∷ xs) some = elim (cases_eq n x) [
@@ -52,7 +52,7 @@ place-of n (x ∷ xs) some = elim (cases_eq n x) [
       (suc found.0, (omega (arith, found.1.0), found.1.1))
 ]
 
--- where no two neighbours are the same, sorted numbers rise from the first on
+-- if no two neighbours are the same, sorted numbers rise from the first on
 pub rising : (xs : List ℕ) → IsNonDecreasing xs → ((i : ℕ) → i + 1 < length xs → get_or xs i 0 ≢ get_or xs (i + 1) 0) → (i j : ℕ) → i < j → j < length xs → get_or xs i 0 < get_or xs j 0
 rising xs up differ i zero before h = absurd (omega arith)
 rising xs up differ i (suc j) before h =

@@ -1,4 +1,4 @@
--- The seats that a volume keeps, and the sectors that they stand in.
+-- The seats that a volume keeps, and the sectors that hold them.
 use Rattle.std.proofs.Common.{◌≡◌, ◌≤◌, ◌<◌, ◌+◌, ◌-◌, ◌*◌, ◌/◌, ◌%◌, ◌==◌, ℕ, zero, suc, Bool, true, false, List, Option, None, Some, get_or, if◌then◌else◌, ne_eqb, refl, sym, ap, ◌∙◌, subst, arith, true≢false}
 use Rattle.disk.specs.Calls as calls
 use Rattle.disk.specs.Calls.{zero_sector}

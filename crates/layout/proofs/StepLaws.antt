@@ -64,7 +64,7 @@ names_step nodes old new marked mark cards place was is names steps directory ho
 pub shown : (was is : Fields) (content : Content) → ShowsSame was is → node_with is content ≡ node_with was content
 shown was is content same = rw (same.owner, same.group, same.acl, same.change, same.time_modify) refl
 
--- the node that stands there already
+-- the node that is already there
 same_tree : (nodes : ℕ) (old new : Image) (marked mark : ℕ → ℕ) (cards : List (Option CachedNode)) (place : ℕ) (was is : CachedNode) (bytes : List ℕ) → NodeSteps nodes old new marked mark cards place was is → was.fields.kind ≡ kind.File
     → was.fields.size ≡ length bytes → HoldBytes old was.blocks bytes → ShowsSame was.fields is.fields → with (tree_of old cards) is.fields.number (node_with is.fields (File bytes)) ≡ tree_of old cards
 same_tree nodes old new marked mark cards place was is bytes steps file long held same =

@@ -8,9 +8,9 @@ use Rattle.layout.specs.Laid.{AreLaid, HoldsPlace, HoldsCard}
 use Rattle.layout.specs.Marks.{namings_of}
 use Rattle.layout.specs.Stands.{Version, IsLaid, TreeStands, Kept, StandsAs}
 
--- A cached node that is held is what is read. So a place that holds a cached node holds the one
--- that is read, and cached nodes that are laid are those that are read: who looks for a tree looks
--- at these alone.
+-- A cached node that is held is the one that is read. So a place that holds a cached node holds the
+-- one that is read, and cached nodes that are laid are those that are read: a search for a tree
+-- need only look at these.
 
 abbrev pub CardReadsBack : Type 0
 CardReadsBack =
@@ -31,7 +31,7 @@ abbrev pub OnlyCards : Type 0
 OnlyCards = (version : Version) (size nodes : ℕ) (image : Image) (cards : List (Option CachedNode))
     → IsLaid version size nodes image cards → IsLaid version size nodes image (cards_in nodes image)
 
--- One image stands for one tree, of one size and one restart count, whatever the version
+-- One image represents one tree, of one size and one restart count, whatever the version
 pub record SameVolume (size other_size nodes other_nodes run other_run : ℕ)
     (tree other : Tree) : Type 0 where
   pub tree_is : tree ≡ other
@@ -59,12 +59,12 @@ OneKept =
     → StandsAs size nodes image run kept → StandsAs other_size other_nodes image other_run other
     → SameKept size other_size nodes other_nodes run other_run kept other
 
--- that an image stands for a tree has one proof at most
+-- that an image represents a tree has at most one proof
 abbrev pub OneProof : Type 0
 OneProof = (version : Version) (size nodes : ℕ) (image : Image) (run : ℕ) (tree : Tree)
     (a b : TreeStands version size nodes image run tree) → a ≡ b
 
--- Where what a cached node names is kept, the cached node is held still, and is the same node
+-- If what a cached node names is kept, the cached node is still held, and is the same node
 
 abbrev pub AreKept : Image → Image → Option CachedNode → Type 0
 AreKept old new card = (n : ℕ) → 0 < namings_of n card → new n ≡ old n
@@ -79,8 +79,8 @@ Frame =
     → new (node_sector place) ≡ old (node_sector place)
     → AreKept old new (Some card) → KeepsCard old new place card
 
--- The tree's node of a number is that of the cached node of this number, and there is none where no
--- cached node has it
+-- The node of the tree with a number is that of the cached node with this number, and there is none
+-- if no cached node has it
 pub record FindsCached (image : Image) (cards : List (Option CachedNode)) (number : ℕ)
     : Type 0 where
   pub found : (place : ℕ) (card : CachedNode) → slice_index_or cards place None ≡ Some card

@@ -1,6 +1,6 @@
 -- The nodes of a volume, and its tree, as functions of what its sectors hold, whatever that is.
 -- Each place of the node table holds a node or is free. A cached node is what is read of a node:
--- everything but the bytes of a file.
+-- everything except the bytes of a file.
 use Rattle.std.specs.Prelude.{◌+◌, ◌-◌, ◌/◌, ◌%◌, ◌==◌, ◌++◌, ℕ, List, [], ◌∷◌, Option, Some, None, min, map, slice_index, slice_index_or, if◌then◌else◌}
 use Rattle.std.specs.List.{range_with_len}
 use Rattle.disk.specs.Moments.{Image}
@@ -37,12 +37,12 @@ block_count fields = blocks_of fields.kind fields.size
 
 -- Blocks
 
--- what a block holds: nothing where it is a hole
+-- what a block holds: nothing if it is a hole
 abbrev pub content_at : Image → Option ℕ → List ℕ
 content_at image None = []
 content_at image (Some sector) = image sector
 
--- byte k of these blocks, 4,096 each: 0 in a hole
+-- byte k of these blocks of 4,096 bytes: 0 in a hole
 unfoldable pub byte_at : Image → List (Option ℕ) → ℕ → ℕ
 byte_at image blocks k =
     slice_index (content_at image (slice_index_or blocks (k / 4096) None)) (k % 4096)
@@ -52,13 +52,13 @@ bytes_in image blocks size = map (byte_at image blocks) (range_with_len 0 size)
 
 -- The cached node at a place
 
--- so many runs of these run sectors, 500 each
+-- `left` runs, read from these run sectors, 500 each
 abbrev pub runs_through : Image → (left : ℕ) → List ℕ → List Run
 runs_through image left [] = []
 runs_through image left (sector ∷ sectors) =
     runs_in (min 500 left) (image sector) ++ runs_through image (left - 500) sectors
 
--- so many names of these blocks, 15 each
+-- `left` names, read from these blocks, 15 each
 abbrev pub names_through : Image → (left : ℕ) → List (Option ℕ) → List Record
 names_through image left [] = []
 names_through image left (block ∷ blocks) =
@@ -88,14 +88,14 @@ abbrev pub card_from : Image → Form → Fields → CachedNode
 card_from image form fields =
     card_with image form fields (runs_through image fields.runs fields.run_sectors)
 
--- none where the place's sector begins with 0
+-- none if the place's sector begins with 0
 unfoldable pub card_in : Image → (place : ℕ) → Option CachedNode
 card_in image place =
     if slice_index (image (node_sector place)) 0 == 0 then None
     else Some (card_from image (form_in (image (node_sector place)))
     (fields_in (image (node_sector place))))
 
--- the cached nodes of a table of so many places
+-- the cached nodes of a table with `nodes` places
 unfoldable pub cards_in : (nodes : ℕ) → Image → List (Option CachedNode)
 cards_in nodes image = map (card_in image) (range_with_len 0 nodes)
 
@@ -119,7 +119,7 @@ node_with fields content = record {
 unfoldable pub node_of : Image → CachedNode → Node
 node_of image card = node_with card.fields (content_of image card.fields.kind card)
 
--- the nodes of the cached nodes by their numbers
+-- the nodes of the cached nodes, by their numbers
 abbrev pub tree_of : Image → List (Option CachedNode) → Tree
 tree_of image [] = []
 tree_of image (None ∷ cards) = tree_of image cards

@@ -7,7 +7,7 @@ use Rattle.layout.specs.CachedNodes.{CachedNode, node_sector, node_of, tree_of}
 use Rattle.layout.specs.Laid.{AreLaid, HoldsPlace}
 use Rattle.layout.specs.Marks.{namings_of}
 
--- the tree with a cached node, or without it where the cached node is gone
+-- the tree with a cached node, or without it if the cached node is gone
 abbrev pub tree_with : Image → Tree → (was is : Option CachedNode) → Tree
 tree_with image tree was (Some card) = with tree card.fields.number (node_of image card)
 tree_with image tree None None = tree
@@ -26,8 +26,8 @@ IsSameNumber None is = Unit {0}
 IsSameNumber (Some old) None = Unit {0}
 IsSameNumber (Some old) (Some new) = new.fields.number ≡ old.fields.number
 
--- From the node table on nothing has changed but the place's sector and what the cached node names,
--- or the one that was there. The marks follow the cached node.
+-- From the node table on, only the place's sector and what the cached node names, or what the
+-- former one named, have changed. The marks follow the cached node.
 pub record ChangesOwn (nodes : ℕ) (old new : Image) (marked mark : ℕ → ℕ) (place : ℕ)
     (was is : Option CachedNode) : Type 0 where
   pub others : (n : ℕ) → 148 ≤ n → n ≢ node_sector place → namings_of n was ≡ 0 → namings_of n is

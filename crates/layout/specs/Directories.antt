@@ -1,5 +1,5 @@
--- A directory's names in their blocks, 15 each in the order of the records, and what a change makes
--- of them.
+-- A directory's names in their blocks, 15 each in the order of the records, and the effect of a
+-- change on them.
 use Rattle.std.specs.Prelude.{◌≡◌, ◌≢◌, ◌<◌, ◌-◌, ◌/◌, ◌++◌, ℕ, List, [], ◌∷◌, Option, None, length, slice_index_or}
 use Rattle.disk.specs.Moments.{Image}
 use Rattle.directory.specs.Records.{Record, with_record, without_place, place_of, name_of, NamesStamped}
@@ -7,7 +7,7 @@ use Rattle.directory.specs.Spelling.{directory_sector}
 use Rattle.layout.specs.CachedNodes.{content_at}
 use Rattle.layout.specs.Laid.{names_of_block, AreSpelled}
 
--- the names of each block but these are the same
+-- the names of every block except these are the same
 abbrev pub ChangesBlocks : (old new : List Record) → (one other : ℕ) → Type 0
 ChangesBlocks old new one other =
     (i : ℕ) → i ≢ one → i ≢ other → names_of_block i new ≡ names_of_block i old
@@ -29,8 +29,8 @@ abbrev pub RemovesInTwo : Type 0
 RemovesInTwo = (names : List Record) (place : ℕ) → place < length names
     → ChangesBlocks names (without_place names place) (block_of place) (block_of (length names - 1))
 
--- the blocks but these hold what they held, and these hold their names; there may be one more or
--- one less
+-- the blocks except these hold what they held, and these hold their names; there may be one block
+-- more or one less
 pub record RewritesBlocks (old new : Image) (was is : List (Option ℕ)) (names : List Record)
     (one other : ℕ) : Type 0 where
   pub kept : (i : ℕ) → i ≢ one → i ≢ other → i < length is
@@ -55,7 +55,7 @@ NoHoles =
     (image : Image) (blocks : List (Option ℕ)) (names : List Record) → AreSpelled image blocks names
     → (i : ℕ) → i < length blocks → slice_index_or blocks i None ≢ None
 
--- stamps stay apart
+-- stamps remain distinct
 
 abbrev pub StaysStamped : Type 0
 StaysStamped = (names : List Record) (place : ℕ) → place < length names → NamesStamped names

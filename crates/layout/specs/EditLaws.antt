@@ -1,10 +1,11 @@
--- Edits of one file, one after the other.
+-- Consecutive edits of one file.
 use Rattle.std.specs.Prelude.{◌≡◌, ◌≤◌, ◌+◌, ◌++◌, ℕ, List, Some, max, length}
 use Rattle.model_tree.specs.Trees.Edit.{PutBytes, SetSize, done}
 use Rattle.model_tree.specs.Trees.Keyed.{at}
 use Rattle.model_tree.specs.Trees.Tree.{Tree, Node, bytes_of}
 
--- a part after a part is one part, and a write over what has grown to its end at most is the write
+-- two consecutive parts are one part, and a write over a file that has grown no further than the
+-- end of the write is just that write
 pub record WritesMeet (tree : Tree) (number offset : ℕ) : Type 0 where
   pub on : (front part : List ℕ)
       → done (PutBytes number (offset + length front) part)

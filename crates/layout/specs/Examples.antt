@@ -1,4 +1,5 @@
--- What files of some sizes take of the data region: so many blocks, and a sector for each 500 of them.
+-- What files of certain sizes take of the data region: their blocks, and a sector for every 500 of
+-- these.
 use Rattle.std.specs.Prelude.{◌≡◌, ℕ}
 use Rattle.model_tree.specs.declared.node.NodeKind.TheVariants as kind
 use Rattle.model_tree.specs.Trees.Charge.{blocks_of, charge_of_blocks}

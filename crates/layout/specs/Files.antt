@@ -1,4 +1,4 @@
--- A file's bytes, and what changes of its blocks make of them.
+-- A file's bytes, and the effects of changes of its blocks on them.
 use Rattle.std.specs.Prelude.{◌≡◌, ◌≢◌, ◌≤◌, ◌<◌, ◌+◌, ◌-◌, ◌*◌, ◌++◌, ℕ, List, Option, Some, None, max, length, take, set, nat_lt, slice_index_or, if◌then◌else◌}
 use Rattle.disk.specs.Moments.{Image}
 use Rattle.disk.specs.Calls.{zero_sector}
@@ -9,7 +9,7 @@ use Rattle.layout.specs.CachedNodes.{content_at, byte_at, bytes_in}
 
 -- Bytes by their places
 
--- with a part from a place on
+-- with a part written from a place on
 unfoldable pub over : (ℕ → ℕ) → (offset : ℕ) → List ℕ → ℕ → ℕ
 over byte offset part k =
     if nat_lt k offset then byte k else slice_index_or part (k - offset) (byte k)
@@ -23,7 +23,7 @@ AreZeroFrom byte size = (k : ℕ) → size ≤ k → byte k ≡ 0
 
 -- Changes of blocks
 
--- but for one block, each block holds what it held
+-- every block except one holds what it held
 abbrev pub HoldOthers : (old new : Image) → List (Option ℕ) → (block : ℕ) → Type 0
 HoldOthers old new blocks block = (i : ℕ) → i ≢ block
     → content_at new (slice_index_or blocks i None) ≡ content_at old (slice_index_or blocks i None)
@@ -56,7 +56,7 @@ pub record CutsBlocks (old new : Image) (blocks : List (Option ℕ)) (count size
       ≡ below (λ k. slice_index_or (content_at old (slice_index_or blocks i None)) k 0)
       (size - 4096 * i) j
 
--- What they make of the bytes by their places
+-- Their effects on the bytes by their places
 
 abbrev pub Filling : Type 0
 Filling =
@@ -84,7 +84,7 @@ abbrev pub Growing : Type 0
 Growing = (image : Image) (blocks : List (Option ℕ)) (count : ℕ) (k : ℕ)
     → byte_at image (with_holes blocks count) k ≡ byte_at image blocks k
 
--- What they make of the list of bytes
+-- Their effects on the list of bytes
 
 -- the bytes are these, and zeros past them
 pub record HoldBytes (image : Image) (blocks : List (Option ℕ)) (bytes : List ℕ) : Type 0 where
@@ -118,7 +118,8 @@ GrownBytes =
     → length bytes ≤ size → ((k : ℕ) → byte_at new is k ≡ byte_at old was k)
     → HoldBytes new is (resized bytes size)
 
--- a part after a part is one part, and a write over what has grown to its end at most is the write
+-- two consecutive parts are one part, and a write over bytes that have grown no further than the
+-- end of the write is just that write
 pub record WritesByParts (bytes : List ℕ) (offset : ℕ) : Type 0 where
   pub on : (front part : List ℕ)
       → overwritten (overwritten bytes offset front) (offset + length front) part

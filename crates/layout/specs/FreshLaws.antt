@@ -26,7 +26,7 @@ root_fields = record {
   acl = fresh_root.acl;
 }
 
--- the root stands at place 0, the other places are free, and no sector of the data region is used
+-- the root is at place 0, the other places are free, and no sector of the data region is used
 pub record IsFresh (version : Version) (size nodes : ℕ) (image : Image) : Type 0 where
   pub sized : IsTrue (is_size size nodes)
   pub a_node : 1 ≤ (version.limits size nodes).nodes
@@ -37,7 +37,7 @@ pub record IsFresh (version : Version) (size nodes : ℕ) (image : Image) : Type
   pub bitmap : (n : ℕ) → 98 ≤ n → n < 100 → image n ≡ zero_sector
   pub others : (place : ℕ) → 0 < place → place < nodes → image (node_sector place) ≡ zero_sector
 
--- It stands for the tree of a fresh volume
+-- It holds the tree of a fresh volume
 abbrev pub FreshStands : Type 0
 FreshStands =
     (version : Version) (size nodes : ℕ) (image : Image) → IsFresh version size nodes image

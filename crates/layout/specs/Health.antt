@@ -1,4 +1,4 @@
--- How the device under sectors does, and what calls that only read leave of it.
+-- The state of the device under sectors, and what calls that only read do to it.
 use Rattle.std.specs.Prelude.{◌≡◌, ◌⊎◌, ℕ, Bool, true}
 use Rattle.disk.specs.Cause.{IsCounted}
 
@@ -11,8 +11,8 @@ pub record GoesDown (old new : Health) : Type 0 where
   pub down : new.is_down ≡ true
   pub cause : ((old.is_down ≡ true) × (new ≡ old)) ⊎ IsCounted old.failed new.failed
 
--- a call that only reads, and may be refused for the device: where it is, the device failed; where
--- it is not, it did not
+-- a call that only reads, and may be refused because of the device: if it is refused, the device
+-- failed; if not, it did not
 pub record FailsOrStays (old new : Health) (faulted : Type 0) : Type 0 where
   pub fails : faulted → GoesDown old new
   pub stays : (faulted → ⊥) → new ≡ old

@@ -1,6 +1,5 @@
--- What is known of cached nodes that are laid whatever the sectors hold: all of it is told by the
--- cached nodes themselves and by the marks. On a device that does not keep its word nothing else is
--- known.
+-- What is known of laid cached nodes whatever the sectors hold: all of it follows from the cached
+-- nodes themselves and the marks. On a device that does not keep its word nothing else is known.
 use Rattle.std.specs.Prelude.{◌≡◌, ◌≤◌, ◌<◌, ◌+◌, ℕ, List, [], Option, Some, None, length, set, slice_index_or}
 use Rattle.std.specs.List.{AllByRecursion}
 use Rattle.disk.specs.Moments.{Image}
@@ -15,7 +14,7 @@ use Rattle.layout.specs.ChangeLaws.{IsOwnNumber}
 use Rattle.layout.specs.Laid.{AreLaid, AreNumbered}
 use Rattle.layout.specs.Marks.{named, namings_of}
 
--- a directory's names are as many as its size says
+-- a directory's size is the number of its names
 pub record HasNames (card : CachedNode) : Type 0 where
   pub count : length card.names ≡ card.fields.size
   pub names : IsDirectory card.names
@@ -54,13 +53,13 @@ LaidAreCards =
     → AreLaid nodes image mark cards
     → AreCards nodes mark cards
 
--- the marks follow the cached node that stands at a place now, in place of the one that was there
+-- the marks follow the cached node that is now at a place, instead of the one that was there
 pub record MovesMarks (nodes : ℕ) (marked mark : ℕ → ℕ) (was is : Option CachedNode) : Type 0 where
   pub marks : (n : ℕ) → mark n + namings_of n was ≡ marked n + namings_of n is
   pub once : (n : ℕ) → mark n ≤ 1
   pub behind : (n : ℕ) → 0 < mark n → 148 + nodes ≤ n
 
--- and where one of them changes with the marks, they stay so
+-- and if one of them changes along with the marks, they stay so
 abbrev pub OneCardChange : Type 0
 OneCardChange =
     (nodes : ℕ) (marked mark : ℕ → ℕ) (cards : List (Option CachedNode)) (place : ℕ)

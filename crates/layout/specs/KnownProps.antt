@@ -1,4 +1,4 @@
--- What is known of cached nodes without their sectors has one proof at most.
+-- What is known of cached nodes without their sectors has at most one proof.
 use Rattle.std.specs.Prelude.{ℕ, List, Option, Some, None}
 use Rattle.std.proofs.Props.{props}
 use Rattle.model_tree.specs.declared.node.NodeKind.{NodeKind}

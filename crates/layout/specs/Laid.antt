@@ -1,4 +1,4 @@
--- What the sectors of a volume hold of its nodes, byte by byte.
+-- What the sectors of a volume hold for its nodes, byte by byte.
 use Rattle.std.specs.Prelude.{◌≡◌, ◌≢◌, ◌≤◌, ◌<◌, ◌+◌, ◌*◌, ℕ, List, [], Option, Some, None, length, take, drop, slice_index_or}
 use Rattle.std.specs.List.{AllByRecursion}
 use Rattle.disk.specs.Moments.{Image}
@@ -52,7 +52,7 @@ HoldsContent image kind.Directory card = HoldsNames image card
 
 -- A place of the node table
 
--- the node's sector and its run sectors, and how its blocks stand in runs
+-- the node's sector and its run sectors, and the runs that encode its blocks
 pub record HoldsNode (image : Image) (place : ℕ) (card : CachedNode) : Type 0 where
   pub fits : IsInode card.form card.fields
   pub number : 0 < card.fields.number
@@ -82,8 +82,8 @@ AreNumbered cards =
     → a.fields.number ≢ b.fields.number
 
 -- The places hold these cached nodes, and each sector is marked as often as they name it: so none
--- is named twice, none outside the data region is named, and none is marked that is not named.
--- Where the marks stand is left open: a change has them in memory.
+-- is named twice, none outside the data region is named, and only named sectors are marked. Where
+-- the marks are kept is left open: a change has them in memory.
 pub record AreLaid (nodes : ℕ) (image : Image) (mark : ℕ → ℕ) (cards : List (Option CachedNode))
     : Type
     0 where

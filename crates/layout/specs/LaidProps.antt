@@ -1,4 +1,4 @@
--- That cached nodes are laid has one proof at most.
+-- That cached nodes are laid has at most one proof.
 use Rattle.std.specs.Prelude.{◌+◌, ℕ, List, [], ◌∷◌, Option, Some, None}
 use Rattle.std.proofs.Props.{props}
 use Rattle.std.specs.Coded.{Unit-prop}

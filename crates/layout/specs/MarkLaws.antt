@@ -1,5 +1,5 @@
--- Marks: what they are after a change of the set, what sectors show them, and that they never pass
--- what the tree is charged.
+-- Marks: what they are after a change of the set, that the bitmap sectors show them, and that they
+-- never exceed what the tree is charged.
 use Rattle.std.specs.Prelude.{◌≡◌, ◌≤◌, ◌<◌, ◌+◌, ◌==◌, ℕ, Bool, true, false, List, Option, Some, length, slice_get, slice_set, slice_index_or}
 use Rattle.disk.specs.Moments.{Image}
 use Rattle.freemap.specs.Places.{Show, mark_of, bit_in}
@@ -11,7 +11,7 @@ use Rattle.layout.specs.Laid.{AreLaid}
 use Rattle.layout.specs.Marks.{once_if, mark_in, mark_by}
 use Rattle.layout.specs.Stands.{Version, HaveForms, IsLaid, TreeStands}
 
--- one sector more is marked, or one less
+-- one more sector is marked, or one less
 pub record MarksChange (first : ℕ) (places : List Bool) (place : ℕ) : Type 0 where
   pub taken : slice_get places place ≡ Some false
       → (n : ℕ) → mark_by first (slice_set places place true) n
@@ -33,7 +33,7 @@ MarksLaid =
     → Show (image 98) (image 99) count places
     → (n : ℕ) → mark_in nodes image n ≡ mark_by (148 + nodes) places n
 
--- where the bitmap sectors alone are written, what was laid by a set in memory is laid
+-- if only the bitmap sectors are written, what was laid with a set in memory is laid
 pub record WritesMarks (version : Version) (size nodes : ℕ) (old new : Image) (places : List Bool)
     (cards : List (Option CachedNode)) : Type 0 where
   pub size_is : size ≡ 148 + nodes + length places
@@ -49,7 +49,7 @@ LaysMarks =
     (cards : List (Option CachedNode))
     → WritesMarks version size nodes old new places cards → IsLaid version size nodes new cards
 
--- Kept sectors alone are seen: the superblock, and what comes after the commit record and the
+-- Only kept sectors are seen: the superblock, and what comes after the commit record and the
 -- payload
 pub record SeesSame (version : Version) (size nodes : ℕ) (old new : Image)
     (cards : List (Option CachedNode)) : Type 0 where
@@ -64,15 +64,15 @@ KeptAlone =
     → IsLaid version size nodes old cards → ((n : ℕ) → 98 ≤ n → n < size → new n ≡ old n)
     → SeesSame version size nodes old new cards
 
--- so of images that are told up to these sectors it does not matter which one is meant
+-- so for images that are known only in these sectors it does not matter which one is meant
 abbrev pub StandsAlone : Type 0
 StandsAlone = (version : Version) (size nodes : ℕ) (old new : Image) (run : ℕ) (tree : Tree)
     → TreeStands version size nodes old run tree → new 0 ≡ old 0
     → ((n : ℕ) → 98 ≤ n → n < size → new n ≡ old n)
     → TreeStands version size nodes new run tree
 
--- Where all places are marked, the tree is charged for all of them: so where it is charged for
--- less, a place is free
+-- If all places are marked, the tree is charged for all of them: so if it is charged for less, a
+-- place is free
 abbrev pub FullIsCharged : Type 0
 FullIsCharged =
     (nodes : ℕ) (image : Image) (mark : ℕ → ℕ) (cards : List (Option CachedNode)) (count : ℕ)

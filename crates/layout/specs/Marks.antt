@@ -27,8 +27,8 @@ abbrev pub named : (n : ℕ) → List (Option CachedNode) → ℕ
 named n [] = 0
 named n (card ∷ cards) = namings_of n card + named n cards
 
--- The mark of a sector: 0 in front of the data region; from there on the bit of its place in the
--- two bitmap sectors, or, of a set of places in memory, whether its place is used
+-- The mark of a sector: 0 before the data region; from there on, the bit of its place in the two
+-- bitmap sectors or, for a set of places in memory, whether its place is used
 
 unfoldable pub mark_in : (nodes : ℕ) → Image → (n : ℕ) → ℕ
 mark_in nodes image n =

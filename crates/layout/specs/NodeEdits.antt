@@ -19,7 +19,7 @@ use Rattle.layout.specs.Steps.{NodeSteps, LaysTree, ShowsSame}
 
 -- Files
 
--- a file before and after: nothing of it that the tree shows has changed but its bytes
+-- a file before and after: of what the tree shows, only its bytes have changed
 pub record AreFiles (was is : CachedNode) : Type 0 where
   pub was_file : was.fields.kind ≡ kind.File
   pub is_file : is.fields.kind ≡ kind.File
@@ -70,7 +70,7 @@ WriteFile =
     → LaysTree nodes new mark cards place is
     (done (PutBytes was.fields.number offset bytes) (tree_of old cards))
 
--- a hole gets a sector of zeros, beside what its runs want
+-- a hole gets a sector of zeros, besides what its runs need
 pub record FillsBlock (old new : Image) (was is : CachedNode) (block sector : ℕ) : Type 0 where
   pub files : AreFiles was is
   pub blocks : is.blocks ≡ set was.blocks block (Some sector)
@@ -89,8 +89,8 @@ FillBlock =
     → FillsBlock old new was is block sector
     → LaysTree nodes new mark cards place is (tree_of old cards)
 
--- a file is cut: its blocks from `count` on go, and zeros stand past its size in the last one that
--- stays
+-- a file is truncated: its blocks from `count` on go, and the last one that stays has zeros past
+-- its size
 pub record CutsFile (old new : Image) (was is : CachedNode) (count : ℕ) : Type 0 where
   pub files : AreFiles was is
   pub blocks : is.blocks ≡ take count was.blocks
@@ -125,7 +125,7 @@ GrowFile =
 
 -- Directories
 
--- a directory before and after: nothing of it that the tree shows has changed but its names
+-- a directory before and after: of what the tree shows, only its names have changed
 pub record AreDirectories (old : Image) (was is : CachedNode) : Type 0 where
   pub was_directory : was.fields.kind ≡ kind.Directory
   pub is_directory : is.fields.kind ≡ kind.Directory
@@ -153,7 +153,7 @@ PutOneName =
     → LaysTree nodes new mark cards place is
     (done (PutName was.fields.number entry.0 entry.1) (tree_of old cards))
 
--- a name is dropped, and the last record moves into its place
+-- a name is removed, and the last record moves into its place
 pub record DropsName (old new : Image) (was is : CachedNode) (at stamp : ℕ) : Type 0 where
   pub directories : AreDirectories old was is
   pub within : at < length was.names
@@ -174,7 +174,7 @@ DropOneName =
 
 -- Nodes
 
--- what a node shows beside its content changes, and nothing else does
+-- the metadata of a node changes, and nothing else does
 pub record ShowsOther (old new : Image) (was is : CachedNode) (shown : Shown) : Type 0 where
   pub kind : is.fields.kind ≡ was.fields.kind
   pub size : is.fields.size ≡ was.fields.size

@@ -36,7 +36,7 @@ pub record IsRewritten (was is : Version) (size nodes run : ℕ) (old new : Imag
   pub limits : is.limits size nodes ≡ was.limits size nodes
   pub others : AreRewritten was is size nodes old new
 
--- The law: then it stands for the tree for which it stood, under the count that it has now
+-- The law: then it represents the same tree as before, under the restart count that it has now
 abbrev pub RewrittenStands : Type 0
 RewrittenStands =
     (was is : Version) (size nodes run later : ℕ) (old new : Image) (tree : Tree)
@@ -65,7 +65,7 @@ second_image nodes image n =
     if nat_le 148 n then (if nat_le (148 + nodes) n then image n else in_form Two (image n))
     else (if nat_le 100 n then zero_sector else image n)
 
--- A volume that is laid is so in form two as well, with the same tree
+-- A volume that is laid is laid in form two as well, with the same tree
 pub record IsLaidSecond (size nodes : ℕ) (image : Image) (cards : List (Option CachedNode))
     : Type 0 where
   pub laid : IsLaid (current_version no_seats) size nodes (second_image nodes image)
@@ -86,7 +86,7 @@ KnownSecond =
     (nodes : ℕ) (mark : ℕ → ℕ) (cards : List (Option CachedNode))
     → AreCards nodes mark cards → AreCards nodes mark (all_second cards)
 
--- and a rewritten volume has the same cached nodes but for their forms
+-- and a rewritten volume has the same cached nodes, except for their forms
 abbrev pub RewrittenCards : Type 0
 RewrittenCards =
     (was is : Version) (size nodes run later : ℕ) (old new : Image) (tree : Tree)

@@ -1,5 +1,4 @@
--- What a volume stands for. Sectors 1 to 97 are the journal's; what it makes of them is settled
--- before.
+-- What a volume holds. Sectors 1 to 97 are the journal's; it has dealt with them before.
 use Rattle.std.specs.Prelude.{◌≡◌, ◌≤◌, ◌<◌, ◌+◌, ◌-◌, ◌++◌, ◌^◌, ◌==◌, ℕ, ⊤, List, Option, Some, None, IsTrue, codes, nat_le, replicate, slice_index_or, if◌then◌else◌}
 use Rattle.std.specs.Int.{w32, to_be_bytes}
 use Rattle.disk.specs.Moments.{Image}
@@ -21,8 +20,8 @@ use Rattle.layout.specs.Laid.{AreLaid}
 use Rattle.layout.specs.Marks.{mark_in, named}
 use Rattle.layout.specs.Superblock.{superblock, is_size}
 
--- What marks the used sectors of the data region: the bitmap in two sectors, or nothing but the nodes
--- that name them
+-- What marks the used sectors of the data region: the bitmap in two sectors, or only the nodes that
+-- name them
 pub data Marking : Type 0 where
   InSectors : Marking
   AsNamed : Marking
@@ -32,9 +31,9 @@ abbrev pub marked_by : Marking → (nodes : ℕ) → Image → List (Option Cach
 marked_by InSectors nodes image cards n = mark_in nodes image n
 marked_by AsNamed nodes image cards n = named n cards
 
--- What versions of the layout differ in: the number in the superblock, the limits of a volume by its
--- sectors and nodes, what marks used sectors, the form of a node's sector at each place of the table,
--- and what the sectors from 100 to 147 hold
+-- What versions of the layout differ in: the number in the superblock, the limits of a volume by
+-- its sectors and nodes, what marks used sectors, the form of a node's sector at each place of the
+-- table, and what the sectors from 100 to 147 hold
 pub record Version : Type 0 where
   pub number : ℕ
   pub limits : (size nodes : ℕ) → Limits
@@ -54,17 +53,17 @@ abbrev pub mark_held : (mark : Option ℕ) → List ℕ
 mark_held None = zero_sector
 mark_held (Some moved) = mark_sector moved
 
--- the seats stand from sector 100 on, and the mark behind them
+-- the seats lie from sector 100 on, and the mark after them
 abbrev pub spare_by : Seats → (mark : Option ℕ) → (sector : ℕ) → List ℕ
 spare_by seats mark sector =
     if sector == 147 then mark_held mark else seats_sector (sector - 100) seats
 
--- how many places a mark tells
+-- how many places a mark counts
 abbrev pub moved_by : (mark : Option ℕ) → ℕ
 moved_by None = 0
 moved_by (Some moved) = moved
 
--- Version 1: the places that the mark tells have form two, and the others form one. It keeps no seat.
+-- Version 1: the places below the mark have form two, and the others form one. It keeps no seats.
 abbrev pub version_1 : (mark : Option ℕ) → Version
 version_1 mark = record {
   number = 1;
@@ -84,7 +83,7 @@ version_2 mark seats = record {
   spare = spare_by seats mark;
 }
 
--- the version that volumes are made in and served in
+-- the version in which volumes are made and served
 abbrev pub current_version : Seats → Version
 current_version seats = version_2 None seats
 
@@ -100,31 +99,31 @@ abbrev pub version_by : VersionNumber → (mark : Option ℕ) → Seats → Vers
 version_by numbers.One mark seats = version_1 mark
 version_by numbers.Two mark seats = version_2 mark seats
 
--- the marks of a volume of so many nodes: one that migrates tells some of its places, and one that
--- has migrated all of them
+-- the marks of a volume with `nodes` nodes: during a migration the mark counts some or all of its
+-- places, and after it all of them
 abbrev pub IsMark : VersionNumber → (nodes : ℕ) → (mark : Option ℕ) → Type 0
 IsMark number nodes None = ⊤
 IsMark numbers.One nodes (Some moved) = (0 < moved) × (moved ≤ nodes)
 IsMark numbers.Two nodes (Some moved) = moved ≡ nodes
 
--- seats stand in version 2 alone, once its mark is gone
+-- only version 2 has seats, once its mark is gone
 abbrev pub MayHaveSeats : VersionNumber → (mark : Option ℕ) → Seats → Type 0
 MayHaveSeats numbers.One mark seats = seats ≡ no_seats
 MayHaveSeats numbers.Two None seats = ⊤
 MayHaveSeats numbers.Two (Some moved) seats = seats ≡ no_seats
 
--- the versions that a volume of so many nodes may have, each with the seats that it keeps
+-- the versions that a volume with `nodes` nodes may have, each with the seats that it keeps
 pub data IsVersion (nodes : ℕ) : Version → Seats → Type 0 where
   By : (number : VersionNumber) (mark : Option ℕ) (seats : Seats) → IsMark number nodes mark
       → MayHaveSeats number mark seats → IsVersion nodes (version_by number mark seats) seats
 
--- the seats of a volume that was mounted so often: they can be spelled, and each is of a session of
--- its own, which was made in one of these runs
+-- the seats of a volume that was mounted `run` times: they can be encoded, no two are of the same
+-- session, and each session was made in one of these runs
 pub record AreKept (run : ℕ) (seats : Seats) : Type 0 where
   pub places : ArePlaces seats
   pub of_runs : AreOfRuns run seats
 
--- each node has its place's form
+-- each node has the form of its place
 abbrev pub HaveForms : Version → List (Option CachedNode) → Type 0
 HaveForms version cards =
     (place : ℕ) (card : CachedNode) → slice_index_or cards place None ≡ Some card
@@ -134,8 +133,8 @@ HaveForms version cards =
 abbrev pub HaveCurrentForms : List (Option CachedNode) → Type 0
 HaveCurrentForms cards = HaveForms (current_version no_seats) cards
 
--- The sectors from 98 on hold these cached nodes: what they name is marked, and nothing past the last
--- sector is
+-- The sectors from 98 on hold these cached nodes: what they name is marked, and nothing past the
+-- last sector is
 pub record IsLaid (version : Version) (size nodes : ℕ) (image : Image)
     (cards : List (Option CachedNode)) : Type 0 where
   pub laid : AreLaid nodes image (marked_by version.marking nodes image cards) cards
@@ -143,9 +142,9 @@ pub record IsLaid (version : Version) (size nodes : ℕ) (image : Image)
   pub within : (n : ℕ) → size ≤ n → marked_by version.marking nodes image cards n ≡ 0
   pub spare : (n : ℕ) → 100 ≤ n → n < 148 → image n ≡ version.spare n
 
--- The sectors of a volume of so many sectors and nodes, mounted `run` times, stand for the tree:
--- they hold the cached nodes that are read of them, the tree is that of these cached nodes, it is
--- well formed, and no stamp in it is of a later run.
+-- The sectors of a volume of `size` sectors and `nodes` nodes, mounted `run` times, represent the
+-- tree: they hold the cached nodes that are read from them, the tree is that of these cached nodes,
+-- it is well formed, and no stamp in it is of a later run.
 pub record TreeStands (version : Version) (size nodes : ℕ) (image : Image) (run : ℕ)
     (tree : Tree) : Type 0 where
   pub sized : IsTrue (is_size size nodes)
@@ -165,7 +164,7 @@ pub record Kept : Type 0 where
 abbrev pub HoldSeats : Image → Seats → Type 0
 HoldSeats image seats = (n : ℕ) → n < 45 → image (100 + n) ≡ seats_sector n seats
 
--- the seats that the sectors tell, whatever they hold
+-- the seats that the sectors encode, whatever they hold
 abbrev pub seats_at : Image → Seats
 seats_at image = seats_in (λ n. image (100 + n))
 
@@ -173,14 +172,14 @@ seats_at image = seats_in (λ n. image (100 + n))
 abbrev pub bare : Tree → Kept
 bare tree = record { tree = tree; seats = no_seats }
 
--- Its sectors stand for both, in one of the versions
+-- Its sectors represent both, in one of the versions
 pub record StandsAs (size nodes : ℕ) (image : Image) (run : ℕ) (kept : Kept) : Type 0 where
   pub version : Version
   pub is_version : IsVersion nodes version kept.seats
   pub keeps : AreKept run kept.seats
   pub stands : TreeStands version size nodes image run kept.tree
 
--- They stand for both in the current one
+-- They represent both in the current version
 pub record StandsNow (size nodes : ℕ) (image : Image) (run : ℕ) (kept : Kept) : Type 0 where
   pub keeps : AreKept run kept.seats
   pub stands : TreeStands (current_version kept.seats) size nodes image run kept.tree

@@ -14,7 +14,7 @@ use Rattle.layout.specs.Laid.{AreLaid, HoldsNode, HoldsNames}
 use Rattle.layout.specs.Marks.{once_if, times_set}
 
 -- The cached node `was` at a place becomes `is`, of the same number: the node's sectors are
--- written, and its own alone have changed
+-- written, and only its own have changed
 pub record NodeSteps (nodes : ℕ) (old new : Image) (marked mark : ℕ → ℕ)
     (cards : List (Option CachedNode))
     (place : ℕ)
@@ -91,14 +91,14 @@ FileThere =
 
 -- Blocks
 
--- no block has the sector, or none but one
+-- no block has the sector, or none except one
 abbrev pub HaveNot : List (Option ℕ) → (sector : ℕ) → Type 0
 HaveNot blocks sector = (i : ℕ) → slice_index_or blocks i None ≢ Some sector
 
 abbrev pub HaveElsewhere : List (Option ℕ) → (block sector : ℕ) → Type 0
 HaveElsewhere blocks block sector = (i : ℕ) → i ≢ block → slice_index_or blocks i None ≢ Some sector
 
--- a sector that is named once at most is no other block's, and no block's where it is not named
+-- a sector that is named at most once is no other block's, and one that is not named is no block's
 pub record IsOwn (blocks : List (Option ℕ)) (sector : ℕ) : Type 0 where
   pub unnamed : times_set sector blocks ≡ 0 → HaveNot blocks sector
   pub once : times_set sector blocks ≤ 1 → (block : ℕ)
@@ -108,7 +108,7 @@ pub record IsOwn (blocks : List (Option ℕ)) (sector : ℕ) : Type 0 where
 abbrev pub EachOwn : Type 0
 EachOwn = (blocks : List (Option ℕ)) (sector : ℕ) → IsOwn blocks sector
 
--- the blocks but one hold what they held, where of their sectors no other has changed
+-- the blocks except one hold what they held, if no other of their sectors has changed
 abbrev pub OthersHold : Type 0
 OthersHold = (old new : Image) (blocks : List (Option ℕ)) (block sector : ℕ)
     → ((n : ℕ) → n ≢ sector → 0 < times_set n blocks → new n ≡ old n)

@@ -26,7 +26,7 @@ entry_numbers [] = []
 entry_numbers (None ∷ cards) = entry_numbers cards
 entry_numbers (Some card ∷ cards) = numbers_of card.names ++ entry_numbers cards
 
--- the numbers of the nodes but the root
+-- the numbers of the nodes except the root
 abbrev pub other_numbers : List (Option CachedNode) → List ℕ
 other_numbers [] = []
 other_numbers (None ∷ cards) = other_numbers cards
@@ -53,8 +53,8 @@ EachSum =
     → AreLaid nodes image mark cards
     → Sums image cards
 
--- so each node has the one name that it is owed exactly where each number is as often among those
--- that names lead to as among those of the nodes but the root
+-- so each node has the one name that it is owed exactly if each number occurs as often among those
+-- that names lead to as among those of the nodes except the root
 pub record Links (image : Image) (cards : List (Option CachedNode)) (number : ℕ) : Type 0 where
   pub to : links_to (tree_of image cards) number ≡ times number (entry_numbers cards)
   pub owed : links_owed (tree_of image cards) number ≡ times number (other_numbers cards)
@@ -65,7 +65,7 @@ EachLink =
     → AreLaid nodes image mark cards
     → (number : ℕ) → Links image cards number
 
--- where sectors hold bytes, a file has bytes
+-- if sectors hold bytes, a file's content is bytes
 abbrev pub BytesFit : Type 0
 BytesFit =
     (image : Image) (blocks : List (Option ℕ)) (size : ℕ)

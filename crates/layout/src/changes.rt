@@ -3,13 +3,13 @@
 ghost use Rattle.layout.specs.ChangeLaws.{OneChange};
 ghost use Rattle.layout.specs.Steps.{FileStep, NamesStep, SameStep, FileThere, OthersHold, EachOwn, EachChange};
 
-/// Where one cached node changes, the cached nodes are laid with it changed, and the tree is the
-/// one with its node changed.
+/// If one cached node changes, the cached nodes are laid with it changed, and the tree is the one
+/// with its node changed.
 pub fn one_change()
     ensures { OneChange }
 {}
 
-/// Where a node gets other content, the tree is the one with this node.
+/// If a node gets other content, the tree is the one with this node.
 pub fn steps()
     ensures file { FileStep }
     ensures names { NamesStep }
@@ -17,7 +17,7 @@ pub fn steps()
     ensures there { FileThere }
 {}
 
-/// What changes of blocks make of who has which sector.
+/// Which blocks have which sectors, after changes of blocks.
 pub fn blocks()
     ensures own { EachOwn }
     ensures others { OthersHold }

@@ -2,7 +2,7 @@
 
 ghost use Rattle.layout.specs.Directories.{PutsInOne, RemovesInTwo, Rewriting, NoHoles, StaysStamped, PutsStamped};
 
-/// A name that is put changes one block, one that is removed two at most; no block is a hole.
+/// Putting a name changes one block, removing one changes at most two; no block is a hole.
 pub fn blocks()
     ensures put { PutsInOne }
     ensures remove { RemovesInTwo }
@@ -10,7 +10,7 @@ pub fn blocks()
     ensures set { NoHoles }
 {}
 
-/// Stamps stay apart.
+/// Stamps remain distinct.
 pub fn stamps()
     ensures put { PutsStamped }
     ensures remove { StaysStamped }

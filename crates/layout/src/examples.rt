@@ -1,8 +1,8 @@
-//! What nodes of some sizes take, by computation.
+//! What nodes of certain sizes take, by computation.
 
 ghost use Rattle.layout.specs.Examples.{FileTakes, DirectoryTakes};
 
-/// A file's blocks are 4,096 bytes each, and each 500 of them want a run sector.
+/// A file's blocks are 4,096 bytes each, and every 500 of them need a run sector.
 pub fn files()
     ensures empty { FileTakes 0 0 0 }
     ensures one_byte { FileTakes 1 1 2 }
@@ -14,7 +14,7 @@ pub fn files()
     ensures largest { FileTakes 16777216 4096 4105 }
 {}
 
-/// A directory's blocks are 15 names each.
+/// A directory's blocks hold 15 names each.
 pub fn directories()
     ensures empty { DirectoryTakes 0 0 0 }
     ensures one_block { DirectoryTakes 15 1 2 }

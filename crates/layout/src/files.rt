@@ -1,9 +1,9 @@
-//! A file's bytes, and what changes of its blocks make of them.
+//! A file's bytes, and the effects of changes of its blocks on them.
 
 ghost use Rattle.layout.specs.EditLaws.{EachWriteMeets};
 ghost use Rattle.layout.specs.Files.{Filling, Writing, WritingOn, Cutting, Growing, FilledBytes, WrittenBytes, ResizedBytes, GrownBytes, EachWrite};
 
-/// Of the bytes by their places.
+/// For the bytes by their places.
 pub fn places()
     ensures fill { Filling }
     ensures write { Writing }
@@ -12,7 +12,7 @@ pub fn places()
     ensures grow { Growing }
 {}
 
-/// Of the list of bytes.
+/// For the list of bytes.
 pub fn bytes()
     ensures fill { FilledBytes }
     ensures write { WrittenBytes }
@@ -20,7 +20,7 @@ pub fn bytes()
     ensures grow { GrownBytes }
 {}
 
-/// Writes part by part are one write.
+/// Consecutive writes are one write.
 pub fn writes()
     ensures bytes { EachWrite }
     ensures edits { EachWriteMeets }

@@ -1,5 +1,5 @@
-//! What the sectors of a volume stand for, and the laws of it: each is the contract of a function
-//! that does nothing.
+//! What the sectors of a volume represent, and the laws about it: each is the contract of a
+//! function that does nothing.
 #![tactic(auto)]
 
 pub mod cached_nodes;

@@ -2,7 +2,7 @@
 
 ghost use Rattle.layout.specs.NodeEdits.{WritePart, WriteFile, FillBlock, CutFile, GrowFile, PutOneName, DropOneName, ShowOther, MakeNode, FreeNode};
 
-/// A file's bytes are written within a block, a hole is filled, a file is cut or grows.
+/// Bytes are written within a block of a file, a hole is filled, a file is truncated or grows.
 pub fn files()
     ensures part { WritePart }
     ensures write { WriteFile }
@@ -11,13 +11,13 @@ pub fn files()
     ensures grow { GrowFile }
 {}
 
-/// A name is put or dropped.
+/// A name is put or removed.
 pub fn names()
     ensures put { PutOneName }
     ensures drop { DropOneName }
 {}
 
-/// A node is made, shows something else, or is removed.
+/// A node is made, gets other metadata, or is removed.
 pub fn nodes()
     ensures make { MakeNode }
     ensures show { ShowOther }

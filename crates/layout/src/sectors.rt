@@ -1,4 +1,4 @@
-//! What is read of a volume.
+//! Reading a volume.
 
 ghost use Rattle.std.specs.Prelude.{◌≡◌, ◌<◌, ℕ, IfOk, is_err, IsTrue};
 ghost use Rattle.disk.specs.Moments.{Image};
@@ -12,12 +12,12 @@ use thiserror::Error;
 #[error("the device failed")]
 pub struct ReadFault;
 
-/// Sectors that are read: those of a volume as it stands, whatever keeps them.
+/// Sectors that can be read: those of a volume as it is now, wherever they are kept.
 pub trait Sectors {
-    /// Holds where reading gives what they hold: of a real file no contract can say so.
+    /// Holds if reading gives what they hold: no contract can say so of a real file.
     ghost keeps_word: { Type 0 };
 
-    /// All that reading leaves as it is, and what they hold and how many they are by it.
+    /// All that reading leaves unchanged; it determines what they hold and how many they are.
     ghost Kept: { Type 0 };
 
     ghost kept: { Self → Kept };
@@ -26,14 +26,14 @@ pub trait Sectors {
 
     ghost size: { Kept → ℕ };
 
-    /// How often what is under them failed, and whether it is down.
+    /// How often the device under them has failed, and whether it is down.
     ghost health: { Self → Health };
 
     /// The content of sector `n`.
     ///
     /// # Errors
     ///
-    /// [`ReadFault`] where the device failed, now or before.
+    /// [`ReadFault`] if the device failed, now or before.
     fn read(&mut self, n: u32) -> Result<[u8; SECTOR], ReadFault>
         requires { n < size (kept self.old) }
         ensures content { keeps_word → IfOk result (λ content. content ≡ image (kept self.old) n) }

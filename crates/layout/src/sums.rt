@@ -9,7 +9,7 @@ pub fn sums()
     ensures links { EachLink }
 {}
 
-/// A file has bytes.
+/// The content of a file is bytes.
 pub fn bytes()
     ensures { BytesFit }
 {}

@@ -9,13 +9,13 @@ use disk::SECTOR;
 use inode::Form;
 use sector::{put_bytes, put_u32, put_zeros};
 
-/// What a mark begins with.
+/// The bytes that a mark begins with.
 const MARK_MAGIC: [u8; 4] = *b"MIGR";
 
 /// The version of a volume's layout, as its first sector has it.
 #[derive(Clone, Copy, Debug, PartialEq, Eq)]
 pub enum VersionNumber {
-    /// Nodes have form one, but for those that a migration has moved.
+    /// Nodes have form one, except those that a migration has moved.
     One,
     /// Nodes have form two.
     Two,
@@ -24,7 +24,7 @@ pub enum VersionNumber {
 impl VersionNumber {
     ghost use Rattle.layout.specs.Stands.{number_of_version};
 
-    /// The version that volumes are made in and served in.
+    /// The version in which volumes are made and served.
     pub const CURRENT: VersionNumber = VersionNumber::Two;
 
     /// The number in the first sector.
@@ -48,7 +48,7 @@ pub fn form_at(number: VersionNumber, mark: Option<u32>, place: u32) -> Form
     }
 }
 
-/// Whether a volume of this version and so many nodes may have the mark.
+/// Whether a volume of this version with `nodes` nodes may have the mark.
 pub fn is_mark(number: VersionNumber, nodes: u32, mark: Option<u32>) -> bool
     ensures { IsTrue result ↔ IsMark number nodes mark }
 {
@@ -59,7 +59,7 @@ pub fn is_mark(number: VersionNumber, nodes: u32, mark: Option<u32>) -> bool
     }
 }
 
-/// What [`crate::places::MARK`] holds where this mark stands, or none does.
+/// What [`crate::places::MARK`] holds with this mark, or with none.
 pub fn mark_sector(mark: Option<u32>) -> [u8; SECTOR]
     ensures { result ≡ mark_held mark }
 {

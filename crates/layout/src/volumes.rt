@@ -1,4 +1,4 @@
-//! What a volume stands for.
+//! The tree that a volume holds.
 
 ghost use Rattle.layout.specs.CachedNodeLaws.{OneTree, OneKept, OneProof};
 ghost use Rattle.layout.specs.FreshLaws.{FreshStands};
@@ -6,34 +6,34 @@ ghost use Rattle.layout.specs.MarkLaws.{KeptAlone, StandsAlone};
 ghost use Rattle.layout.specs.Rewriting.{RewrittenStands, RewrittenCards, FormStays};
 ghost use Rattle.layout.specs.Rewriting.{LaidSecond, KnownSecond, CurrentSecond};
 
-/// A volume stands for one tree, of one size and one restart count, with one list of seats beside
-/// it; that it does has one proof at most.
+/// A volume holds one tree, of one size and one restart count, with one list of seats beside it;
+/// that it does has at most one proof.
 pub fn one_tree()
     ensures tree { OneTree }
     ensures kept { OneKept }
     ensures proof { OneProof }
 {}
 
-/// Of its sectors the first one and those after the journal's alone are seen.
+/// Only the first of its sectors and those after the journal's are seen.
 pub fn kept()
     ensures cards { KeptAlone }
     ensures tree { StandsAlone }
 {}
 
-/// A volume that was just formatted stands for the tree of one empty directory.
+/// A volume that was just formatted holds the tree of one empty directory.
 pub fn fresh()
     ensures { FreshStands }
 {}
 
-/// A volume whose nodes are written in the forms of another version, with that version's spare
-/// sectors and first sector, stands for the same tree. A node that has its form already stays.
+/// A volume whose nodes are rewritten in the forms of another version, with that version's spare
+/// sectors and first sector, holds the same tree. A node that already has its form stays as it is.
 pub fn rewritten()
     ensures stands { RewrittenStands }
     ensures cards { RewrittenCards }
     ensures stays { FormStays }
 {}
 
-/// The cached nodes of a volume are those of one in the current version, but for their forms.
+/// The cached nodes of a volume are those of one in the current version, except for their forms.
 pub fn second()
     ensures laid { LaidSecond }
     ensures known { KnownSecond }

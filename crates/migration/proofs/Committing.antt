@@ -1,4 +1,4 @@
--- Transactions that are flushed one after the other, at each moment of it.
+-- Transactions that are flushed one by one, at each moment of it.
 use Rattle.std.proofs.Common.{◌≡◌, ◌≤◌, ◌<◌, ℕ, zero, suc, List, [], ◌∷◌, ◌++◌, length, take, drop, refl, sym, ap, ◌∙◌, subst, arith}
 use Rattle.disk.specs.declared.update.Update.{Update}
 use Rattle.disk.specs.Moments.{Image, AddsOnly, applied}
@@ -17,7 +17,7 @@ use Rattle.migration.specs.Migrations.{StaysInPlace}
 pub stays_then : {old mid new : Log} → StaysInPlace old mid → StaysInPlace mid new → StaysInPlace old new
 stays_then first then = record { area = then.area ∙ first.area; size = then.size ∙ first.size }
 
--- and its transactions still end where the device does
+-- and its transactions still end at the end of the device
 pub whole_stays : (old new : Log) → StaysInPlace old new → old.area.end ≡ old.size → new.area.end ≡ new.size
 whole_stays old new place whole = ap (λ (area : LogArea). area.end) place.area ∙ whole ∙ sym place.size
 
@@ -79,7 +79,7 @@ module _ (keeps_word : Type 0) (list : List (List Update)) (old mid new : Log) (
 
 -- Several
 
--- so many of them are in the base, and the rest is still to come
+-- the first `count` of them are in the base, and the rest is still to come
 pub record Going (keeps_word : Type 0) (list rest : List (List Update)) (old now : Log) : Type 0 where
   pub count : ℕ
   pub within : count ≤ length list

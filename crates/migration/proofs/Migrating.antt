@@ -1,4 +1,4 @@
--- A migration and the end of it, by the transactions that the journal takes.
+-- A migration and the end of it, by the transactions that the journal accepts.
 use Rattle.std.proofs.Common.{◌≡◌, ◌≤◌, ◌<◌, ◌+◌, ℕ, zero, suc, List, [], ◌∷◌, Option, None, Some, length, take, inl, inr, refl, sym, ap, ◌∙◌, subst, arith, ⊎_elim}
 use Rattle.std.proofs.lemmas.Bool.{cases_eq}
 use Rattle.disk.specs.declared.update.Update.{Update}
@@ -24,7 +24,7 @@ use Rattle.migration.specs.Plans.{plan, clearing_updates}
 use Rattle.migration.proofs.Transactions.{steps_take}
 use Rattle.migration.proofs.Reaching.{Reached, in_all, begins_reached, plan_front, plan_reaches, reached_all}
 
--- Where the kept sectors are the same
+-- If the kept sectors are the same
 
 -- up to the device's end
 same_whole : (end size : ℕ) (a b : Image) → end ≡ size → AreSame end a b → AreSame size a b

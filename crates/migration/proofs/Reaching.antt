@@ -1,4 +1,4 @@
--- Each transaction of a migration leaves a volume of version 1 that stands for the same tree.
+-- Each transaction of a migration leaves a volume of version 1 that holds the same tree.
 use Rattle.std.proofs.Common.{◌≡◌, ◌≤◌, ◌<◌, ◌+◌, ◌-◌, ◌*◌, ◌/◌, ◌⊎◌, ℕ, zero, suc, List, Option, Some, None, length, map, min, take, get_or, eq-eqb, inl, inr, refl, sym, ap, ◌∙◌, subst, arith, ⊎_elim}
 use Rattle.std.specs.List.{range_with_len}
 use Rattle.std.proofs.lemmas.Bool.{cases_eq, cases_lt, le-leb, lt-leb}
@@ -23,7 +23,7 @@ use Rattle.model_tree.specs.Trees.Tree.{Tree}
 use Rattle.migration.specs.Plans.{moved_node, step, step_at, plan}
 use Rattle.migration.proofs.Transactions.{mark_written, far_stays, node_written}
 
--- the tree stands, and the mark tells so many places
+-- the volume holds the tree, and the mark counts `moved` places
 pub record Reached (size run : ℕ) (tree : Tree) (cards : List (Option CachedNode)) (moved : ℕ) (image : Image) : Type 0 where
   pub mark : Option ℕ
   pub marked : IsMark numbers.One (length cards) mark
@@ -134,7 +134,7 @@ module _ (size run : ℕ) (tree : Tree) (cards : List (Option CachedNode)) (move
     read = reached.read ∙ sym (rewritten_cards was is size (length cards) run run image new tree reached.stands rewrites);
   }
 
--- Fronts of the transactions from one on
+-- Prefixes of the transactions from one on
 pub front_reaches : (size run : ℕ) (tree : Tree) (cards : List (Option CachedNode)) (moved k i c : ℕ) (image : Image) → c ≤ k → moved + 47 * (i + k) < length cards + 47
     → Reached size run tree cards (min (length cards) (moved + 47 * i)) image
     → Reached size run tree cards (min (length cards) (moved + 47 * (i + c))) (applied_all (take c (map (step_at cards moved) (range_with_len i k))) image)
@@ -153,7 +153,7 @@ front_reaches size run tree cards moved (suc k) i (suc c) image front within rea
     (front_reaches size run tree cards moved k (i + 1) c (applied (step cards from count) image) (omega arith) (omega arith)
     (subst (λ (m : ℕ). Reached size run tree cards m (applied (step cards from count) image)) next one))
 
--- so each front of all of them stands for the tree
+-- so after each prefix of all of them the volume holds the tree
 abbrev pub in_all : (nodes moved : ℕ) → ℕ
 in_all nodes moved = (nodes - moved + 46) / 47
 
@@ -199,7 +199,7 @@ module _ (size run : ℕ) (tree : Tree) (cards : List (Option CachedNode)) (move
       take-all-map : (k : ℕ) → take k (map (step_at cards moved) (range_with_len 0 k)) ≡ map (step_at cards moved) (range_with_len 0 k)
       take-all-map k = take-map-range_with_len (step_at cards moved) 0 k k (omega arith)
 
--- where the mark tells all places it is there
+-- a mark that counts all places exists
 all_marked : (nodes : ℕ) (mark : Option ℕ) → 2 ≤ nodes → moved_by mark ≡ nodes → mark ≡ Some nodes
 all_marked nodes None some told = absurd (omega arith)
 all_marked nodes (Some moved) some told = ap Some told

@@ -13,7 +13,7 @@ use Rattle.layout.specs.Stands.{mark_sector}
 use Rattle.migration.specs.Commits.{AreTransactions, FitsJournal}
 use Rattle.migration.specs.Plans.{moved_node, mark_update, step, step_at}
 
--- the nodes of so many places
+-- the nodes of `count` places
 abbrev pub nodes_of : List (Option CachedNode) → (from count : ℕ) → List Update
 nodes_of cards from count = flat_map (λ place. moved_node place (get_or cards place None)) (range_with_len from count)
 
@@ -133,7 +133,7 @@ pub node_written : (cards : List (Option CachedNode)) (from count place : ℕ) (
 node_written cards from count place image low high =
     unmarked cards from count image (node_sector place) (λ e. omega arith) ∙ node_at cards from count place image low high
 
--- one place more
+-- one more place
 pub nodes_more : (cards : List (Option CachedNode)) (from count : ℕ) → nodes_of cards from (suc count) ≡ nodes_of cards from count ++ moved_node (from + count) (get_or cards (from + count) None)
 nodes_more cards from zero =
     append-nil (moved_node from (get_or cards from None))

@@ -1,4 +1,4 @@
--- What transactions do that are flushed one after the other.
+-- The effects of transactions that are flushed one by one.
 use Rattle.std.specs.Prelude.{◌≤◌, ℕ, List, length}
 use Rattle.std.specs.List.{AllByRecursion}
 use Rattle.disk.specs.declared.update.Update.{Update}
@@ -8,7 +8,7 @@ use Rattle.journal.specs.Log.{Log, StandsForFront, applied_all}
 use Rattle.journal.specs.Settled.{AreSame}
 use Rattle.migration.specs.Migrations.{Rests, StaysInPlace}
 
--- a transaction that a journal takes, all of it below this end, and a list of them
+-- a transaction that a journal accepts, all of it below this end, and a list of them
 pub record FitsJournal (end : ℕ) (updates : List Update) : Type 0 where
   pub few : length updates ≤ max_updates
   pub fit : AreTargets end (targets updates)
@@ -16,15 +16,15 @@ pub record FitsJournal (end : ℕ) (updates : List Update) : Type 0 where
 abbrev pub AreTransactions : (end : ℕ) → List (List Update) → Type 0
 AreTransactions end list = AllByRecursion (FitsJournal end) list
 
--- However it ends: at every moment since, a map left is one left before, or settles to the base
--- with a front of these transactions.
+-- However it ends: at every moment since, an image that a crash leaves is one that it could leave
+-- before, or settles to the base with a prefix of these transactions.
 pub record Commits (keeps_word : Type 0) (list : List (List Update)) (old new : Log) : Type
     0 where
   pub place : StaysInPlace old new
   pub moments : keeps_word
       → AddsOnly (StandsForFront old.area old.base list) old.history new.history
 
--- All of them went into the base, and nothing waits.
+-- All of them are in the base, and nothing is pending.
 pub record HasCommitted (keeps_word : Type 0) (list : List (List Update)) (old new : Log) : Type
     0 where
   pub rests : Rests new

@@ -1,10 +1,10 @@
--- How a refusal of the journal is answered.
+-- The fault for each fault of the journal.
 use Rattle.journal.specs.declared.fault.JournalFault.{JournalFault}
 use Rattle.journal.specs.declared.fault.JournalFault.TheVariants as journals
 use Rattle.migration.specs.declared.fault.MigrationFault.{MigrationFault}
 use Rattle.migration.specs.declared.fault.MigrationFault.TheVariants as faults
 
--- Memory, Damaged, TooMany and Down never come of a transaction that is flushed
+-- a transaction that is flushed never gives Memory, Damaged, TooMany or Down
 abbrev pub fault_of : JournalFault → MigrationFault
 fault_of journals.Memory = faults.Memory
 fault_of journals.Fault = faults.Device

@@ -1,4 +1,4 @@
--- What a migration does to a volume.
+-- The effect of a migration on a volume.
 use Rattle.std.specs.Prelude.{◌≡◌, ℕ, false, List, [], Option, Some, length}
 use Rattle.disk.specs.Moments.{Image, AddsOnly}
 use Rattle.journal.specs.declared.layout.LogArea.{LogArea}
@@ -11,8 +11,8 @@ use Rattle.layout.specs.declared.versions.VersionNumber.TheVariants as numbers
 use Rattle.model_tree.specs.Seats.Seats.{no_seats}
 use Rattle.model_tree.specs.Trees.Tree.{Tree}
 
--- a map that a crash leaves stands for the tree, under this restart count, in the version of this
--- number
+-- an image that a crash leaves represents the tree, under this restart count, in the version of
+-- this number
 pub record IsStill (number : ℕ) (area : LogArea) (size nodes run : ℕ) (tree : Tree)
     (image : Image) : Type 0 where
   pub base : Image
@@ -24,30 +24,31 @@ abbrev pub StandsStill : (number : ℕ) → LogArea → (size nodes run : ℕ) �
 StandsStill number area size nodes run tree image =
     ∥ IsStill number area size nodes run tree image ∥₁
 
--- at every moment since, a map left is one left before, or stands for the tree
+-- at every moment since, an image that a crash leaves is one that it could leave before, or
+-- represents the tree
 abbrev pub AddsStill : (number nodes run : ℕ) → Tree → (old new : Log) → Type 0
 AddsStill number nodes run tree old new =
     AddsOnly (StandsStill number old.area old.size nodes run tree) old.history new.history
 
--- What stood in one version stands in the other: the same tree, with the same cached nodes but for
--- their forms
+-- What the volume held in one version it holds in the other: the same tree, with the same cached
+-- nodes, except for their forms
 pub record IsMoved (is : Version) (nodes run : ℕ) (tree : Tree) (old new : Log) : Type 0 where
   pub stands : TreeStands is old.size nodes new.base run tree
   pub cards : all_second (cards_in nodes new.base) ≡ all_second (cards_in nodes old.base)
 
--- a journal in which nothing waits, whose transactions may write up to the device's end
+-- a journal in which nothing is pending, whose transactions may write up to the device's end
 pub record Rests (log : Log) : Type 0 where
   pub up : log.is_down ≡ false
   pub listed : log.list ≡ []
   pub whole : log.area.end ≡ log.size
 
--- the log is where it was, on a device of as many sectors
+-- the log is in the same place, on a device of the same size
 pub record StaysInPlace (old new : Log) : Type 0 where
   pub area : new.area ≡ old.area
   pub size : new.size ≡ old.size
 
--- What a migration begins with: the tree stands in version 1, whose mark tells so many places, and
--- the nodes are those of its sectors
+-- What a migration begins with: the volume holds the tree in version 1, its mark counts `moved`
+-- places, and the nodes are those of its sectors
 pub record BeginsMoving (mark : Option ℕ) (moved run : ℕ) (tree : Tree)
     (cards : List (Option CachedNode))
     (log : Log) : Type 0 where
@@ -56,19 +57,19 @@ pub record BeginsMoving (mark : Option ℕ) (moved run : ℕ) (tree : Tree)
   pub stands : TreeStands (version_1 mark) log.size (length cards) log.base run tree
   pub read : cards ≡ all_second (cards_in (length cards) log.base)
 
--- At each moment the tree stands in version 1, under the count that it had
+-- At each moment the volume holds the tree in version 1, under the restart count that it had
 abbrev pub MovesSafely : (moved : ℕ) → List (Option CachedNode) → (old new : Log) → Type 0
 MovesSafely moved cards old new =
     (mark : Option ℕ) (run : ℕ) (tree : Tree) → BeginsMoving mark moved run tree cards old
     → AddsStill 1 (length cards) run tree old new
 
--- and in the end the mark tells all places
+-- and in the end the mark counts all places
 abbrev pub HasMovedAll : (moved : ℕ) → List (Option CachedNode) → (old new : Log) → Type 0
 HasMovedAll moved cards old new =
     (mark : Option ℕ) (run : ℕ) (tree : Tree) → BeginsMoving mark moved run tree cards old
     → IsMoved (version_1 (Some (length cards))) (length cards) run tree old new
 
--- The mark is taken away from version 2, in which the tree stands at each moment
+-- The mark is removed from version 2, in which the volume holds the tree at each moment
 abbrev pub ClearsSafely : (old new : Log) → Type 0
 ClearsSafely old new =
     (mark : Option ℕ) (nodes run : ℕ) (tree : Tree) → IsMark numbers.Two nodes mark

@@ -9,12 +9,12 @@ use Rattle.inode.specs.Spelling.{inode_sector}
 use Rattle.layout.specs.CachedNodes.{CachedNode, node_sector}
 use Rattle.layout.specs.Stands.{mark_sector}
 
--- each node has an encoding in form two
+-- each node can be encoded in form two
 abbrev pub FitSecond : List (Option CachedNode) → Type 0
 FitSecond cards = (place : ℕ) (card : CachedNode) → slice_index_or cards place None ≡ Some card
     → IsInode Two card.fields
 
--- a node in form two; nothing is written where the place is free
+-- a node in form two; nothing is written if the place is free
 abbrev pub moved_node : (place : ℕ) → Option CachedNode → List Update
 moved_node place None = []
 moved_node place (Some card) =
@@ -23,7 +23,7 @@ moved_node place (Some card) =
 abbrev pub mark_update : (moved : ℕ) → Update
 mark_update moved = record { target = 147; content = mark_sector moved }
 
--- One transaction: the nodes of so many places, and the mark of their end
+-- One transaction: the nodes of `count` places, and the mark with their end
 abbrev pub step : List (Option CachedNode) → (from count : ℕ) → List Update
 step cards from count =
     flat_map (λ place. moved_node place (slice_index_or cards place None))
@@ -35,11 +35,11 @@ abbrev pub step_at : List (Option CachedNode) → (moved i : ℕ) → List Updat
 step_at cards moved i =
     step cards (moved + 47 * i) (min 47 (length cards - (moved + 47 * i)))
 
--- All of them, where the nodes of so many places are moved already
+-- All of them, if the first `moved` places are already done
 abbrev pub plan : List (Option CachedNode) → (moved : ℕ) → List (List Update)
 plan cards moved =
     map (step_at cards moved) (range_with_len 0 ((length cards - moved + 46) / 47))
 
--- The last transaction: the mark is taken away
+-- The last transaction: the mark is removed
 abbrev pub clearing_updates : List Update
 clearing_updates = record { target = 147; content = zero_sector } ∷ []

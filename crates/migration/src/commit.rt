@@ -1,4 +1,4 @@
-//! Transactions that are flushed, each before the next one.
+//! Transactions that are flushed one by one.
 
 ghost use Rattle.std.specs.Prelude.{◌≡◌, [], ◌∷◌, map, OnOk, IfErr};
 ghost use Rattle.journal.specs.Journal.{log_of, journal_failures};
@@ -10,7 +10,7 @@ ghost use Rattle.migration.specs.Migrations.{Rests};
 use disk::{Device, Update};
 use journal::{Journal, JournalFault};
 
-/// Takes one transaction into the base: a crash leaves all of it or nothing.
+/// Commits one transaction to the base: a crash leaves all of it or nothing.
 #[tactic(auto, using(crate::proofs::Committing::both_commit))]
 pub(crate) fn commit<D: Device>(
     journal: &mut Journal<D>,
@@ -33,7 +33,7 @@ pub(crate) fn commit<D: Device>(
     Ok(())
 }
 
-/// Takes transactions into the base, one after the other.
+/// Commits transactions to the base, in order.
 pub(crate) fn commit_all<D: Device>(
     journal: &mut Journal<D>,
     transactions: Vec<Vec<Update>>,

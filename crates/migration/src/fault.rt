@@ -9,7 +9,7 @@ use thiserror::Error;
 /// Why a volume was not migrated.
 #[derive(Clone, Copy, Debug, PartialEq, Eq, Error)]
 pub enum MigrationFault {
-    /// The device failed: some nodes may be moved, and the mark tells which.
+    /// The device failed: some nodes may have been moved, and the mark says which.
     #[error("device fault")]
     Device,
     /// Memory ran out. Nothing was written.

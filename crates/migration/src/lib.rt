@@ -1,6 +1,6 @@
-//! Bringing a volume of version 1 to version 2: its nodes are moved to form two by flushed
-//! transactions, a mark tells how far that came, and the mark is taken away in the end. At each
-//! moment the same tree stands.
+//! Migrating a volume from version 1 to version 2: its nodes are moved to form two by flushed
+//! transactions, a mark records how far this has come, and in the end the mark is removed. At each
+//! moment the volume holds the same tree.
 #![tactic(auto)]
 
 mod commit;

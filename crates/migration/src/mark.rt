@@ -1,4 +1,4 @@
-//! Taking the mark of a migration away.
+//! Removing the mark of a migration.
 
 ghost use Rattle.std.specs.Prelude.{◌≡◌, ◌≤◌, ◌<◌, IfOk, IfErr, OnOk, OnErr};
 ghost use Rattle.disk.specs.Cause.{IsCounted};
@@ -14,7 +14,7 @@ use layout::places::MARK;
 use layout::versions::mark_sector;
 use std::alloc::{AllocError, Global};
 
-/// The transaction that takes the mark away, made before anything is written.
+/// The transaction that removes the mark, made before anything is written.
 pub fn clearing(alloc: Global) -> Result<Vec<Update>, AllocError>
     ensures { IfOk result (λ updates. updates.items ≡ clearing_updates) }
 {
@@ -26,16 +26,16 @@ pub fn clearing(alloc: Global) -> Result<Vec<Update>, AllocError>
     Ok(updates)
 }
 
-/// Takes the mark of a volume of version 2 away, by that transaction, which is flushed.
+/// Removes the mark of a volume of version 2, by that transaction, which is flushed.
 ///
 /// # Errors
 ///
-/// [`JournalFault::Fault`] where the device failed.
+/// [`JournalFault::Fault`] if the device failed.
 pub fn clear<D: Device>(journal: &mut Journal<D>, updates: Vec<Update>) -> Result<(), JournalFault>
     requires rests { Rests (log_of journal.old) }
     requires room { 148 < (log_of journal.old).size }
     requires clearing { updates.items ≡ clearing_updates }
-    // The tree stands at each moment
+    // The volume holds the tree at each moment
     ensures moments { D.keeps_word → ClearsSafely (log_of journal.old) (log_of journal.new) }
     ensures rests { OnOk result (Rests (log_of journal.new)) }
     ensures ok { D.keeps_word → OnOk result

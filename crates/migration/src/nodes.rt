@@ -15,13 +15,13 @@ use journal::Journal;
 use node_table::Table;
 use std::alloc::Global;
 
-/// Moves the nodes of a volume of version 1 to form two, from the place on that its mark tells: by
-/// flushed transactions of 47 places and the mark. All memory is taken first, and then the commit
-/// record written again, since a flush writes over its log.
+/// Moves the nodes of a volume of version 1 to form two, from the place that its mark gives, by
+/// flushed transactions of 47 places and the mark. All memory is allocated first. Then the commit
+/// record is written again, since a flush overwrites its log.
 ///
 /// # Errors
 ///
-/// [`MigrationFault::Memory`], and then nothing was written; [`MigrationFault::Device`] where the
+/// [`MigrationFault::Memory`], and then nothing was written; [`MigrationFault::Device`] if the
 /// device failed.
 pub fn migrate<D: Device>(
     alloc: Global,
@@ -29,12 +29,12 @@ pub fn migrate<D: Device>(
     table: &Table,
     moved: u32,
 ) -> Result<(), MigrationFault>
-    // Nothing waits in the journal, and the nodes have room on the device and in form two
+    // Nothing is pending in the journal, and the nodes have room on the device and in form two
     requires rests { Rests (log_of journal.old) }
     requires room { 148 + length table.now ≤ (log_of journal.old).size }
     requires within { moved ≤ length table.now }
     requires fit { FitSecond table.now }
-    // The tree stands at each moment
+    // The volume holds the tree at each moment
     ensures moments { D.keeps_word
         → MovesSafely moved table.now (log_of journal.old) (log_of journal.new) }
     ensures rests { OnOk result (Rests (log_of journal.new)) }

@@ -1,4 +1,4 @@
-//! What a migration writes, all of it made before the first write.
+//! What a migration writes, all of which is made before the first write.
 
 ghost use Rattle.std.specs.Prelude.{◌≡◌, ◌≤◌, ◌<◌, ◌+◌, ◌-◌, ◌^◌, [], ◌∷◌, Some, length, map, IfOk};
 ghost use Rattle.inode.specs.Fields.{IsInode};
@@ -31,7 +31,7 @@ fn moved_node(place: u32, cached: &CachedNode) -> Update
     }
 }
 
-/// The mark of so many places.
+/// The mark that counts `moved` places.
 fn mark_update(moved: u32) -> Update
     ensures { result ≡ plans.mark_update moved }
 {
@@ -41,7 +41,7 @@ fn mark_update(moved: u32) -> Update
     }
 }
 
-/// One transaction: the nodes of these places, and the mark of their end.
+/// One transaction: the nodes of these places, and the mark with their end.
 fn transaction(alloc: Global, table: &Table, from: u32, to: u32) -> Result<Vec<Update>, AllocError>
     requires fit { FitSecond table.now }
     requires rising { from ≤ to }
@@ -58,7 +58,7 @@ fn transaction(alloc: Global, table: &Table, from: u32, to: u32) -> Result<Vec<U
     Ok(updates)
 }
 
-/// All transactions, where the nodes of so many places are moved already.
+/// All transactions, if the first `moved` places are already done.
 pub(crate) fn plan(alloc: Global, table: &Table, moved: u32) -> Result<Vec<Vec<Update>>, AllocError>
     requires fit { FitSecond table.now }
     requires within { moved ≤ length table.now }

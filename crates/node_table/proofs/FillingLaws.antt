@@ -1,4 +1,4 @@
--- A table of cached nodes that are there already.
+-- A table of cached nodes that are already there.
 use Rattle.std.proofs.Common.{true, false, true≢false, ◌≡◌, ◌≢◌, ◌≤◌, ◌<◌, ◌+◌, ◌-◌, ℕ, zero, suc, List, [], ◌∷◌, ◌++◌, Option, Some, None, length, take, get_or, inl, inr, refl, sym, ap, ◌∙◌, subst, arith, eqb}
 use Rattle.std.specs.Prelude.{is_some}
 use Rattle.std.specs.List.{Contains, sum_by}
@@ -22,7 +22,7 @@ use Rattle.node_table.specs.Tables.{node_number_at, HaveOwnPlaces, AreNumbered, 
 use Rattle.node_table.proofs.IndexLaws.{at-entry}
 use Rattle.node_table.proofs.TableLaws.{times-push}
 
--- ---- one cached node more
+-- ---- one more cached node
 
 abbrev pub entry_from : (place : ℕ) → Option CachedNode → Keyed ℕ
 entry_from place None = []
@@ -66,7 +66,7 @@ vacant-push_some (suc n) [] one = refl
 vacant-push_some zero (card ∷ cards) one = refl
 vacant-push_some (suc n) (card ∷ cards) one = vacant-push_some n cards one
 
--- ---- one place more
+-- ---- one more place
 
 module _ (cards : List (Option CachedNode)) (place : ℕ) (there : Option CachedNode) (within : place < length cards) (is : there ≡ get_or cards place there) where
   took : take (place + 1) cards ≡ take place cards ++ there ∷ []
@@ -137,7 +137,7 @@ entries-count first [] = refl
 entries-count first (None ∷ cards) = entries-count (first + 1) cards
 entries-count first (Some one ∷ cards) = omega (arith, entries-count (first + 1) cards)
 
--- a place has one at most
+-- a place has at most one
 
 abbrev is_for : (place : ℕ) → ℕ × ℕ → ℕ
 is_for place entry = once_if (eqb place entry.1)

@@ -1,4 +1,4 @@
--- Numbers and places by rising number.
+-- Numbers and their places, by rising number.
 use Rattle.std.proofs.Common.{◌≡◌, ◌≢◌, ◌≤◌, ◌<◌, ℕ, zero, suc, [], ◌∷◌, ◌++◌, Some, None, length, get_or, Result, Ok, Err, IfOk, IfErr, inl, inr, refl, sym, ap, ◌∙◌, arith, eq-eqb, ne_eqb, le-ltb}
 use Rattle.std.specs.Prelude.{IfSome, IfNone}
 use Rattle.std.specs.Result.{result_ok}
@@ -26,7 +26,7 @@ keys-rise least (entry ∷ rest) above i zero low h = absurd (omega arith)
 keys-rise least (entry ∷ rest) above zero (suc j) low h = keys-above entry.0 rest above.1 j (omega arith)
 keys-rise least (entry ∷ rest) above (suc i) (suc j) low h = keys-rise entry.0 rest above.1 i j (omega arith) (omega arith)
 
--- what stands at the key of an entry, and at one that no entry has
+-- what is at the key of an entry, and at one that no entry has
 
 pub at-entry : (least : ℕ) (index : Keyed ℕ) → IsAbove least index → (i : ℕ) (d : ℕ × ℕ) → i < length index → at (get_or index i d).0 index ≡ Some (get_or index i d).1
 at-entry least [] above i d h = absurd (omega arith)
@@ -40,7 +40,7 @@ at-none : (index : Keyed ℕ) (key : ℕ) → ((i : ℕ) → i < length index �
 at-none [] key off = refl
 at-none (entry ∷ rest) key off = at-rest entry.0 key entry.1 rest (λ e. off 0 (omega arith) (sym e)) ∙ at-none rest key (λ i h. off (suc i) (omega arith))
 
--- a search ends at the number, or where no entry has it
+-- a search ends at the number, or if no entry has it
 
 module _ (index : Keyed ℕ) (above : IsAbove 0 index) (number : ℕ) where
   comparisons_rise : IsNonDecreasingBy (λ entry. ordering_index (nat_cmp entry.0 number)) index
@@ -59,7 +59,7 @@ module _ (index : Keyed ℕ) (above : IsAbove 0 index) (number : ℕ) where
     ]);
   }
 
--- a key above all others stands after the last
+-- a key above all others comes after the last
 
 pub with-last : (entries : Keyed ℕ) (least key value : ℕ) → IsAbove least entries → ((k v : ℕ) → at k entries ≡ Some v → k < key) → with entries key value ≡ entries ++ (key, value) ∷ []
 with-last [] least key value above below = refl
@@ -71,7 +71,7 @@ with-last (entry ∷ rest) least key value above below =
     let high : entry.0 < k = at-above rest entry.0 k v above.1 is in below k v (at-rest entry.0 k entry.1 rest (omega arith) ∙ is)) in
     rw (ne_eqb key entry.0 apart, le-ltb key entry.0 behind) (ap (λ (e : Keyed ℕ). entry ∷ e) others)
 
--- an entry goes
+-- an entry is removed
 
 without-below : (entries : Keyed ℕ) (least key : ℕ) → IsAbove least entries → key ≤ least → without entries key ≡ entries
 without-below [] least key above low = refl

@@ -23,7 +23,7 @@ pub at-off : (changes : Keyed (Option CachedNode)) (place : ℕ) → ((i : ℕ) 
 at-off [] place off = refl
 at-off (change ∷ changes) place off = at-rest change.0 place change.1 changes (λ e. off 0 (omega arith) (sym e)) ∙ at-off changes place (λ i h. off (suc i) (omega arith))
 
--- of a place without a change no change is
+-- no change of the list is for a place without a change
 other-place : (change : ℕ × Option CachedNode) (changes : Keyed (Option CachedNode)) (place : ℕ) → at place (change ∷ changes) ≡ None → place ≢ change.0
 other-place change changes place none e = some≢none change.1 (sym (at-first change.0 place change.1 changes e) ∙ none)
 
@@ -59,7 +59,7 @@ changed-here cards (change ∷ changes) zero own within h = get_or-set_same (ove
 changed-here cards (change ∷ changes) (suc i) own within h =
     get_or-set_other (overlaid cards changes) change.0 (change_at changes i).0 change.1 None (off-each changes change.0 i own.0 (omega arith)) ∙ changed-here cards changes i own.1 within.1 (omega arith)
 
--- a change that is read tells the cached node of its place
+-- a change that is read gives the cached node of its place
 pub read-change : (cards : List (Option CachedNode)) (changes : Keyed (Option CachedNode)) (i place : ℕ) (read : ℕ × Option CachedNode) → HaveOwnPlace changes → PlacesWithin (length cards) changes → i < length changes
     → (change_at changes i).0 ≡ place → read ≡ get_or changes i read → get_or (overlaid cards changes) place None ≡ read.1
 read-change cards changes i place read own within h key is =
@@ -74,7 +74,7 @@ pub copied-none : (found : Option (Bor CachedNode)) (there : Option CachedNode) 
 copied-none None there is = is
 copied-none (Some card) there is = tt
 
--- no change is for the place, so the table's cached node stands there
+-- no change is for the place, so it has the table's cached node
 pub unchanged : (table : List (Option CachedNode)) (changes : Keyed (Option CachedNode)) (looked : Keyed (Option CachedNode)) (seen : Overlaid) (place : ℕ) → looked ≡ changes → record { table = table; cards = overlaid table changes } ≡ seen
     → ((i : ℕ) → i < length looked → (change_at looked i).0 ≢ place) → record { none : at place changes ≡ None; same : get_or seen.cards place None ≡ get_or table place None }
 unchanged table changes looked seen place is view off =
@@ -158,7 +158,7 @@ own-front (change ∷ changes) place card own =
 
 -- ---- the place of a number
 
--- where no change puts the number, a node has it only at a place without a change
+-- if no change puts the number, a node has it only at a place without a change
 there-unchanged : (cards : List (Option CachedNode)) (changes : Keyed (Option CachedNode)) (place number : ℕ) → ((i : ℕ) → i < length changes → node_number (change_at changes i).1 ≢ Some number)
     → node_number_at (overlaid cards changes) place ≡ Some number → (at place changes ≡ None) × (node_number_at cards place ≡ Some number)
 there-unchanged cards [] place number none is = (refl, is)

@@ -1,4 +1,4 @@
--- Numbers and places by rising number, as they stand in memory.
+-- Numbers and their places by rising number, as they are in memory.
 use Rattle.std.specs.Prelude.{◌≡◌, ◌≢◌, ◌<◌, ◌+◌, ℕ, List, [], ◌∷◌, Option, Some, None, length, slice_index_or}
 use Rattle.model_tree.specs.Trees.Keyed.{Keyed}
 use Rattle.layout.specs.CachedNodes.{CachedNode}
@@ -18,6 +18,6 @@ entries_from first (None ∷ cards) = entries_from (first + 1) cards
 entries_from first (Some card ∷ cards) =
     (card.fields.number, first) ∷ entries_from (first + 1) cards
 
--- no two neighbours have one number
+-- no two neighbours have the same number
 abbrev pub AreDifferent : Keyed ℕ → Type 0
 AreDifferent index = (i : ℕ) → i + 1 < length index → key_at index i ≢ key_at index (i + 1)

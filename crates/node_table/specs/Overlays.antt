@@ -5,7 +5,7 @@ use Rattle.model_tree.specs.Trees.Keyed.{Keyed, at}
 use Rattle.layout.specs.CachedNodes.{CachedNode}
 use Rattle.node_table.specs.Tables.{node_number_at, AreBelow}
 
--- the cached nodes of a table, and the ones that stand now
+-- the cached nodes of a table, and the current ones
 pub record Overlaid : Type 0 where
   pub table : List (Option CachedNode)
   pub cards : List (Option CachedNode)
@@ -18,12 +18,12 @@ abbrev pub overlaid : List (Option CachedNode) → Keyed (Option CachedNode)
 overlaid cards [] = cards
 overlaid cards (change ∷ changes) = set (overlaid cards changes) change.0 change.1
 
--- no place has two
+-- no place has two changes
 abbrev pub HaveOwnPlace : Keyed (Option CachedNode) → Type 0
 HaveOwnPlace [] = Unit {0}
 HaveOwnPlace (change ∷ changes) = (at change.0 changes ≡ None) × HaveOwnPlace changes
 
--- each is for one of so many places
+-- each is for a place below `count`
 abbrev pub PlacesWithin : (count : ℕ) → Keyed (Option CachedNode) → Type 0
 PlacesWithin count [] = Unit {0}
 PlacesWithin count (change ∷ changes) = (change.0 < count) × PlacesWithin count changes
@@ -34,7 +34,7 @@ change_at changes i = slice_index_or changes i (0, None)
 
 -- What a table may become
 
--- a node stands at a place where none of its number stood
+-- a node is at a place that had no node with its number
 pub record IsMade (old new : List (Option CachedNode)) (place number : ℕ) : Type 0 where
   pub now : node_number_at new place ≡ Some number
   pub before : node_number_at old place ≢ Some number
@@ -44,7 +44,7 @@ pub record IsFresh (cards : List (Option CachedNode)) (number : ℕ) : Type 0 wh
   pub some : 0 < number
   pub above : AreBelow cards number
 
--- nodes are removed and replaced, and one at most is made, of a fresh number
+-- nodes are removed and replaced, and at most one is made, with a fresh number
 pub record CanBecome (old new : List (Option CachedNode)) : Type 0 where
   pub fresh : (place number : ℕ) → IsMade old new place number → IsFresh old number
   pub one : (place number other another : ℕ) → IsMade old new place number

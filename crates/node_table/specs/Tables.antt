@@ -31,7 +31,7 @@ AreBelow cards number = (place other : ℕ) → node_number_at cards place ≡ S
 abbrev pub AreNumbered : List (Option CachedNode) → Type 0
 AreNumbered cards = (place number : ℕ) → node_number_at cards place ≡ Some number → 0 < number
 
--- a place that is there and free
+-- a place that exists and is free
 pub record IsFree (cards : List (Option CachedNode)) (place : ℕ) : Type 0 where
   pub within : place < length cards
   pub free : slice_index_or cards place None ≡ None
@@ -87,7 +87,7 @@ pub record IsIndexed (cards : List (Option CachedNode)) (index : Keyed ℕ) (fre
   pub count_is : length index ≡ count_of_all cards
   pub charge_is : charge ≡ charge_of_all cards
 
--- and room for as many of each as there are places
+-- and room for one of each at every place
 pub record HasCapacity (cards : List (Option CachedNode)) (index_room free_room : ℕ) : Type 0 where
   pub index : length cards ≤ index_room
   pub free : length cards ≤ free_room

@@ -1,4 +1,4 @@
-//! What memory keeps of a node.
+//! What is kept in memory of a node.
 
 ghost use Rattle.std.specs.Prelude.{◌≡◌, IfOk};
 
@@ -8,7 +8,7 @@ use inode::{Form, Inode};
 use std::alloc::{AllocError, Global};
 use std::marker::Model;
 
-/// A node in memory, apart from a file's bytes. Contracts see the layout's cached node of it.
+/// A node in memory, without the bytes of a file. Contracts see it as the layout's cached node.
 #[derive(Drop)]
 pub struct CachedNode {
     pub form: Form,
@@ -16,7 +16,7 @@ pub struct CachedNode {
     /// The runs of its blocks, as its run sectors have them.
     pub runs: Runs,
     pub blocks: BlockList,
-    /// None, where the node is a file.
+    /// None if the node is a file.
     pub names: Names,
 }
 
@@ -30,7 +30,7 @@ impl Model for CachedNode {
 }
 
 impl CachedNode {
-    /// The same cached node once more, which shares the memory of its runs and blocks.
+    /// A copy of the cached node, which shares the memory of its runs and blocks.
     pub fn try_clone(&self, alloc: Global) -> Result<CachedNode, AllocError>
         ensures { IfOk result (λ cached. cached ≡ self.now) }
     {

@@ -1,4 +1,4 @@
-//! What a change does to a table.
+//! The effect of a change on a table.
 
 ghost use Rattle.std.specs.Prelude.{◌≡◌, ◌≢◌, ◌<◌, Some, None, length, set};
 ghost use Rattle.node_table.specs.Overlays.{overlaid, HaveOwnPlace, IsFresh, CanBecome};
@@ -8,7 +8,7 @@ use crate::cached_node::CachedNode;
 use crate::table::Table;
 use std::marker::Model;
 
-/// A cached node, or none, for each of some places. Contracts see their list.
+/// A cached node, or none, for each of some places. Contracts see the list of them.
 #[derive(Drop)]
 pub struct Changes {
     list: Vec<(u32, Option<CachedNode>)>,
@@ -37,8 +37,8 @@ impl Changes {
 }
 
 impl Table {
-    /// Puts changes into the table: takes no memory, and is never refused. A place that the table
-    /// has not got is left out.
+    /// Puts changes into the table. This needs no memory, and never fails. A place that the table
+    /// does not have is skipped.
     pub fn settle(&mut self, changes: Changes)
         requires { CanBecome self.old (overlaid self.old changes) }
         ensures { self.new ≡ overlaid self.old changes }
@@ -52,7 +52,7 @@ impl Table {
         }
     }
 
-    /// Puts a node into a place, as the next version of the one there or in its stead.
+    /// Puts a node into a place, as the next version of the one there or instead of it.
     fn put(&mut self, place: u32, cached: CachedNode)
         requires { place < length self.old
             → node_number_at self.old place ≢ Some cached.fields.number

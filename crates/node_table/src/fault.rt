@@ -1,4 +1,4 @@
-//! Why cached nodes make no table.
+//! Why cached nodes do not make a table.
 
 ghost use Rattle.std.specs.Prelude.{◌≡◌};
 ghost use Rattle.node_table.specs.declared.fault.TableFault.TheVariants.{Memory};
@@ -6,10 +6,10 @@ ghost use Rattle.node_table.specs.declared.fault.TableFault.TheVariants.{Memory}
 use std::alloc::AllocError;
 use thiserror::Error;
 
-/// Why cached nodes make no table.
+/// Why cached nodes do not make a table.
 #[derive(Clone, Copy, Debug, PartialEq, Eq, Error)]
 pub enum TableFault {
-    /// Two nodes have one number.
+    /// Two nodes have the same number.
     #[error("two nodes have one number")]
     SameNumber,
     /// Memory ran out.

@@ -1,4 +1,4 @@
-//! Numbers and places by rising number.
+//! Numbers and their places, by rising number.
 
 ghost use Rattle.std.specs.Prelude.{◌≡◌, ◌≤◌, ◌↔◌, None, IsTrue, length, vec_capacity, IfOk, IfSome, IfNone};
 ghost use Rattle.std.specs.List.Sorted.{IsPermutation, IsNonDecreasingBy};
@@ -9,7 +9,7 @@ use crate::cached_node::CachedNode;
 use crate::table::Table;
 use std::alloc::{AllocError, Global};
 
-/// Where the entry of a number stands.
+/// The place of a number's entry in the index.
 pub(crate) fn entry_of(index: &[(u64, u32)], number: u64) -> Option<usize>
     requires { IsAbove 0 index.now }
     ensures some { IfSome result (λ i. IsAt index.now number i) }
@@ -18,8 +18,8 @@ pub(crate) fn entry_of(index: &[(u64, u32)], number: u64) -> Option<usize>
     index.binary_search_by_key(&number, |entry| entry.0).ok()
 }
 
-/// The numbers of the nodes and their places, in the order of the places, with room for as many as
-/// there are places.
+/// The numbers of the nodes and their places, in the order of the places, with room for an entry
+/// for each place.
 pub(crate) fn entries(
     alloc: Global,
     cards: &[Option<CachedNode>],
@@ -46,7 +46,7 @@ pub(crate) fn sort(index: &mut Vec<(u64, u32)>)
     index.sort_unstable_by_key(|entry| entry.0);
 }
 
-/// Whether no two neighbours have one number.
+/// Whether no two neighbours have the same number.
 pub(crate) fn are_different(index: &[(u64, u32)]) -> bool
     ensures { IsTrue result ↔ AreDifferent index.now }
 {

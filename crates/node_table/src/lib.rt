@@ -1,4 +1,4 @@
-//! The nodes of a volume in memory: all of them but the bytes of files.
+//! The nodes of a volume in memory: everything except the bytes of files.
 #![tactic(auto)]
 
 mod cached_node;

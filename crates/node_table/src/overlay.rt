@@ -1,4 +1,4 @@
-//! Cached nodes in place of some of a table's, for the time of a change.
+//! Cached nodes in place of some of a table's, for the duration of a change.
 
 ghost use Rattle.std.specs.Prelude.{◌≡◌, ◌≢◌, ◌<◌, ℕ, Some, None, length, set, slice_index_or, IfOk, IfSome, IfNone, OnOk, OnErr, IsOk};
 ghost use Rattle.node_table.specs.Overlays.{overlaid, change_at};
@@ -10,11 +10,11 @@ use crate::table::Table;
 use std::alloc::{AllocError, Global};
 use std::marker::Model;
 
-/// A table with other cached nodes, or none, at some of its places. The table itself stays as it
-/// is.
+/// A table with other cached nodes, or none, at some of its places. The table itself does not
+/// change.
 ///
-/// Contracts see the table's cached nodes, and those that stand now. Each call takes a step for
-/// each changed place, of which there are few.
+/// Contracts see the table's cached nodes, and the current ones. Each call takes a step for each
+/// changed place, of which there are few.
 #[derive(Drop)]
 pub struct Overlay<'a> {
     alloc: Global,
@@ -38,10 +38,10 @@ impl<'a> Model for Overlay<'a> {
 }
 
 impl<'a> Overlay<'a> {
-    /// The places for which there is room from the start.
+    /// The number of places for which there is room from the start.
     const ROOM: usize = 8;
 
-    /// A table's cached nodes, none of them changed.
+    /// The cached nodes of a table, none of them changed.
     pub fn new(alloc: Global, table: &'a Table) -> Result<Overlay<'a>, AllocError>
         ensures table { IfOk result (λ overlay. overlay.table ≡ table.now) }
         ensures cards { IfOk result (λ overlay. overlay.cards ≡ table.now) }
@@ -73,7 +73,7 @@ impl<'a> Overlay<'a> {
         }
     }
 
-    /// The place of a node of a number.
+    /// The place of the node with a number.
     pub fn find(&self, number: u64) -> Option<u32>
         ensures some { IfSome result (λ place. node_number_at self.now.cards place ≡ Some number) }
         ensures none { IfNone result (HasNoNode self.now.cards number) }
@@ -88,8 +88,8 @@ impl<'a> Overlay<'a> {
         }
     }
 
-    /// A free place, if there is one. It stays free. The places are gone through only where the
-    /// next free one of the table is taken.
+    /// A free place, if there is one. It remains free. The places are searched only if the next
+    /// free one of the table is taken.
     pub fn free_place(&self) -> Option<u32>
         ensures some { IfSome result (λ place. IsFree self.now.cards place) }
         ensures none { IfNone result (AreTaken self.now.cards) }
@@ -113,7 +113,7 @@ impl<'a> Overlay<'a> {
         None
     }
 
-    /// Takes the cached node of a place out: none stands there then. It is a copy where it was the
+    /// Takes the cached node out of a place, which then has none. It is a copy if it was the
     /// table's. An `Err` changes nothing.
     pub fn take(&mut self, place: u32) -> Result<Option<CachedNode>, AllocError>
         ensures cached { IfOk result (λ cached. cached ≡ slice_index_or self.old.cards place None) }
@@ -136,8 +136,8 @@ impl<'a> Overlay<'a> {
     ///
     /// # Errors
     ///
-    /// `AllocError`, never where another cached node than the table's stands there, or none in its
-    /// place.
+    /// `AllocError`, but never if what is at the place already differs from what the table has
+    /// there.
     pub fn put(&mut self, place: u32, cached: Option<CachedNode>) -> Result<(), AllocError>
         requires { place < length self.old.cards }
         ensures cards { OnOk result (self.new.cards ≡ set self.old.cards place cached) }
@@ -153,7 +153,7 @@ impl<'a> Overlay<'a> {
         Ok(())
     }
 
-    /// What is to be done to the table, which is borrowed no longer.
+    /// What is to be done to the table, which is no longer borrowed.
     pub fn into_changes(self) -> Changes
         ensures { overlaid self.entry.table result ≡ self.entry.cards }
     {
@@ -162,7 +162,7 @@ impl<'a> Overlay<'a> {
     }
 }
 
-/// Where the change of a place stands.
+/// The index of the change of a place.
 fn change_of(changes: &[(u32, Option<CachedNode>)], place: u32) -> Option<usize>
     ensures within { IfSome result (λ i. i < length changes.now) }
     ensures some { IfSome result (λ i. (change_at changes.now i).0 ≡ place) }
@@ -172,7 +172,7 @@ fn change_of(changes: &[(u32, Option<CachedNode>)], place: u32) -> Option<usize>
     changes.iter().position(|change| change.0 == place)
 }
 
-/// Where a change stands that puts a node of this number.
+/// The index of the change that puts a node with this number.
 fn change_to(changes: &[(u32, Option<CachedNode>)], number: u64) -> Option<usize>
     ensures within { IfSome result (λ i. i < length changes.now) }
     ensures some { IfSome result (λ i. node_number (change_at changes.now i).1 ≡ Some number) }

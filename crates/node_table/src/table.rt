@@ -1,4 +1,4 @@
-//! The cached nodes of a volume by their places.
+//! The cached nodes of a volume, by their places.
 
 ghost use Rattle.std.specs.Prelude.{◌≡◌, ◌≤◌, ◌<◌, ◌+◌, ℕ, List, [], ◌∷◌, Some, None, length, vec_capacity, replicate, set, slice_index_or, IfOk, IfSome, IfNone, OnOk, IsErrOf};
 ghost use Rattle.layout.specs.Marks.{times};
@@ -12,10 +12,10 @@ use extents::{BlockList, MAX_SECTOR_RUNS};
 use std::alloc::{AllocError, Global};
 use std::marker::Model;
 
-/// A cached node, or none, at each place of a volume's node table. Contracts see their list.
+/// A cached node, or none, at each place of a volume's node table. Contracts see the list of them.
 ///
-/// Finding a number takes one step for each doubling of the table. A node that is made or replaced
-/// changes one place of each list; of the numbers after one that is removed each moves.
+/// Finding a number takes one step for each doubling of the table. Making or replacing a node
+/// changes one place of each list; removing one moves each of the numbers after it.
 #[derive(Drop)]
 pub struct Table {
     cards: Vec<Option<CachedNode>>,
@@ -42,10 +42,10 @@ impl Model for Table {
 }
 
 impl Table {
-    /// The most nodes of a table, each at a place of its own.
+    /// The most nodes of a table, each at its own place.
     pub const MAX_NODES: u32 = 16384;
 
-    /// A table of so many places, all free.
+    /// A table with `places` places, all free.
     pub fn new(alloc: Global, places: u32) -> Result<Table, AllocError>
         requires { places ≤ Table.MAX_NODES }
         ensures { IfOk result (λ table. table ≡ replicate places None) }
@@ -65,12 +65,12 @@ impl Table {
         })
     }
 
-    /// A table of the cached nodes of all places, in their order. Sorting them by number takes as
-    /// many steps as there are places, times 14 at most.
+    /// A table of the cached nodes of all places, in their order. Sorting them by number takes at
+    /// most 14 steps for each place.
     ///
     /// # Errors
     ///
-    /// [`TableFault::SameNumber`] exactly where two cached nodes have one number;
+    /// [`TableFault::SameNumber`] exactly if two cached nodes have the same number;
     /// [`TableFault::Memory`].
     pub fn from_cards(alloc: Global, cards: Vec<Option<CachedNode>>) -> Result<Table, TableFault>
         requires few { length cards.items ≤ Table.MAX_NODES }
@@ -114,7 +114,7 @@ impl Table {
         }
     }
 
-    /// The place of the node of a number.
+    /// The place of the node with a number.
     pub fn find(&self, number: u64) -> Option<u32>
         ensures some { IfSome result (λ place. node_number_at self.now place ≡ Some number) }
         ensures only { HaveOwnPlaces self.now }
@@ -124,7 +124,7 @@ impl Table {
         Some(self.index[i].1)
     }
 
-    /// A free place, if there is one. It stays free.
+    /// A free place, if there is one. It remains free.
     pub fn free_place(&self) -> Option<u32>
         ensures some { IfSome result (λ place. IsFree self.now place) }
         ensures none { IfNone result (count_of_all self.now ≡ length self.now) }
@@ -160,7 +160,7 @@ impl Table {
         put_card(&mut self.cards, place, Some(cached));
     }
 
-    /// Puts a cached node into the place of the one of its number.
+    /// Puts a cached node into the place of the one with its number.
     pub fn replace(&mut self, place: u32, cached: CachedNode)
         requires { node_number_at self.old place ≡ Some cached.fields.number }
         ensures { self.new ≡ set self.old place (Some cached) }
@@ -170,7 +170,7 @@ impl Table {
         put_card(&mut self.cards, place, Some(cached));
     }
 
-    /// Removes the node of a number from its place.
+    /// Removes the node with a number from its place.
     pub fn remove(&mut self, place: u32, number: u64)
         requires there { node_number_at self.old place ≡ Some number }
         ensures { self.new ≡ set self.old place None }
@@ -217,7 +217,7 @@ fn charge_of_cards(cards: &[Option<CachedNode>]) -> u64
     charge
 }
 
-/// Where a place stands among the free ones: the last is looked at first.
+/// The index of a place among the free ones: the search begins with the last.
 fn entry_of_free(free: &[u32], place: u32) -> Option<usize>
     ensures some { IfSome result (λ i.
         (i < length free.now) × (slice_index_or free.now i 0 ≡ place)) }

@@ -1,5 +1,5 @@
--- The sectors of a seat that holds a reply from now on: the four of the slot are the reply's, and
--- the others are what they were.
+-- The sectors of a seat that now holds a reply: the four of the slot are the reply's, and the
+-- others are unchanged.
 use Rattle.std.proofs.Common.{◌≡◌, ◌≢◌, ◌≤◌, ◌-◌, ◌/◌, ◌%◌, ℕ, zero, suc, ◌++◌, Option, Some, None, length, get_or, set, replicate, sym, ap, ◌∙◌, arith}
 use Rattle.std.specs.Prelude.{codes}
 use Rattle.std.specs.Int.{w32, to_be_bytes}

@@ -1,4 +1,4 @@
--- Whatever the code holds can be spelled.
+-- Whatever the code holds can be encoded.
 use Rattle.std.proofs.Common.{List, [], ◌∷◌, Option, Some, None, map, arith}
 use Rattle.std.specs.Option.{option_map}
 use Rattle.std.specs.List.{AllByRecursion}

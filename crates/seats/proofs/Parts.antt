@@ -27,7 +27,7 @@ drop-padded (suc f) z (x ∷ xs) =
     let less : z - (f - length xs) ≡ z - (suc f - length (x ∷ xs)) = omega arith in
     drop-padded f z xs ∙ ap (λ (n : ℕ). drop f xs ++ replicate n 0) less
 
--- so many bytes of what has zeros after it, from a place on
+-- `m` bytes, from a place on, of a text that has zeros after it
 pub window : (f m z : ℕ) (xs : List ℕ) → f + m ≤ length xs + z → take m (drop f (xs ++ replicate z 0)) ≡ padded m (drop f xs)
 window f m z xs h =
     let rest : length (drop f xs) ≡ length xs - f = length-drop f xs in
@@ -68,7 +68,7 @@ head_is seat short =
     ap (λ (rest : List ℕ). head_front seat ++ rest) (padded_owner seat.owner short)
     ∙ sym (append_assoc (head_front seat ++ seat.owner) zeros (replicate 3040 0) ∙ append_assoc (head_front seat) seat.owner (zeros ++ replicate 3040 0))
 
--- nothing is held of a slot, and no seat stands at a place
+-- the sectors of a slot for which nothing is held
 pub part_of_none : (k : ℕ) → k < 4 → part_of k (slot_text None) ≡ replicate 4096 0
 unfolding slot_text
 part_of_none k few = ap (take 4096) (drop-replicate (4096 * k) 16384 0) ∙ take-replicate 4096 (16384 - 4096 * k) 0 (omega arith)

@@ -1,4 +1,4 @@
--- What is read of the sectors of seats is what was spelled there.
+-- What is read from the sectors of seats is what was encoded there.
 use Rattle.std.proofs.Common.{◌≡◌, ◌≤◌, ◌<◌, ◌+◌, ◌-◌, ◌*◌, ◌/◌, ◌%◌, ℕ, zero, suc, Bool, true, false, ◌==◌, if◌then◌else◌, List, [], ◌∷◌, ◌++◌, Option, Some, None, length, get_or, take, drop, replicate, refl, ap, ap₂, ◌∙◌, arith, eq-eqb}
 use Rattle.std.specs.Prelude.{slice_index, Result, Err}
 use Rattle.std.specs.Int.{w32, from_be_bytes}
@@ -47,7 +47,7 @@ slot-back (Some held) is =
     let one : from_be_bytes w32 (slot_text (Some held)) ≡ 1 = ap (from_be_bytes w32) (text_apart held) in
     slot_some (slot_text (Some held)) one ∙ ap (λ (x : HeldReply). Some x) (held-back held is)
 
--- none that is spelled is longer than a slot has room for
+-- no encoded length is more than a slot has room for
 pub length_fits : (slot : Option HeldReply) → IsSlot slot → from_be_bytes w32 (drop 12 (slot_text slot)) ≤ 16360
 unfolding slot_text
 length_fits None is = let none : from_be_bytes w32 (drop 12 (slot_text None)) ≡ 0 = number_zero 16384 12 (omega arith) in omega arith
@@ -107,7 +107,7 @@ place-back (Some seat) sectors is spelled =
     let mark : slice_index (sectors 0) 0 ≡ 83 = ap (λ (h : List ℕ). slice_index h 0) (head_there seat is sectors spelled) ∙ mark_there seat is in
     place_some sectors mark ∙ ap (λ (s : Seat). Some s) (taken-back seat sectors is spelled)
 
--- where no seat has these sectors, no place has them
+-- if no seat has these sectors, no place has them
 pub no_place : (sectors : ℕ → List ℕ) → slice_index (sectors 0) 0 ≡ 83 → ((seat : Seat) → IsSeat seat → AreSectorsOf sectors (Some seat) → ⊥)
     → (place : Option Seat) → IsSeatPlace place → AreSectorsOf sectors place → ⊥
 no_place sectors mark none None is spelled = no_mark sectors spelled mark
@@ -144,6 +144,6 @@ seats-back seats sectors are spelled = five-back (seat_from sectors 0) (seat_fro
     (one-back seats sectors are spelled 0 0 (omega arith) (omega arith)) (one-back seats sectors are spelled 1 9 (omega arith) (omega arith)) (one-back seats sectors are spelled 2 18 (omega arith) (omega arith))
     (one-back seats sectors are spelled 3 27 (omega arith) (omega arith)) (one-back seats sectors are spelled 4 36 (omega arith) (omega arith))
 
--- the fault of a result that has none but this one
+-- a result has only one fault
 pub err_is : {A : Type 0} (x y : SeatFault) → (let r : Result A SeatFault = Err x in r ≡ Err y) → x ≡ y
 err_is x y e = cc

@@ -1,4 +1,4 @@
--- What stands in the sectors of a seat: its numbers, and the texts of its slots.
+-- What the sectors of a seat hold: its numbers, and the texts of its slots.
 use Rattle.std.proofs.Common.{◌≡◌, ◌≤◌, ◌<◌, ◌+◌, ◌-◌, ◌/◌, ◌%◌, ℕ, zero, suc, List, [], ◌∷◌, ◌++◌, Option, Some, None, length, get_or, take, drop, replicate, refl, sym, ap, ap₂, ◌∙◌, arith, append_assoc}
 use Rattle.std.specs.Prelude.{codes, slice_index}
 use Rattle.std.specs.Int.{w32, to_be_bytes, from_be_bytes}
@@ -20,7 +20,7 @@ same_number a b same =
     let e3 : get_or a 3 0 ≡ get_or b 3 0 = same 3 (omega arith) in
     rw (e0, e1, e2, e3) refl
 
--- one that stands in the front of two parts
+-- a number that lies in the first of two parts
 pub number_front : (head rest : List ℕ) (at : ℕ) → at + 4 ≤ length head → from_be_bytes w32 (drop at (head ++ rest)) ≡ from_be_bytes w32 (drop at head)
 number_front head rest at h = same_number (drop at (head ++ rest)) (drop at head)
     (λ i few. get_or-drop at (head ++ rest) i 0 ∙ get_or_append_left head rest 0 (at + i) (omega arith) ∙ sym (get_or-drop at head i 0))

@@ -1,6 +1,6 @@
--- Bytes with zeros after them.
+-- Bytes padded with zeros.
 use Rattle.std.specs.Prelude.{◌-◌, ◌++◌, ℕ, List, length, replicate, take}
 
--- so many bytes: these, as far as they go, and zeros
+-- `count` bytes: these, as far as they go, then zeros
 abbrev pub padded : (count : ℕ) → List ℕ → List ℕ
 padded count bytes = take count bytes ++ replicate (count - length bytes) 0

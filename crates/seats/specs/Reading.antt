@@ -1,5 +1,5 @@
--- What sectors say of seats, whatever their bytes: nothing is tested. Of sectors in which seats are
--- spelled it is these seats: so they spell one list of seats at most.
+-- What sectors say about seats, whatever their bytes: nothing is checked. For sectors in which
+-- seats are encoded, it is these seats: so they encode at most one list of seats.
 use Rattle.std.specs.Prelude.{◌≡◌, ◌<◌, ◌+◌, ◌==◌, ◌++◌, ℕ, List, [], ◌∷◌, Option, Some, None, drop, slice_index, take, if◌then◌else◌}
 use Rattle.std.specs.Int.{w32, from_be_bytes}
 use Rattle.model_tree.specs.Seats.Seats.{HeldReply, Seat, Seats}

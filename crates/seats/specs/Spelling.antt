@@ -1,11 +1,11 @@
--- The sectors of a seat, byte by byte. A free one has nine of zeros. Of one that is taken the first
--- has `SESS`, and whose it is; four follow for each of two slots.
+-- The sectors of a seat, byte by byte. A free place has nine sectors of zeros. The first sector of
+-- a taken place has `SESS` and says whose it is; four follow for each of two slots.
 use Rattle.std.specs.Prelude.{◌≡◌, ◌≤◌, ◌<◌, ◌-◌, ◌*◌, ◌/◌, ◌%◌, ◌^◌, ◌==◌, ◌++◌, ℕ, List, [], Option, Some, None, codes, drop, length, replicate, slice_index_or, take, if◌then◌else◌}
 use Rattle.std.specs.Int.{w32, to_be_bytes}
 use Rattle.std.specs.List.{AllByRecursion}
 use Rattle.model_tree.specs.Seats.Seats.{HeldReply, Seat, Seats}
 
--- What can be spelled
+-- What can be encoded
 
 pub record IsHeld (held : HeldReply) : Type 0 where
   pub number : held.number < 2 ^ 32

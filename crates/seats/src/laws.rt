@@ -1,9 +1,9 @@
-//! What the sectors of seats say, whatever their bytes.
+//! What the sectors of seats encode, whatever their bytes.
 
 ghost use Rattle.seats.specs.Reading.{SeatsReadBack};
 
-/// Reading, which takes any sectors, gives back the seats that were spelled in them; so they spell
-/// one list of seats at most.
+/// Reading, which takes any sectors, gives back the seats that were encoded in them; so they encode
+/// at most one list of seats.
 pub fn reads_back()
     ensures { SeatsReadBack }
 {}

@@ -17,8 +17,8 @@ use std::alloc::Global;
 /// The most bytes of an owner.
 const MAX_OWNER: usize = 1024;
 
-/// The reply that would stand in the four sectors from this one on, whatever stands in the bytes
-/// between its fields.
+/// The reply that the four sectors from this one on would encode, whatever the bytes between its
+/// fields are.
 fn slot_in(
     alloc: Global,
     sectors: &[[u8; SIZE]],
@@ -47,7 +47,7 @@ fn slot_in(
     }))
 }
 
-/// The slots, one or two, that would stand in the sectors of a seat.
+/// The slots, one or two, that the sectors of a seat would encode.
 fn slots_in(
     alloc: Global,
     sectors: &[[u8; SIZE]],
@@ -69,7 +69,7 @@ fn slots_in(
     Ok(slots)
 }
 
-/// The seat that would stand in these sectors, whatever stands in the bytes between its fields.
+/// The seat that these sectors would encode, whatever the bytes between its fields are.
 fn taken_in(alloc: Global, sectors: &[[u8; SIZE]]) -> Result<Seat, SeatFault>
     requires { length sectors.now ≡ 9 }
     ensures value { IfOk result (λ seat. seat_view seat ≡ taken_from (sector_of sectors.now)) }
@@ -100,7 +100,7 @@ fn taken_in(alloc: Global, sectors: &[[u8; SIZE]]) -> Result<Seat, SeatFault>
     })
 }
 
-/// The place that would stand in these sectors, whatever stands in the bytes between its fields.
+/// The place that these sectors would encode, whatever the bytes between its fields are.
 fn place_in(alloc: Global, sectors: &[[u8; SIZE]]) -> Result<Option<Seat>, SeatFault>
     requires { length sectors.now ≡ 9 }
     ensures value { IfOk result (λ place. place_view place ≡ seat_in (sector_of sectors.now)) }
@@ -130,8 +130,8 @@ fn are_sectors_of(sectors: &[[u8; SIZE]], place: &Option<Seat>) -> bool
 /// The place for a seat that has these nine sectors.
 ///
 /// # Errors
-/// `NotSeat` exactly where no place has them: whatever is read is written again, and has to give
-/// each byte back.
+/// `NotSeat` exactly if no place has them: whatever is read is written again, and has to give each
+/// byte back.
 pub fn read_seat(alloc: Global, sectors: &[[u8; SIZE]]) -> Result<Option<Seat>, SeatFault>
     requires { length sectors.now ≡ 9 }
     ensures fits { IfOk result (λ place. IsSeatPlace (place_view place)) }

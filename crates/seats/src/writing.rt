@@ -10,7 +10,7 @@ ghost use Rattle.seats.specs.Spelling as spelled;
 use model_tree::seats::{HeldReply, Seat};
 use sector::{SIZE, put_bytes, put_u32, put_zeros};
 
-/// Where the owner begins in the first sector, and the result in a slot's.
+/// The offset of the owner in the first sector, and of the result in a slot's.
 pub(crate) const OWNER: usize = 32;
 
 pub(crate) const RESULT: usize = 24;
@@ -97,7 +97,7 @@ fn head_sector(seat: &Seat) -> [u8; SIZE]
     sector
 }
 
-/// One of the four sectors of what is held of a slot.
+/// One of the four sectors of what is held for a slot.
 fn part_of_held(held: &Option<HeldReply>, part: usize) -> [u8; SIZE]
     requires { part < SLOT_SECTORS }
     ensures { result ≡ part_of part (slot_text (option_map held_view held.now)) }

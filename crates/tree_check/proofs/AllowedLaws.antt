@@ -1,4 +1,4 @@
--- Nodes that are allowed are a tree's that the limits allow.
+-- Nodes that are allowed are nodes of a tree that the limits allow.
 use Rattle.std.proofs.Common.{zero, All, ◌+◌, ◌≡◌, ◌≢◌, ◌≤◌, ◌<◌, ◌↔◌, ℕ, suc, true, List, [], ◌∷◌, Option, Some, None, length, get_or, refl, sym, ap, subst, ◌∙◌, arith, inl, inr, eq-eqb, ne_eqb, bytes_eq, IsTrue, true≢false}
 use Rattle.std.proofs.lemmas.Bool.{cases_eq, cases_Bool}
 use Rattle.std.proofs.lemmas.List.FromFn.{length-map-range_with_len}
@@ -32,7 +32,7 @@ use Rattle.tree_check.proofs.TreeLaws.{There, Nowhere, at-stamp, find, is_card}
 
 -- Names
 
--- a name that stands nowhere, and one that stands once
+-- a name that occurs nowhere, and one that occurs once
 
 none-named : (name : List ℕ) (names : List Record) → ((i : ℕ) (d : Record) → i < length names → name_of (get_or names i d) ≢ name) → times_named name names ≡ 0
 none-named name [] none = refl
@@ -55,7 +55,7 @@ once-named name (x ∷ names) apart = elim (cases_Bool (bytes_eq name x.1.name))
       omega (arith, nothing, once-named name names (λ i j d low h. apart (suc i) (suc j) d (omega arith) (omega arith)))
 ]
 
--- what holds of each record holds of what stands at a stamp
+-- what holds for each record holds for the entry of a stamp
 at-each : (P : DirEntry → Type 0) (names : List Record) (key : ℕ) (entry : DirEntry) → AllByRecursion (λ (r : Record). P r.1) names → at key names ≡ Some entry → P entry
 at-each P [] key entry all e = absurd (none_some entry e)
   where
@@ -88,7 +88,7 @@ allowed-names : (limits : Limits) (names : List Record) → NamesStamped names �
 allowed-names limits names stamped are = all-each (λ (r : Record). IsNameAllowed limits (name_of r)) names
     (λ i d h. are.named (get_or names i d).0 (get_or names i d).1 (at-by_stamp (get_or names i d).0 names ∙ at-stamp names stamped i d h))
 
--- Bytes of files: an image that holds nothing where no sector is marked holds the same files
+-- Bytes of files: an image that holds nothing in sectors that are not marked holds the same files
 
 abbrev marked_by : ℕ → List ℕ → List ℕ
 marked_by zero content = []

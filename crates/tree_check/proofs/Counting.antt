@@ -89,7 +89,7 @@ count-sum (Some card ∷ cards) = omega (arith, count-sum cards)
 own-rest : (card : Option CachedNode) (cards : List (Option CachedNode)) → HaveOwnPlaces (card ∷ cards) → HaveOwnPlaces cards
 own-rest card cards own p q n here there = let same : suc p ≡ suc q = own (suc p) (suc q) n here there in omega arith
 
--- one node at most has a number
+-- at most one node has a number
 own-sum : (n : ℕ) (cards : List (Option CachedNode)) → HaveOwnPlaces cards → sum_below (λ p. is_it n (node_number_at cards p)) (length cards) ≤ 1
 own-sum n [] own = omega arith
 own-sum n (card ∷ cards) own = elim (cases_eq (is_it n (node_number card)) 0) [

@@ -1,4 +1,4 @@
--- Whether a tree fits is told by the sums over the cached nodes.
+-- The sums over the cached nodes decide whether a tree fits.
 use Rattle.std.proofs.Common.{◌≡◌, ◌≤◌, ◌&&◌, ℕ, Bool, true, false, List, [], ◌∷◌, Option, Some, length, refl, sym, ap, ap₂, ◌∙◌, arith}
 use Rattle.std.proofs.lemmas.Bool.{le-leb}
 use Rattle.std.specs.Prelude.{nat_le}
@@ -24,7 +24,7 @@ use Rattle.tree_check.specs.ShapeLaws.{EachFit}
 use Rattle.tree_check.proofs.AgeLaws.{node-is, none-node}
 use Rattle.tree_check.proofs.TreeLaws.{There, Nowhere, find, is_card}
 
--- no directory has too many names where no node of the tree is one with too many
+-- no directory has too many names if no node of the tree has too many
 pub few-from : (most least : ℕ) (entries : Tree) → IsAbove least entries → ((n : ℕ) (node : Node) → at n entries ≡ Some node → length (names_of node.content) ≤ most) → few_names most entries ≡ true
 few-from most least [] above each = refl
 few-from most least (entry ∷ rest) above each =

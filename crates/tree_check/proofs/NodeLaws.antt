@@ -19,7 +19,7 @@ pub each_more : (P : Record → Type 0) (names : List Record) (i : ℕ) (one : R
 each_more P names i one is h all its =
     subst (AllByRecursion P) (sym (take_more names i one h ∙ ap (λ r. take i names ++ r ∷ []) (is one))) (each_push P (take i names) one all its)
 
--- what holds of all cached nodes below a place that is past the last holds of all
+-- what holds for all cached nodes below a place that is past the last one holds for all
 pub each_place : (P : CachedNode → Type 0) (cards : List (Option CachedNode)) (end : ℕ)
     → length cards ≤ end
     → ((place : ℕ) (card : CachedNode) → place < end → get_or cards place None ≡ Some card → P card)

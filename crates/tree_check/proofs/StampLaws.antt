@@ -1,4 +1,4 @@
--- Sorted stamps are apart exactly where no two neighbours are the same.
+-- Sorted stamps are distinct exactly if no two neighbours are the same.
 use Rattle.std.proofs.Common.{◌≡◌, ◌<◌, ◌+◌, ◌++◌, ℕ, zero, suc, List, [], ◌∷◌, Option, None, length, map, take, get_or, refl, sym, ap, ◌∙◌, arith, eqb, eq-eqb}
 use Rattle.std.proofs.lemmas.List.{append_assoc, append-nil, map-append, take_more}
 use Rattle.std.specs.List.Sorted.{IsPermutation, IsNonDecreasing}

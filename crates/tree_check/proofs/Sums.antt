@@ -1,4 +1,4 @@
--- Sums over all places below a number, and over a list of different places.
+-- Sums over all places below a number, and over a list of distinct places.
 use Rattle.std.proofs.Common.{◌≡◌, ◌≢◌, ◌≤◌, ◌<◌, ◌+◌, ◌++◌, ℕ, zero, suc, Bool, true, false, List, [], ◌∷◌, length, take, get_or, refl, sym, ap, ◌∙◌, arith, inl, inr, eqb, eq-eqb, ne_eqb}
 use Rattle.std.proofs.lemmas.Bool.{cases_eq, cases_lt}
 use Rattle.layout.specs.Marks.{once_if, times}
@@ -13,7 +13,7 @@ abbrev pub sum_of : (ℕ → ℕ) → List ℕ → ℕ
 sum_of f [] = 0
 sum_of f (p ∷ ps) = f p + sum_of f ps
 
--- so many times k
+-- `n` times `k`
 abbrev pub many : ℕ → ℕ → ℕ
 many zero k = 0
 many (suc n) k = k + many n k
@@ -42,7 +42,7 @@ sum-plus : (f g : ℕ → ℕ) (n : ℕ) → sum_below (λ i. f i + g i) n ≡ s
 sum-plus f g zero = omega arith
 sum-plus f g (suc n) = omega (arith, sum-plus (λ i. f (suc i)) (λ i. g (suc i)) n)
 
--- where the one is nowhere above the other, and the sums are the same, so are they
+-- if one is nowhere above the other, and the sums are equal, so are they
 pub sum-each : (f g : ℕ → ℕ) (n : ℕ) → ((i : ℕ) → i < n → f i ≤ g i) → sum_below g n ≤ sum_below f n → (i : ℕ) → i < n → g i ≤ f i
 sum-each f g zero le total i h = absurd (omega arith)
 sum-each f g (suc n) le total zero h =
@@ -86,7 +86,7 @@ sum-pick f (suc n) (suc x) h =
       sum-pick (λ i. f (suc i)) n x (omega arith),
     )
 
--- places that are not below n stand nowhere in the list
+-- all places of the list are below n
 abbrev pub AreBelow : (n : ℕ) → List ℕ → Type 0
 AreBelow n ps = (p : ℕ) → n ≤ p → times p ps ≡ 0
 
@@ -103,7 +103,8 @@ sum_of-below f n (x ∷ ps) far = elim (cases_lt x n) [
   | inr past ↦ absurd (omega (arith, far x (omega arith), once-here x))
 ]
 
--- a sum over different places is at most the one over all, and is that one where it has each that counts
+-- a sum over distinct places is at most the one over all, and equals it if they include each that
+-- counts
 pub sum_of-le : (f : ℕ → ℕ) (n : ℕ) (ps : List ℕ) → AreBelow n ps → ((p : ℕ) → times p ps ≤ 1) → sum_of f ps ≤ sum_below f n
 sum_of-le f n ps far few =
     omega (arith, sum_of-below f n ps far, sum-le (λ p. many (times p ps) (f p)) f n (λ p h. many-le (times p ps) (f p) (few p)))
@@ -123,9 +124,9 @@ pub length-sum : (ps : List ℕ) → length ps ≡ sum_of (λ p. 1) ps
 length-sum [] = refl
 length-sum (p ∷ ps) = omega (arith, length-sum ps)
 
--- How often lists have a number
+-- How often a number occurs in lists
 
--- the element at a place counts beside those in front of it
+-- the element at a place counts in addition to those before it
 pub times-split : (n : ℕ) (xs : List ℕ) (i d : ℕ) → i < length xs → times n (take i xs) + once_if (eqb n (get_or xs i d)) ≤ times n xs
 times-split n [] i d h = absurd (omega arith)
 times-split n (x ∷ xs) zero d h = omega arith

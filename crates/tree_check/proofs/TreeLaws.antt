@@ -1,4 +1,4 @@
--- What is decided of cached nodes holds of the tree that they are.
+-- What is decided of cached nodes holds of the tree that they represent.
 use Rattle.std.proofs.Common.{◌≡◌, ◌≢◌, ◌≤◌, ◌<◌, ◌↔◌, ℕ, zero, suc, List, [], ◌∷◌, Option, Some, None, length, get_or, refl, sym, ap, subst, ◌∙◌, arith, inl, inr, eqb, eq-eqb, ne_eqb, IsTrue, true≢false}
 use Rattle.std.proofs.lemmas.Bool.{cases_eq}
 use Rattle.std.proofs.lemmas.List.{get_or-map, length-map}
@@ -50,7 +50,7 @@ at-index (x ∷ names) key entry e = elim (cases_eq key x.0) [
     some-one : (a b : DirEntry) → (let one : Option DirEntry = Some a in one ≡ Some b) → a ≡ b
     some-one a b e = cc
 
--- each entry stands at its stamp
+-- each entry is found by its stamp
 pub at-stamp : (names : List Record) → NamesStamped names → (i : ℕ) (d : Record) → i < length names → at (get_or names i d).0 names ≡ Some (get_or names i d).1
 at-stamp [] stamped i d h = absurd (omega arith)
 at-stamp (x ∷ names) stamped zero d h = ap (λ b. here_or b x.1 (at x.0 names)) (eq-eqb x.0 x.0 refl)
@@ -179,7 +179,7 @@ module _ (nodes : ℕ) (image : Image) (mark : ℕ → ℕ) (cards : List (Optio
       none-some : (entry : DirEntry) → (let none : Option DirEntry = None in none ≡ Some entry) → ⊥
       none-some entry e = cc
 
-  -- and the other way
+  -- and conversely
   to-walk : (number : ℕ) → IsFrom tree root number → IsReached cards number
   to-walk number Start = shape.Root
   to-walk number (Named directory stamp entry reached has) = elim (find cards directory) [

@@ -1,4 +1,4 @@
--- The names of one directory, one after the other.
+-- The names of one directory, one by one.
 use Rattle.std.proofs.Common.{◌≡◌, ◌≤◌, ◌<◌, ◌++◌, ◌+◌, ℕ, zero, suc, Bool, List, [], ◌∷◌, Option, Some, None, length, map, take, get_or, refl, sym, ap, subst, ◌∙◌, arith}
 use Rattle.std.proofs.lemmas.List.{get_or-map, length-map, append_assoc, append-nil, length-append}
 use Rattle.node_table.specs.Tables.{node_number_at}

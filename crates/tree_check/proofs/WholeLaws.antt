@@ -1,4 +1,4 @@
--- All that is decided of the cached nodes makes a well-formed tree.
+-- All that is decided of the cached nodes together makes a well-formed tree.
 use Rattle.std.proofs.Common.{◌≡◌, ◌≤◌, ◌↔◌, ◌&&◌, ℕ, true, List, [], Option, Some, None, true≢false, refl, sym, ap₂, ◌∙◌, arith}
 use Rattle.std.proofs.lemmas.Bool.{and_parts, le-leb, leb-true}
 use Rattle.std.specs.Prelude.{is_some, nat_le}
@@ -20,7 +20,7 @@ use Rattle.tree_check.proofs.AllowedLaws.{known_node}
 use Rattle.tree_check.proofs.FitLaws.{known_fit}
 use Rattle.tree_check.proofs.TreeLaws.{known_stamp, known_walk}
 
--- a directory is there
+-- a directory exists
 there : (node : Option Node) → is_directory_node node ≡ true → is_some node ≡ true
 there None is = absurd (true≢false (sym is))
 there (Some node) is = refl

@@ -1,4 +1,4 @@
--- The nodes at the places of a table are ones that the limits allow, and the root is a directory.
+-- The limits allow each node at the places of a table, and the root is a directory.
 use Rattle.std.specs.Prelude.{◌≡◌, ◌≤◌, ℕ, List, Option, Some, None, IsTrue, slice_index_or}
 use Rattle.std.specs.List.{AllByRecursion}
 use Rattle.model_tree.specs.declared.limits.Limits.{Limits}
@@ -11,7 +11,7 @@ use Rattle.model_tree.specs.Trees.Tree.{root}
 use Rattle.directory.specs.Records.{Record, name_of}
 use Rattle.layout.specs.CachedNodes.{CachedNode}
 
--- a name passes the tests of names, and so does each
+-- a name is allowed, and all names are
 
 abbrev pub IsNameAllowed : Limits → List ℕ → Type 0
 IsNameAllowed limits name = first_refusal (name_refusals limits name) ≡ None
@@ -27,7 +27,7 @@ pub record IsNodeAllowed (limits : Limits) (card : CachedNode) : Type 0 where
   pub entries : IsTrue (is_list_for limits.aces_set limits.aces card.fields.kind card.fields.acl)
   pub content : IsContentAllowed limits card.fields.kind card
 
--- the root's number is a directory's
+-- the root's number is that of a directory
 
 pub record IsRootDirectory (card : CachedNode) : Type 0 where
   pub number : card.fields.number ≡ root

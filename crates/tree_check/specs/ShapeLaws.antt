@@ -1,4 +1,4 @@
--- What is decided of cached nodes, said of the tree that they are.
+-- What the checks of cached nodes say about the tree that they represent.
 use Rattle.std.specs.Prelude.{◌≡◌, ◌≤◌, ◌↔◌, ◌<◌, ◌&&◌, nat_le, ℕ, List, [], Option, Some, All, IsTrue}
 use Rattle.disk.specs.Moments.{Image}
 use Rattle.node_table.specs.Tables.{charge_of_all, count_of_all}
@@ -17,8 +17,8 @@ use Rattle.tree_check.specs.Stamps.{AreStampsApart}
 use Rattle.tree_check.specs.Trees.{IsOneTree}
 use Rattle.tree_check.specs.WellFormed.{AreWellFormed}
 
--- three clauses of a well-formed tree: there is a root, each other node has one name, and each is
--- reached
+-- three clauses of a well-formed tree: there is a root, each other node has one name, and each node
+-- is reached
 pub record IsLinked (tree : Tree) : Type 0 where
   pub rooted : IsTrue (is_key root tree)
   pub linked : (number : ℕ) → links_to tree number ≡ links_owed tree number
@@ -30,21 +30,21 @@ EachWalk =
     → AreLaid nodes image mark cards
     → IsOneTree cards ↔ IsLinked (tree_of image cards)
 
--- and one more: no stamp is in two directories
+-- and another: no stamp is in two directories
 abbrev pub EachStamp : Type 0
 EachStamp =
     (nodes : ℕ) (image : Image) (mark : ℕ → ℕ) (cards : List (Option CachedNode))
     → AreLaid nodes image mark cards
     → AreStampsApart cards ↔ ((stamp : ℕ) → stamped_in (tree_of image cards) stamp ≤ 1)
 
--- and all of its stamps are from before one exactly where those of the nodes are
+-- and all of its stamps are from before one exactly if those of the nodes are
 abbrev pub EachAge : Type 0
 EachAge =
     (nodes : ℕ) (image : Image) (mark : ℕ → ℕ) (cards : List (Option CachedNode))
     → AreLaid nodes image mark cards
     → (stamp : ℕ) → AreBefore stamp cards ↔ IsBefore stamp (tree_of image cards)
 
--- The tree fits exactly where the nodes' charges and their count do: no directory has more than
+-- The tree fits exactly if the nodes' charges and their count do: no directory has more than
 -- MAX_NAMES names
 abbrev pub EachFit : Type 0
 EachFit =
@@ -54,8 +54,8 @@ EachFit =
     → fits limits (tree_of image cards)
     ≡ (nat_le (charge_of_all cards) limits.data_sectors && nat_le (count_of_all cards) limits.nodes)
 
--- where the sectors that nodes name hold bytes, two more: each node is one that the limits allow,
--- and the root is a directory
+-- if the sectors that nodes name hold bytes, two more: the limits allow each node, and the root is
+-- a directory
 
 abbrev pub HoldBytes : Image → (mark : ℕ → ℕ) → Type 0
 HoldBytes image mark = (n : ℕ) → 0 < mark n → All (λ byte. byte < 256) (image n)
@@ -77,8 +77,8 @@ EachTree = (nodes : ℕ) (image : Image) (mark : ℕ → ℕ) (cards : List (Opt
     → AreWellFormed limits stamp cards
     ↔ (IsWellFormed limits (tree_of image cards) × IsBefore stamp (tree_of image cards))
 
--- And it decides it of cached nodes that are known whatever the sectors hold: then it is the tree
--- with zeros for the bytes of files, as sectors without content are
+-- It also decides this for cached nodes that are known whatever the sectors hold: then it is the
+-- tree with zeros for the bytes of files, as sectors without content give it
 abbrev pub EachKnownTree : Type 0
 EachKnownTree = (nodes : ℕ) (mark : ℕ → ℕ) (cards : List (Option CachedNode))
     → AreCards nodes mark cards

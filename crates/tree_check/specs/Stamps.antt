@@ -15,7 +15,7 @@ abbrev pub entry_stamps : List (Option CachedNode) → List ℕ
 entry_stamps [] = []
 entry_stamps (card ∷ cards) = stamped_by card ++ entry_stamps cards
 
--- none stands twice
+-- none occurs twice
 abbrev pub AreStampsApart : List (Option CachedNode) → Type 0
 AreStampsApart cards = (stamp : ℕ) → times stamp (entry_stamps cards) ≤ 1
 

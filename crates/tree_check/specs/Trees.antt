@@ -1,5 +1,5 @@
--- When the nodes at the places of a table make one tree: what the sums of `layout` make of a
--- well-formed tree's links.
+-- When the nodes at the places of a table make one tree: what the links of a well-formed tree
+-- become by the sums of `layout`.
 use Rattle.std.specs.Prelude.{◌≡◌, ◌<◌, ℕ, List, [], Option, Some, None, length, slice_index_or}
 use Rattle.model_tree.specs.Trees.Tree.{root}
 use Rattle.node_table.specs.Tables.{node_number_at}
@@ -7,7 +7,7 @@ use Rattle.layout.specs.CachedNodes.{CachedNode}
 use Rattle.layout.specs.Marks.{times}
 use Rattle.layout.specs.SumLaws.{entry_numbers, other_numbers, numbers_of}
 
--- the numbers that the names of the node at a place lead to: none, where the place is free
+-- the numbers that the names of the node at a place lead to: none if the place is free
 
 abbrev pub led_by : Option CachedNode → List ℕ
 led_by None = []

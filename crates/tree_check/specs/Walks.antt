@@ -1,11 +1,11 @@
--- A walk over directories: the places that were met, in their order, and a mark for each.
+-- A walk over directories: the places that were met, in order, and a mark for each place.
 use Rattle.std.specs.Prelude.{◌≡◌, ◌<◌, ◌++◌, ◌⊎◌, ℕ, Bool, false, List, [], ◌∷◌, Option, Some, None, length, map, take, slice_index_or}
 use Rattle.node_table.specs.Tables.{node_number_at, HasNoNode}
 use Rattle.layout.specs.CachedNodes.{CachedNode}
 use Rattle.layout.specs.Marks.{once_if, times}
 use Rattle.tree_check.specs.Trees.{led_at, IsReached}
 
--- the number of the node at a place, 0 where it is free
+-- the number of the node at a place, 0 if it is free
 
 abbrev pub number_or : Option ℕ → ℕ
 number_or None = 0
@@ -33,11 +33,11 @@ pub record IsWalk (cards : List (Option CachedNode)) (seen : List Bool) (order :
   pub reached : (i : ℕ) → i < length order
       → IsReached cards (number_in cards (slice_index_or order i 0))
 
--- no node has the number, or one of these is it
+-- no node has the number, or it is one of these
 abbrev pub IsMissing : List (Option CachedNode) → List ℕ → (number : ℕ) → Type 0
 IsMissing cards met number = HasNoNode cards number ⊎ (0 < times number met)
 
--- the walk goes on, and has met the nodes of these numbers too
+-- the walk goes on, and has also met the nodes with these numbers
 pub record Meets (cards : List (Option CachedNode)) (seen : List Bool) (old new numbers : List ℕ)
     : Type
     0 where

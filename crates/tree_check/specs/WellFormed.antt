@@ -13,7 +13,7 @@ pub record DoFit (limits : Limits) (cards : List (Option CachedNode)) : Type 0 w
   pub charge : charge_of_all cards ≤ limits.data_sectors
   pub count : count_of_all cards ≤ limits.nodes
 
--- one tree of allowed nodes that fit, with its stamps apart and below this one: what else a
+-- one tree of allowed nodes that fit, with its stamps distinct and below this one: whatever else a
 -- well-formed tree has, laid cached nodes have
 pub record AreWellFormed (limits : Limits) (stamp : ℕ) (cards : List (Option CachedNode))
     : Type 0 where

@@ -1,4 +1,4 @@
-//! Whether no stamp of a volume is past a last one.
+//! Whether all stamps of a volume are at most a given last one.
 
 ghost use Rattle.std.specs.Prelude.{◌+◌, ◌↔◌, IsTrue};
 ghost use Rattle.tree_check.specs.Ages.{AreBefore, AreNamesBefore, IsCardBefore};
@@ -25,8 +25,8 @@ fn is_card_before(cached: &CachedNode, last: u64) -> bool
         && are_names_before(&cached.names, last)
 }
 
-/// Whether nothing that a volume's nodes have of stamps is past this last one: numbers, change
-/// values and stamps of names.
+/// Whether no stamp of a volume's nodes is past this last one: their numbers, change values and the
+/// stamps of names.
 pub(crate) fn are_before(table: &Table, last: u64) -> bool
     ensures { IsTrue result ↔ AreBefore (last + 1) table.now }
 {

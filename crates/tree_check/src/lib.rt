@@ -1,4 +1,4 @@
-//! Whether the nodes of a volume make one tree: what a mount asks of the cached nodes that it has
+//! Whether the nodes of a volume make one tree: what a mount checks of the cached nodes that it has
 //! read.
 #![tactic(auto)]
 

@@ -1,4 +1,4 @@
-//! Whether each node of a volume is one that the limits allow.
+//! Whether the limits allow each node of a volume.
 
 ghost use Rattle.std.specs.Prelude.{◌↔◌, IsTrue};
 ghost use Rattle.tree_check.specs.Nodes.{AreNamesAllowed, AreNodesAllowed, IsContentAllowed};
@@ -62,9 +62,9 @@ fn has_root_directory(table: &Table) -> bool
     false
 }
 
-/// Whether each of a volume's nodes is one that the limits allow, and the root is a directory: each
-/// node may have its list, a file has no more bytes than the limits allow, and each name passes the
-/// tests of names.
+/// Whether the limits allow each of a volume's nodes, and the root is a directory: each node may
+/// have its access control list, a file has no more bytes than the limits allow, and each name is
+/// allowed.
 pub(crate) fn are_nodes_allowed(table: &Table, limits: &Limits) -> bool
     ensures { IsTrue result ↔ AreNodesAllowed limits.now table.now }
 {

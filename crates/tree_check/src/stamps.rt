@@ -1,4 +1,4 @@
-//! The stamps of names, which are cookies: none stands twice in a volume.
+//! The stamps of names, which are cookies: no two names of a volume have the same.
 
 ghost use Rattle.std.specs.Prelude.{◌≡◌, ◌++◌, ◌↔◌, IsTrue, IfOk, OnOk};
 ghost use Rattle.tree_check.specs.Stamps.{entry_stamps, stamps_of, AreDifferent, AreStampsApart};
@@ -41,11 +41,11 @@ fn are_different(stamps: &[u64]) -> bool
     true
 }
 
-/// Whether no stamp stands at two names of a volume, in one directory or in two.
+/// Whether no two names of a volume have the same stamp, in one directory or in two.
 ///
 /// # Errors
 ///
-/// `AllocError` where there is no memory for a stamp a name.
+/// `AllocError` if there is no memory for one stamp per name.
 pub(crate) fn are_stamps_apart(alloc: Global, table: &Table) -> Result<bool, AllocError>
     ensures { IfOk result (λ are. IsTrue are ↔ AreStampsApart table.now) }
 {

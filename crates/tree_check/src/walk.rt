@@ -1,4 +1,4 @@
-//! A walk from the root over all directories: each node is to be met once.
+//! A walk from the root over all directories, which is to meet each node once.
 
 ghost use Rattle.std.specs.Prelude.{◌≡◌, true, IfOk};
 ghost use Rattle.tree_check.specs.Trees.{IsOneTree};
@@ -7,7 +7,7 @@ use model_tree::node::ROOT;
 use node_table::Table;
 use std::alloc::{AllocError, Global};
 
-/// The places that were met, in their order, and a mark for each.
+/// The places that were met, in order, and a mark for each place.
 #[derive(Drop)]
 struct Walk {
     seen: Vec<bool>,
@@ -21,7 +21,7 @@ impl Walk {
     ghost use Rattle.tree_check.specs.Walks.{number_in, numbers_at, IsMissing, IsStuck, IsWalk};
     ghost use Rattle.tree_check.specs.Walks.{Meets};
 
-    /// Nothing of so many places was met.
+    /// A walk over `places` places that has met none.
     fn new(alloc: Global, places: usize) -> Result<Walk, AllocError>
         ensures unseen { IfOk result (λ walk. walk.seen.items ≡ replicate places false) }
         ensures empty { IfOk result (λ walk. walk.order.items ≡ []) }
@@ -33,7 +33,7 @@ impl Walk {
         })
     }
 
-    /// Marks a place, and puts it after the others.
+    /// Marks a place, and appends it to the others.
     fn meet(&mut self, place: u32) -> Result<(), AllocError>
         requires { place < length self.old.seen.items }
         ensures seen { IfOk result (λ _. self.new.seen.items ≡ set self.old.seen.items place true) }
@@ -45,7 +45,8 @@ impl Walk {
         Ok(())
     }
 
-    /// Meets the node of this number, where there is one that was not met: whether there is.
+    /// Meets the node with this number if there is one that was not met, and returns whether there
+    /// is.
     fn follow(&mut self, table: &Table, number: u64) -> Result<bool, AllocError>
         requires walk { IsWalk table.now self.old.seen.items self.old.order.items }
         requires reached { IsReached table.now number }
@@ -63,8 +64,8 @@ impl Walk {
         }
     }
 
-    /// Follows the names at a place, up to one that leads to no node or to one that was met:
-    /// whether there is none such.
+    /// Follows the names at a place, up to one that leads to no node or to one that was met, and
+    /// returns whether there is no such name.
     fn visit(&mut self, table: &Table, place: u32) -> Result<bool, AllocError>
         requires walk { IsWalk table.now self.old.seen.items self.old.order.items }
         requires there { node_number_at table.now place ≡ Some (number_in table.now place) }
@@ -86,12 +87,12 @@ impl Walk {
     }
 }
 
-/// Whether a volume's nodes make one tree: there is a root, one name leads to each other node and
-/// none to the root or to no node, and all are reached from the root.
+/// Whether a volume's nodes make one tree: there is a root, exactly one name leads to each other
+/// node and none to the root or to no node, and all nodes are reached from the root.
 ///
 /// # Errors
 ///
-/// `AllocError` where there is no memory for a mark and a place a node.
+/// `AllocError` if there is no memory for one mark and one place per node.
 pub fn is_one_tree(alloc: Global, table: &Table) -> Result<bool, AllocError>
     ensures sound { IfOk result (λ is. is ≡ true → IsOneTree table.now) }
     ensures complete { IfOk result (λ is. IsOneTree table.now → is ≡ true) }

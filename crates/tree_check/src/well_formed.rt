@@ -18,12 +18,13 @@ fn do_fit(table: &Table, limits: &Limits) -> bool
 }
 
 /// Whether a volume's nodes are a well-formed tree with no stamp past a last one: they make one
-/// tree within the limits, of nodes that the limits allow, no stamp stands at two names, and none
-/// is above this last one.
+/// tree within the limits, of nodes that the limits allow, no two names have the same stamp, and no
+/// stamp is above this last one.
 ///
 /// # Errors
 ///
-/// `AllocError` where there is no memory for a mark and a place a node, and for a stamp a name.
+/// `AllocError` if there is no memory for one mark and one place per node, and for one stamp per
+/// name.
 pub fn are_well_formed(
     alloc: Global,
     table: &Table,

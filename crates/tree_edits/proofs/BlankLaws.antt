@@ -75,7 +75,7 @@ pub length-without_data : (tree : Tree) → length (without_data tree) ≡ lengt
 length-without_data [] = refl
 length-without_data (entry ∷ rest) = ap suc (length-without_data rest)
 
--- What the tests of a tree see of it
+-- What the checks of a tree see of it
 
 blocks-blank : (content : Content) → blocks (blank content) ≡ blocks content
 blocks-blank (File bytes) = ap (blocks_of kind.File) (length-zeros (length bytes))

@@ -1,4 +1,4 @@
--- What a tree is where one of its nodes changes.
+-- What a tree is if one of its nodes changes.
 use Rattle.std.proofs.Common.{◌≡◌, ◌≢◌, ◌≤◌, ◌<◌, ◌+◌, ℕ, Bool, true, false, List, [], ◌∷◌, Option, Some, None, length, refl, sym, ap, arith, inl, inr, eqb, le-leb}
 use Rattle.std.proofs.lemmas.Bool.{cases_eq}
 use Rattle.std.specs.Prelude.{option_map, nat_le, IsTrue, bytes_eq, ◌&&◌}
@@ -10,7 +10,8 @@ use Rattle.tree_edits.proofs.KeyLaws.{Rises, rises_above, rises_with, rises_with
 use Rattle.tree_edits.proofs.NamedLaws.{few-at}
 use Rattle.model_tree.proofs.Trees.KeyedLaws.{at-below, at-first, at-rest, at-with_same, at-with_other, at-without_same, at-without_other}
 
--- every other node stays, the numbers rise, and what the nodes are worth changes by what this one is
+-- every other node stays, the numbers rise, and what the nodes are worth changes by what this one
+-- is
 pub record ChangesOne (number : ℕ) (old new : Tree) : Type 0 where
   pub other : (key : ℕ) → key ≢ number → at key new ≡ at key old
   pub rises : Rises new

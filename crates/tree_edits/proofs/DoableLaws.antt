@@ -1,4 +1,4 @@
--- What can be done to a tree, or measured in it, can be in each that is blanked alike.
+-- What can be done to a tree, or measured in it, can be in any other with the same outline.
 use Rattle.std.proofs.Common.{◌≡◌, ℕ, false, List, [], ◌∷◌, Option, Some, None, refl, sym, ap, ◌∙◌, arith, subst}
 use Rattle.std.specs.Prelude.{is_some, IsTrue, IsFalse}
 use Rattle.tree_edits.specs.declared.edit.Edit.{Edit}

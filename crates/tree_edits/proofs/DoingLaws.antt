@@ -1,4 +1,4 @@
--- What calls of a transaction make of its outline.
+-- The effects of a transaction's calls on its outline.
 use Rattle.std.proofs.Common.{◌≡◌, ◌<◌, ◌+◌, ◌^◌, max, ℕ, List, [], Option, Some, None, length, get_or, set, refl, sym, ap, ap₂, ◌∙◌, arith, inl, subst}
 use Rattle.std.specs.Prelude.{Result, Ok, Err, OnOk}
 use Rattle.std.proofs.lemmas.List.{get_or-set_same}
@@ -47,7 +47,7 @@ pub outline_fixed : (cards : List (Option CachedNode))
     → without_data (tree_without_data cards) ≡ tree_without_data cards
 outline_fixed cards = each_outline (λ n. []) cards
 
--- Where a cached node's content stands is nothing of the outline
+-- The outline does not show a cached node's runs
 
 content_now : (of : NodeKind) (is card : CachedNode) → is.fields.size ≡ card.fields.size → is.names ≡ card.names
     → content_of (λ n. []) of is ≡ content_of (λ n. []) of card
@@ -61,7 +61,7 @@ node_now is card runs run_sectors fields names =
     ap (λ (f : Fields). node_with f (content_of (λ n. []) f.kind is)) fields
     ∙ ap (node_with card.fields) (content_now card.fields.kind is card (ap (λ (f : Fields). f.size) fields) names)
 
--- A cached node is turned
+-- A cached node is changed
 
 module _ (old new : Transaction) (known : IsKnown old) (place number : ℕ) (it : IsThere (cards_of old) place number) where
   abbrev cards : List (Option CachedNode)
@@ -72,7 +72,7 @@ module _ (old new : Transaction) (known : IsKnown old) (place number : ℕ) (it 
     is_number : turns.is.fields.number ≡ number
     is_number = ap (λ (f : Fields). f.number) turns.fields ∙ same ∙ it.number_is
 
-    -- the node stands where it stood
+    -- the node is at the same place
     pub turned_there : IsThere (cards_of new) place number
     turned_there = record {
       cached = turns.is;
@@ -115,7 +115,7 @@ module _ (old new : Transaction) (known : IsKnown old) (place number : ℕ) (it 
       ∙ ap (λ (t : Tree). without t number) (sym (outline_fixed cards))
       ∙ sym (without_data-without (tree_without_data cards) number)
 
--- What a node shows beside its content
+-- The metadata of a node
 
 pub node_showing : (shown : Shown) (card : CachedNode) → node_of (λ n. []) (showing_card shown card) ≡ blank_node (showing shown (node_of (λ n. []) card))
 unfolding node_of
@@ -126,7 +126,7 @@ node_showing shown card = ap (node_with (fields_showing card.fields shown))
     same kind.File = refl
     same kind.Directory = refl
 
--- and it has a spelling, where its entries have one
+-- and it can be encoded, if its entries can be
 pub shown_fits : (card : CachedNode) (shown : declared_shown.Shown) → IsCard card → card.form ≡ Two → AreEntries (shown_of shown).acl
     → IsInode card.form (fields_showing card.fields (shown_of shown))
 shown_fits card shown is form entries =
@@ -174,7 +174,7 @@ unfolding node_of
 node_fresh kind.File number shown = ap (λ (bytes : List ℕ). node_with (fresh_fields kind.File number shown) (File bytes)) (bytes-none [] 0)
 node_fresh kind.Directory number shown = refl
 
--- and it has a spelling
+-- and it can be encoded
 pub fresh_fits : (form : Form) → form ≡ Two → (of : NodeKind) (number : ℕ) (shown : declared_shown.Shown) → number < 2 ^ 64 → AreEntries (shown_of shown).acl → IsInode form (fresh_fields of number (shown_of shown))
 fresh_fits form is of number shown fits entries =
     let most : most_entries form ≡ 72 = ap most_entries is in
@@ -236,7 +236,7 @@ made_outline old new known place of number shown card within free fresh is field
     ∙ ap (λ (t : Tree). with t number (blank_node (fresh_node of shown))) (sym (outline_fixed (cards_of old)))
     ∙ sym (without_data-with (tree_without_data (cards_of old)) number (fresh_node of shown))
 
--- a clause under the device's word that speaks of what was answered Ok
+-- a clause under the device's word about what an `Ok` says
 pub under : {T E word : Type 0} (P : Type 0) (result : Result T E) → (word → OnOk result P) → OnOk result (word → P)
 under P (Ok answer) clause = clause
 under P (Err fault) clause = tt

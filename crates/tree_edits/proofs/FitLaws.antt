@@ -1,4 +1,4 @@
--- What fits, and that it does not depend on what stands in files.
+-- What fits, and that it does not depend on the bytes of files.
 use Rattle.std.proofs.Common.{◌≡◌, ◌≤◌, ◌<◌, ℕ, Bool, true, false, length, refl, sym, ap, ap₂, ◌∙◌, le-leb}
 use Rattle.std.proofs.lemmas.Bool.{lt-leb}
 use Rattle.std.specs.Prelude.{nat_le, ◌&&◌}
@@ -39,7 +39,7 @@ unfolding fits
 too_many limits tree over = ap (λ (few : Bool). nat_le (total charge tree) limits.data_sectors && (few && few_names limits.names tree)) (lt-leb (length tree) limits.nodes over)
     ∙ and_false (nat_le (total charge tree) limits.data_sectors)
 
--- and where two hold the third decides
+-- and if two hold, the third decides
 pub names_decide : (limits : Limits) (tree : Tree) → total charge tree ≤ limits.data_sectors → length tree ≤ limits.nodes → few_names limits.names tree ≡ fits limits tree
 unfolding fits
 names_decide limits tree low few = sym (ap₂ (λ (a b : Bool). a && (b && few_names limits.names tree)) (le-leb (total charge tree) limits.data_sectors low) (le-leb (length tree) limits.nodes few))

@@ -1,4 +1,4 @@
--- The trees after each front of a list of edits, from the outline of cached nodes on.
+-- The trees after each prefix of a list of edits, from the outline of cached nodes on.
 use Rattle.std.proofs.Common.{◌≡◌, ◌≢◌, ◌≤◌, ◌<◌, ◌+◌, ◌⊎◌, ℕ, zero, suc, List, [], ◌∷◌, Option, Some, None, length, take, get_or, refl, sym, ap, ◌∙◌, arith, inl, inr, subst}
 use Rattle.std.proofs.lemmas.Bool.{cases_eq}
 use Rattle.std.proofs.Math.Seq.{take-length}
@@ -28,11 +28,11 @@ use Rattle.model_tree.specs.Trees.Tree.{Tree, Node, names_of, names_at, names_of
 use Rattle.model_tree.proofs.Trees.KeyedLaws.{at-with_same, at-with_other}
 use Rattle.directory.specs.declared.names.TheConstants.Names.{MAX_NAMES}
 
--- the tree after so many of the edits
+-- the tree after the first edits
 abbrev pub behind_front : Tree → List Edit → ℕ → Tree
 behind_front tree edits count = edited (edits_of (take count edits)) tree
 
--- the edit after a front can be measured, and makes the next tree
+-- the edit after a prefix can be measured, and makes the next tree
 pub record IsNext (tree : Tree) (edits : List Edit) (count : ℕ) (edit : Edit) : Type 0 where
   pub can : CanMeasure (behind_front tree edits count) edit
   pub next : behind_front tree edits (suc count) ≡ done (edit_of edit) (behind_front tree edits count)
@@ -66,11 +66,11 @@ pub below_more : (most more : ℕ) (size : Option Size) → most ≤ more → Is
 below_more most more None low below = tt
 below_more most more (Some size) low below = omega (arith, low, below)
 
--- all of them are the last front
+-- all of them are the last prefix
 pub behind_all : (tree : Tree) (edits : List Edit) (count : ℕ) → count ≡ length edits → behind_front tree edits count ≡ edited (edits_of edits) tree
 behind_all tree edits count all = ap (behind_front tree edits) all ∙ ap (λ (front : List Edit). edited (edits_of front) tree) (take-length edits)
 
--- One edit more
+-- One more edit
 
 module _ (tree : Tree) (edits : List Edit) (can : AreMeasurable tree edits) (rising : IsRising tree) (count : ℕ) (edit : Edit) (within : count < length edits) (is : edit ≡ get_or edits count edit) where
   front : Tree
@@ -118,7 +118,7 @@ module _ (tree : Tree) (edits : List Edit) (can : AreMeasurable tree edits) (ris
       ap nodes_in (now ∙ ap (resized_by edit) before_is),
     )
 
--- where a number is that of one of the edits
+-- the number is that of one of the edits
 pub record IsTouched (edits : List Edit) (number : ℕ) : Type 0 where
   pub place : ℕ
   pub within : place < length edits
@@ -137,7 +137,7 @@ touched tree (edit ∷ edits) number can rising =
     by_first (inr stays) (inl same) = inl (record { place = 0; within = omega arith; edit = edit; same = sym same })
     by_first (inr stays) (inr off) = (let it = behind tree edit can.0 rising in inr (stays ∙ it.one.other number off))
 
--- so each directory has few names where those have that an edit changes
+-- so each directory has few names if those that an edit changes do
 pub few_numbers : (tree : Tree) (edits : List Edit) (most : ℕ) → AreMeasurable tree edits → IsRising tree → ((number : ℕ) → length (names_at tree number) ≤ most)
     → ((place : ℕ) (edit : Edit) → place < length edits → length (names_at (edited (edits_of edits) tree) (edited_number (get_or edits place edit))) ≤ most)
     → (number : ℕ) → length (names_at (edited (edits_of edits) tree) number) ≤ most
@@ -167,7 +167,7 @@ module _ (nodes : ℕ) (mark : ℕ → ℕ) (cards : List (Option CachedNode)) (
       → size_at (tree_without_data cards) number ≡ None
   size_nowhere number has_not = ap size_there (no_number cards number has_not)
 
--- what holds of the node of each cached node holds of each node
+-- what holds for the node of each cached node holds for each node
 each_node : (P : Node → Type 0) (cards : List (Option CachedNode)) → ((place : ℕ) (card : CachedNode) → get_or cards place None ≡ Some card → P (node_of (λ n. []) card))
     → (number : ℕ) (node : Node) → at number (tree_without_data cards) ≡ Some node → P node
 each_node P [] each number node is = absurd cc
@@ -183,7 +183,7 @@ each_node P (Some card ∷ cards) each number node is =
         ∙ ap (λ (n : ℕ). at n (with (tree_without_data cards) card.fields.number (node_of (λ n. []) card))) (sym same) ∙ is)) (each 0 card refl)
     by_number others (inr off) = others (sym (at-with_other (tree_without_data cards) card.fields.number number (node_of (λ n. []) card) off) ∙ is)
 
--- a directory's names rise, and are MAX_NAMES at most
+-- a directory's names rise, and are at most MAX_NAMES
 record HasFewNames (node : Node) : Type 0 where
   rising : Rises (names_of node.content)
   few : length (names_of node.content) ≤ MAX_NAMES

@@ -1,4 +1,4 @@
--- Maps whose keys rise, of which the first may be 0.
+-- Maps whose keys rise, and whose first key may be 0.
 use Rattle.std.proofs.Common.{◌≡◌, ◌≢◌, ◌≤◌, ◌+◌, ℕ, [], ◌∷◌, None, length, refl, sym, ap, arith, inl, inr, eq-eqb, ne_eqb, lt-ltb, le-ltb, subst}
 use Rattle.std.proofs.lemmas.Bool.{cases_order, cases_eq}
 use Rattle.model_tree.specs.Trees.Keyed.{Keyed, at, with, without, total, worth_at, IsAbove}
@@ -13,7 +13,7 @@ pub rises_above : {A : Type 0} (entries : Keyed A) (least : ℕ) → IsAbove lea
 rises_above [] least above = tt
 rises_above (entry ∷ rest) least above = above.1
 
--- A change keeps the order, and adds the value's worth and takes away what stood there
+-- A change keeps the order, adds the value's worth and takes away that of the former value
 
 pub rises_with : {A : Type 0} (entries : Keyed A) (key : ℕ) (value : A) → Rises entries → Rises (with entries key value)
 rises_with [] key value rises = tt

@@ -1,4 +1,4 @@
--- Edits one after the other.
+-- Consecutive edits.
 use Rattle.std.proofs.Common.{◌≡◌, ◌≤◌, ◌<◌, ◌+◌, ℕ, zero, suc, List, [], ◌∷◌, Some, length, drop, get_or, take, refl, sym, ap, ◌∙◌, arith, inl, inr, ⊎_elim}
 use Rattle.std.specs.List.{IsAmong}
 use Rattle.std.proofs.lemmas.List.{drop_more}
@@ -48,7 +48,7 @@ made_later (declared.DropName directory stamp name) edits number among = among
 made_later (declared.PutBytes file offset bytes) edits number among = among
 made_later (declared.SetSize file size) edits number among = among
 
--- What is charged does not depend on what stands in files
+-- What is charged does not depend on the bytes of files
 
 same_charge : (tree other : Tree) (edits : List model.Edit) → without_data other ≡ without_data tree → total charge (edited edits other) ≡ total charge (edited edits tree)
 same_charge tree other edits alike =
@@ -69,7 +69,7 @@ same_length tree other edits alike =
 pub next_edit : (edits : List Edit) (i : ℕ) (edit : Edit) → i < length edits → edit ≡ get_or edits i edit → drop i edits ≡ edit ∷ drop (i + 1) edits
 next_edit edits i edit within is = drop_more edits i edit within ∙ ap (λ (one : Edit). one ∷ drop (i + 1) edits) (sym is)
 
--- Edits that were done, and none
+-- Edits that were performed, and none
 
 pub does_nothing : (word : Type 0) (base : Image) (size : ℕ) (transaction : Transaction) → IsKnown transaction → DoesEdits word base size transaction transaction []
 does_nothing word base size transaction known = record {
@@ -81,7 +81,7 @@ does_nothing word base size transaction known = record {
   count = omega arith;
 }
 
--- what they make of a transaction, but for how many updates
+-- their effects on a transaction, except the number of updates
 
 pub record Leads (word : Type 0) (base : Image) (size : ℕ) (old new : Transaction) (edits : List Edit) : Type 0 where
   pub known : StaysKnown old new
@@ -102,7 +102,7 @@ anywhere word base size old new edit does =
     record { known = it.known; outline = it.outline; forms = it.forms; made = it.made; tree = λ k. it.tree tt; count = it.count }
 
 module _ (word : Type 0) (base : Image) (size : ℕ) (old mid : Transaction) (edit : Edit) (first : Leads word base size old mid (edit ∷ [])) where
-  -- what memory tells of the tree in between
+  -- what memory knows of the tree in between
   alike : without_data (tree_without_data (cards_of mid)) ≡ without_data (done (edit_of edit) (tree_without_data (cards_of old)))
   alike = outline_fixed (cards_of mid) ∙ first.outline
 

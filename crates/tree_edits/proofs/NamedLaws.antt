@@ -24,7 +24,7 @@ use Rattle.model_tree.specs.Trees.Keyed.{at, here_or, with, without}
 use Rattle.model_tree.proofs.Trees.KeyedLaws.{at-with_same}
 use Rattle.model_tree.specs.Trees.Tree.{Tree, Node, DirEntry, entry_of, names_at, names_of, found_or}
 
--- a name that is not among records stands after the last
+-- a name that is not among records comes after the last
 pub place_behind : (name : List ℕ) (names : List Record) → entry_of name names ≡ None → place_of name names ≡ length names
 place_behind name [] none = refl
 place_behind name (entry ∷ names) none = by_name (place_behind name names) (bytes_eq name entry.1.name) none
@@ -34,7 +34,7 @@ place_behind name (entry ∷ names) none = by_name (place_behind name names) (by
     by_name rest true found = absurd cc
     by_name rest false found = omega (arith, rest found)
 
--- and one that is among them before
+-- and one that is among them, before
 pub place_before : (name : List ℕ) (names : List Record) (found : Record) → entry_of name names ≡ Some found → place_of name names < length names
 place_before name [] found some = absurd cc
 place_before name (entry ∷ names) found some = by_name (place_before name names found) (bytes_eq name entry.1.name) some
@@ -75,7 +75,7 @@ module _ (nodes : ℕ) (mark : ℕ → ℕ) (cards : List (Option CachedNode)) (
   pub stamp_is : (stamp : ℕ) → at stamp (names_at (tree_without_data cards) number) ≡ at stamp it.cached.names
   stamp_is stamp = ap (at stamp) names_are ∙ at-by_stamp stamp it.cached.names
 
-  -- what a new name asks
+  -- what a new name requires
   module _ (stamp : ℕ) (name : List ℕ) (to : ℕ) (new : IsNewName (tree_without_data cards) number stamp (record { name = name; number = to })) where
     unnamed : entry_of name it.cached.names ≡ None
     unnamed = sym (entry_is name) ∙ new.new_name
@@ -83,7 +83,7 @@ module _ (nodes : ℕ) (mark : ℕ → ℕ) (cards : List (Option CachedNode)) (
     unstamped : at stamp it.cached.names ≡ None
     unstamped = sym (stamp_is stamp) ∙ new.new_stamp
 
-    -- there is room for it where few names stand after it
+    -- there is room for it if there are few names after it
     pub room_there : IsTrue (few_names MAX_NAMES (altered (name_put stamp (record { name = name; number = to })) (tree_without_data cards) number)) → length it.cached.names < MAX_NAMES
     unfolding node_of
     room_there few =
@@ -115,7 +115,7 @@ module _ (nodes : ℕ) (mark : ℕ → ℕ) (cards : List (Option CachedNode)) (
         let puts = puts_by_stamp it.cached.names (record_from stamp name to) has_names.names.apart has_names.stamped new.above unstamped in
         puts.entries ∙ ap (λ (found : Option Record). with (without_entry (by_stamp it.cached.names) found) stamp (record { name = name; number = to })) unnamed
 
-    -- with which the directory is charged for as many blocks as one name more wants
+    -- with which the directory is charged for the blocks that it needs with one more name
     pub named_charge : charge (name_put stamp (record { name = name; number = to }) (node_of (λ n. []) it.cached)) ≡ charge_of_blocks (blocks_named it.cached)
     unfolding node_of
     named_charge = ap (λ (k : NodeKind). charge_of_blocks (blocks_of kind.Directory (length (with (names_of (content_of (λ n. []) k it.cached)) stamp (record { name = name; number = to }))))) is
@@ -123,7 +123,7 @@ module _ (nodes : ℕ) (mark : ℕ → ℕ) (cards : List (Option CachedNode)) (
         (length-with (by_stamp it.cached.names) stamp 0 (record { name = name; number = to }) (above_by_stamp it.cached.names has_names.stamped) (at-by_stamp stamp it.cached.names ∙ unstamped)
         ∙ omega (arith, length-by_stamp it.cached.names has_names.stamped))
 
-  -- what a name that goes asks
+  -- what a name that is removed requires
   module _ (stamp : ℕ) (name : List ℕ)
       (named : IsName (tree_without_data cards) number stamp name) where
     pub entry_there : entry_of name it.cached.names ≡ Some (record_from stamp name named.number)

@@ -1,4 +1,4 @@
--- What a transaction that was begun, edited and finished comes to.
+-- The result of a transaction that was begun, edited and finished.
 use Rattle.std.proofs.Common.{◌≡◌, ◌≤◌, ◌+◌, ℕ, Bool, List, [], Option, length, sym, ap, ap₂, ◌∙◌, arith, subst}
 use Rattle.disk.specs.Moments.{Image, applied}
 use Rattle.disk.specs.declared.update.Update.{Update}
@@ -23,7 +23,7 @@ use Rattle.layout.specs.Stands.{current_version, HaveCurrentForms, IsLaid}
 use Rattle.model_tree.specs.Seats.Seats.{Seats}
 use Rattle.model_tree.specs.Trees.Edit.{edited}
 
--- a transaction that has changed nothing of a table and its places
+-- a transaction that has not yet changed a table and its places
 pub record IsBegun (transaction : Transaction) (table : List (Option CachedNode))
     (places : List Bool) : Type 0 where
   pub no_updates : transaction.updates ≡ []
@@ -31,7 +31,7 @@ pub record IsBegun (transaction : Transaction) (table : List (Option CachedNode)
   pub places_are : transaction.places ≡ places
   pub cards_are : cards_of transaction ≡ table
 
--- cached nodes that are laid are so under each other set of marks that is what they name
+-- cached nodes that are laid are laid under any other set of marks that is what they name
 laid_by : (nodes : ℕ) (image : Image) (mark marked : ℕ → ℕ) (cards : List (Option CachedNode)) → AreLaid nodes image mark cards → AreCards nodes marked cards → AreLaid nodes image marked cards
 laid_by nodes image mark marked cards laid known = record {
   count = laid.count;

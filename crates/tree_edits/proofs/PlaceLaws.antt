@@ -1,4 +1,4 @@
--- The cached node at a place, and what the outline of a transaction has of it.
+-- The cached node at a place, and what the outline of a transaction shows of it.
 use Rattle.std.proofs.Common.{zero, suc, ⊎_elim, ◌≡◌, ◌<◌, ◌⊎◌, ℕ, List, [], ◌∷◌, Option, Some, None, length, get_or, set, refl, sym, ap, ◌∙◌, inl, inr, subst}
 use Rattle.std.proofs.lemmas.Bool.{cases_eq}
 use Rattle.std.proofs.lemmas.List.{get_or-set_same, get_or-set_other}
@@ -23,7 +23,7 @@ use Rattle.tree_transaction.proofs.KnownLaws.{place-within, card_at}
 use Rattle.tree_edits.specs.Doing.{AreMade}
 use Rattle.tree_edits.specs.Outlines.{tree_without_data}
 
--- the cached node of a number that stands at a place
+-- the cached node with a number that is at a place
 pub record IsThere (cards : List (Option CachedNode)) (place number : ℕ) : Type 0 where
   pub cached : CachedNode
   pub there : get_or cards place None ≡ Some cached
@@ -57,7 +57,7 @@ module _ (cards : List (Option CachedNode)) (apart : AreNumbered cards) where
   there_is place number it =
       ap (λ (n : ℕ). at n (tree_without_data cards)) (sym it.number_is) ∙ tree-has (λ n. []) cards place it.cached apart it.there
 
-  -- the other way round
+  -- and conversely
   pub not_there : (number : ℕ) → at number (tree_without_data cards) ≡ None → HasNoNode cards number
   not_there number fresh place is = let it = there_at cards place number is in none_some (there_is place number it) fresh
     where

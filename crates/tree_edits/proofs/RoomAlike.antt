@@ -1,4 +1,5 @@
--- What fits is told by how much each node has. So edits that change that alike leave as much room, and which number a new node and its name get does not matter.
+-- The size of each node decides what fits. So edits that change sizes alike leave the same room,
+-- and which number a new node and its name get does not matter.
 use Rattle.std.proofs.Common.{◌≡◌, ◌≢◌, ◌+◌, ◌&&◌, ◌⊎◌, ℕ, Bool, true, false, List, [], ◌∷◌, Option, Some, None, length, not, refl, sym, ap, ap₂, ◌∙◌, arith, inl, inr, zero-add}
 use Rattle.std.proofs.lemmas.Bool.{cases_eq, lt-leb}
 use Rattle.std.specs.Prelude.{nat_le, option_map, IsTrue}
@@ -20,9 +21,9 @@ use Rattle.model_tree.specs.Trees.WellFormed.{one_if}
 use Rattle.model_tree.proofs.Trees.KeyedLaws.{at-with_same}
 use Rattle.model_tree.proofs.Trees.KeyedParts.{total-ones}
 
--- Trees whose nodes have as much
+-- Trees whose nodes have the same sizes
 
--- a node is worth by what it has
+-- the worth of a node depends only on its size
 abbrev pub IsBySize : (Node → ℕ) → Type 0
 IsBySize worth = (one two : Node) → size_of_content one.content ≡ size_of_content two.content → worth one ≡ worth two
 
@@ -65,7 +66,7 @@ worth_there worth is (Some one) (Some two) same = is one two (inside same)
     inside : {x y : Size} → (let some : Option Size = Some x in some ≡ Some y) → x ≡ y
     inside e = cc
 
--- Edits that change it alike
+-- Edits that change sizes alike
 
 pub record IsAlikeEdit (edit other : Edit) : Type 0 where
   pub number : edited_number edit ≡ edited_number other
@@ -128,7 +129,7 @@ pub same_room : (limits : Limits) (tree : Tree) (edits others : List Edit) → A
 same_room limits tree edits others is can could rising =
     room_from limits tree tree edits others is can could rising rising (record { sizes = λ number. refl; sums = λ worth by. refl })
 
--- A new node and its name in a directory, of any numbers that are not there
+-- A new node and its name in a directory, with any numbers that are not there
 
 pub record AreNew (tree : Tree) (directory number stamp : ℕ) : Type 0 where
   pub fresh : at number tree ≡ None
@@ -175,7 +176,7 @@ module _ (tree : Tree) (rising : IsRising tree) (directory : ℕ) (there : IsTru
       ap (worth_at worth) was,
     )
 
-  -- they take the same room whatever these are
+  -- they take the same room, whatever the numbers are
   pub made_room : (limits : Limits) (number stamp other another : ℕ) (node same : Node) (entry put : DirEntry) → AreNew tree directory number stamp → AreNew tree directory other another
       → size_of_content node.content ≡ size_of_content same.content → fits limits (made tree directory number stamp node entry) ≡ fits limits (made tree directory other another same put)
   made_room limits number stamp other another node same entry put new newer sized =
@@ -189,6 +190,6 @@ module _ (tree : Tree) (rising : IsRising tree) (directory : ℕ) (there : IsTru
         worth_there worth by (at directory these) (at directory those) (size_grown number stamp node entry new ∙ sym (size_grown other another same put newer)),
       ))
 
--- a file has as much as another one of as many bytes
+-- files with the same number of bytes have the same size
 pub same_length : (bytes others : List ℕ) → length bytes ≡ length others → size_of_content (File bytes) ≡ size_of_content (File others)
 same_length bytes others same = ap (λ (n : ℕ). let size : Size = record { kind = kind.File; count = n } in size) same

@@ -45,7 +45,7 @@ module _ (nodes : ℕ) (mark : ℕ → ℕ) (cards : List (Option CachedNode)) (
   pub count_all : length (tree_without_data cards) ≡ count_of_all cards
   count_all = sums.nodes
 
-  -- a node is another one
+  -- a node is altered
   pub charge_altered : (place number : ℕ) (it : IsThere cards place number) (alter : Node → Node)
       → total charge (altered alter (tree_without_data cards) number) + charge_of it.cached ≡ charge_of_all cards + charge (alter (node_of (λ n. []) it.cached))
   charge_altered place number it alter =
@@ -61,7 +61,7 @@ module _ (nodes : ℕ) (mark : ℕ → ℕ) (cards : List (Option CachedNode)) (
         charge_all,
       )
 
--- a node that would be charged for so many blocks leaves no room
+-- a node that would be charged for `blocks` blocks leaves no room
 pub no_room : (transaction : Transaction) (known : IsKnown transaction) (place number : ℕ) (it : IsThere (cards_of transaction) place number) (alter : Node → Node) (blocks : CachedNode → ℕ)
     → IsOvercharged transaction place blocks → charge (alter (node_of (λ n. []) it.cached)) ≡ charge_of_blocks (blocks it.cached)
     → FitsOn (length transaction.places) transaction.nodes (altered alter (tree_without_data (cards_of transaction)) number) → ⊥
@@ -71,7 +71,7 @@ no_room transaction known place number it alter blocks over charged room =
     let fits = room.charge in
     omega (arith, sum, more, fits, charged)
 
--- and where no place is free there is room for no node more
+-- and if no place is free, there is no room for another node
 
 taken_count : (cards : List (Option CachedNode)) → AreTaken cards
     → count_of_all cards ≡ length cards

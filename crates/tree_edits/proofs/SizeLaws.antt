@@ -1,4 +1,4 @@
--- What a node has after an edit that changes it, and what stays.
+-- The size of a node after an edit that changes it, and what stays.
 use Rattle.std.proofs.Common.{◌≡◌, ◌≢◌, ◌+◌, ◌-◌, ◌⊎◌, ℕ, Option, Some, None, length, refl, sym, ap, ◌∙◌, arith, inl, inr, subst}
 use Rattle.std.proofs.lemmas.Bool.{cases_eq}
 use Rattle.std.specs.Prelude.{option_map, IsTrue, IsFalse}
@@ -22,7 +22,7 @@ use Rattle.model_tree.proofs.Trees.KeyedLaws.{at-with_same, at-without_same}
 use Rattle.model_tree.proofs.Trees.NodeChangeLaws.{length-resized}
 use Rattle.model_tree.proofs.Trees.KeyedParts.{total-ones}
 
--- What a size tells of a node
+-- What a size says about a node
 
 pub charge_there : (found : Option Node) → worth_at charge found ≡ charge_of_size (size_there found)
 charge_there None = refl
@@ -44,12 +44,12 @@ names_there (Some node) = by_content node.content
     by_content (File bytes) = refl
     by_content (Directory names) = refl
 
--- The numbers of a tree rise, and the stamps of each directory
+-- The numbers of a tree rise, and so do the stamps of each directory
 pub record IsRising (tree : Tree) : Type 0 where
   pub rises : Rises tree
   pub names : (number : ℕ) → Rises (names_at tree number)
 
--- An edit changes one node, as it is told by what that node had
+-- An edit changes one node, as the size of that node determines
 pub record Behind (tree : Tree) (edit : Edit) : Type 0 where
   pub one : ChangesOne (edited_number edit) tree (done (edit_of edit) tree)
   pub size : size_at (done (edit_of edit) tree) (edited_number edit) ≡ resized_by edit (size_at tree (edited_number edit))
@@ -69,7 +69,7 @@ directory_of count = Some (record { kind = kind.Directory; count = count })
 abbrev file_of : ℕ → Option Size
 file_of count = Some (record { kind = kind.File; count = count })
 
--- a name is gone from a node's
+-- a name is removed from a node's
 name_less : (names : Keyed DirEntry) (stamp : ℕ) → Rises names → worth_at (λ (entry : DirEntry). 1) (at stamp names) ≡ 1 → length (without names stamp) ≡ length names - 1
 name_less names stamp rising once =
     let one : DirEntry → ℕ = λ entry. 1 in

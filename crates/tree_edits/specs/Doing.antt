@@ -1,4 +1,4 @@
--- What edits make of a transaction.
+-- The effects of edits on a transaction.
 use Rattle.std.specs.Prelude.{◌≡◌, ◌≤◌, ◌+◌, ◌/◌, ◌%◌, ◌⊎◌, ℕ, ⊤, List, [], ◌∷◌, Option, Some}
 use Rattle.std.specs.Prelude.{length, take}
 use Rattle.std.specs.List.{IsAmong}
@@ -29,12 +29,12 @@ made_by (declared.DropName directory stamp name ∷ edits) = made_by edits
 made_by (declared.PutBytes file offset bytes ∷ edits) = made_by edits
 made_by (declared.SetSize file size ∷ edits) = made_by edits
 
--- each node stands where one of its number stood, or has one of these numbers
+-- each node is at a place that had its number before, or has one of these numbers
 abbrev pub AreMade : (old new : List (Option CachedNode)) → (numbers : List ℕ) → Type 0
 AreMade old new numbers = (place number : ℕ) → node_number_at new place ≡ Some number
     → (node_number_at old place ≡ Some number) ⊎ IsAmong numbers number
 
--- how many updates edits come to at most
+-- how many updates edits make at most
 abbrev pub updates_of : Edit → ℕ
 updates_of (declared.PutNode number kind shown) = 1
 updates_of (declared.DropNode number) = 1
@@ -49,8 +49,8 @@ abbrev pub updates_of_all : List Edit → ℕ
 updates_of_all [] = 0
 updates_of_all (edit ∷ edits) = updates_of edit + updates_of_all edits
 
--- Edits are done: what is known of the transaction stays known, on any device, and its outline is
--- the one of the tree with the edits; where the sectors keep their word the transaction's tree is
+-- Edits are performed: what is known of the transaction stays known, on any device, and its outline
+-- is that of the tree with the edits; if the sectors keep their word, the transaction's tree is
 -- that tree.
 pub record DoesEdits (word : Type 0) (base : Image) (size : ℕ) (old new : Transaction)
     (edits : List Edit)
@@ -64,7 +64,7 @@ pub record DoesEdits (word : Type 0) (base : Image) (size : ℕ) (old new : Tran
       × (changed_tree base new ≡ edited (edits_of edits) (changed_tree base old))
   pub count : length new.updates ≤ length old.updates + updates_of_all edits
 
--- Edits can be done one after the other, over so many sectors.
+-- Edits can be performed in order, over `size` sectors.
 pub record CanDoAll (size : ℕ) (transaction : Transaction) (edits : List Edit) : Type 0 where
   pub known : IsKnown transaction
   pub within : end_of transaction ≤ size
@@ -72,23 +72,23 @@ pub record CanDoAll (size : ℕ) (transaction : Transaction) (edits : List Edit)
   pub can : AreDoable (tree_without_data (cards_of transaction)) edits
   pub few : StayFew (tree_without_data (cards_of transaction)) edits
 
--- such edits are done
+-- such edits are performed
 pub record DoesAll (word : Type 0) (base : Image) (size : ℕ) (old new : Transaction)
     (edits : List Edit)
     : Type 0 where
   pub does : DoesEdits word base size old new edits
   pub parts : PartsAreBytes edits
 
--- what reads nothing does its edit over any base
+-- an edit that reads nothing is performed over any base
 abbrev pub DoesAnywhere : (old new : Transaction) → Edit → Type 0
 DoesAnywhere old new edit = (base : Image) (size : ℕ) → DoesEdits ⊤ base size old new (edit ∷ [])
 
--- the charges come to so many sectors at most, and the nodes to so many places
+-- the charges are at most `sectors`, and the nodes at most `places`
 pub record FitsOn (sectors places : ℕ) (tree : Tree) : Type 0 where
   pub charge : total charge tree ≤ sectors
   pub nodes : length tree ≤ places
 
--- for the tree after so many of the edits there is no room
+-- there is no room for the tree after the first `count` edits
 pub record Overfills (transaction : Transaction) (edits : List Edit) : Type 0 where
   pub count : ℕ
   pub within : count ≤ length edits

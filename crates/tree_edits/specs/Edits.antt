@@ -17,7 +17,7 @@ use Rattle.model_tree.specs.Trees.Keyed.{at, is_key}
 use Rattle.model_tree.specs.Trees.Tree.{Tree, Node, DirEntry, bytes_of, entry_of, names_at, is_directory_at}
 use Rattle.directory.specs.declared.names.TheConstants.Names.{MAX_NAMES}
 
--- An edit of the code as the definition's
+-- An edit of the code as one of the definition
 
 abbrev pub fresh_node : NodeKind → Shown → Node
 fresh_node of shown = record {
@@ -57,9 +57,9 @@ abbrev pub edits_of : List Edit → List model.Edit
 edits_of [] = []
 edits_of (edit ∷ edits) = edit_of edit ∷ edits_of edits
 
--- What each asks of the tree before it
+-- What each requires of the tree before it
 
--- entries that have an encoding, 72 at most
+-- at most 72 entries, each of which can be encoded
 pub record AreEntries (acl : List Ace) : Type 0 where
   pub few : length acl ≤ 72
   pub each : AllByRecursion IsAce acl
@@ -94,7 +94,7 @@ abbrev pub size_of : Option Node → ℕ
 size_of None = 0
 size_of (Some node) = length (bytes_of node.content)
 
--- a file that ends at 16,777,216 bytes at most is to end there at most
+-- a file of at most 16,777,216 bytes, and an end that is no larger
 pub record IsFileTo (tree : Tree) (file end : ℕ) : Type 0 where
   pub there : IsTrue (is_key file tree)
   pub is_file : IsFalse (is_directory_at tree file)
@@ -112,7 +112,7 @@ CanDo tree (declared.DropName directory stamp name) = IsName tree directory stam
 CanDo tree (declared.PutBytes file offset bytes) = IsFileTo tree file (offset + length bytes.now)
 CanDo tree (declared.SetSize file size) = IsFileTo tree file size
 
--- each of them, in the tree that those before it give
+-- each of them, in the tree after those before it
 abbrev pub AreDoable : Tree → List Edit → Type 0
 AreDoable tree [] = Unit {0}
 AreDoable tree (edit ∷ edits) = CanDo tree edit × AreDoable (done (edit_of edit) tree) edits
@@ -123,8 +123,8 @@ StayFew tree [] = Unit {0}
 StayFew tree (edit ∷ edits) = IsTrue (few_names MAX_NAMES (done (edit_of edit) tree))
     × StayFew (done (edit_of edit) tree) edits
 
--- what can be done to a tree can be done to each other one that is blanked alike, and as few names
--- stand after it
+-- what can be done to a tree can be done to any other with the same outline, and if directories
+-- stay within MAX_NAMES names in the one, they do in the other
 abbrev pub DoableAlike : Type 0
 DoableAlike = (tree other : Tree) (edits : List Edit) → without_data other ≡ without_data tree
     → AreDoable tree edits → AreDoable other edits

@@ -1,4 +1,4 @@
--- What edits of a volume come to, as one transaction.
+-- The result of edits of a volume, as one transaction.
 use Rattle.std.specs.Prelude.{◌≡◌, ◌≤◌, ◌+◌, ℕ, Bool, List, Option, length, take}
 use Rattle.disk.specs.Moments.{Image, applied}
 use Rattle.node_table.specs.Overlays.{overlaid}
@@ -17,8 +17,8 @@ use Rattle.model_tree.specs.Trees.Edit.{edited}
 use Rattle.model_tree.specs.Seats.Seats.{Seats}
 use Rattle.model_tree.specs.Trees.Tree.{Tree}
 
--- the cached nodes of a whole volume, and the places of its data region, used as the cached nodes
--- name them
+-- the cached nodes of a whole volume, and the places of its data region, of which those are used
+-- that the cached nodes name
 pub record IsWholeVolume (size : ℕ) (table : List (Option CachedNode)) (places : List Bool)
     : Type 0 where
   pub cards : AreCards (length table) (mark_by (148 + length table) places) table
@@ -26,16 +26,16 @@ pub record IsWholeVolume (size : ℕ) (table : List (Option CachedNode)) (places
   pub size_is : size ≡ 148 + length table + length places
   pub few : size ≤ 65536
 
--- the tree after each front of edits has room
+-- the tree after each prefix of the edits has room
 abbrev pub FrontsHaveRoom : (sectors places : ℕ) → Tree → List Edit → Type 0
 FrontsHaveRoom sectors places tree edits = (count : ℕ) → count ≤ length edits
     → FitsOn sectors places (edited (take count (edits_of edits)) tree)
 
--- the cached nodes that an outcome makes of a table's
+-- what the cached nodes of a table are after an outcome
 abbrev pub cards_after : List (Option CachedNode) → PreparedTransaction → List (Option CachedNode)
 cards_after table outcome = overlaid table outcome.changes
 
--- the sectors hold the outcome's cached nodes and marks, and show the tree with the edits; the
+-- the sectors hold the outcome's cached nodes and marks, and represent the tree with the edits; the
 -- seats stay
 pub record LaysEditedTree (seats : Seats) (base : Image) (size : ℕ)
     (table : List (Option CachedNode))
@@ -45,17 +45,17 @@ pub record LaysEditedTree (seats : Seats) (base : Image) (size : ℕ)
   pub tree_is : tree_of (applied outcome.updates.items base) (cards_after table outcome)
       ≡ edited (edits_of edits) (tree_of base table)
 
--- What edits come to, of a volume of so many sectors
+-- The result of edits, for a volume of `size` sectors
 pub record ComesTo (word : Type 0) (base : Image) (size : ℕ) (table : List (Option CachedNode))
     (places : List Bool) (edits : List Edit) (outcome : PreparedTransaction) : Type 0 where
-  -- its places are used as its cached nodes name them, and are as many
+  -- of its places those are used that its cached nodes name, and it has as many as before
   pub cards : AreCards (length table) (mark_by (148 + length table) outcome.places)
       (cards_after table outcome)
   pub as_many : length outcome.places ≡ length places
   -- on any device the outline is that of the tree with the edits
   pub outline : tree_without_data (cards_after table outcome)
       ≡ without_data (edited (edits_of edits) (tree_without_data table))
-  -- each cached node keeps its form, and the edits' numbers alone are new
+  -- each cached node keeps its form, and only the edits' numbers are new
   pub forms : HaveCurrentForms (cards_after table outcome)
   pub made : AreMade table (cards_after table outcome) (made_by edits)
   -- the updates are those of a transaction, and few
@@ -63,6 +63,6 @@ pub record ComesTo (word : Type 0) (base : Image) (size : ℕ) (table : List (Op
   pub count : length outcome.updates.items ≤ updates_of_all edits + 2
   -- what the edits put are bytes
   pub bytes : PartsAreBytes edits
-  -- where the sectors keep their word and held the volume, the updates leave one
+  -- if the sectors keep their word and held the volume, they hold one after the updates
   pub lays : word → (seats : Seats) → IsLaid (current_version seats) size (length table) base table
       → LaysEditedTree seats base size table edits outcome

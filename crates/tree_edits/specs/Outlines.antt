@@ -1,4 +1,5 @@
--- What memory tells of a tree on any device: all but what the bytes of its files are.
+-- What memory knows of a tree on any device, its outline: everything except what the bytes of its
+-- files are.
 use Rattle.std.specs.Prelude.{◌≡◌, ℕ, List, [], ◌∷◌, Option, length, replicate}
 use Rattle.disk.specs.Moments.{Image}
 use Rattle.model_tree.specs.Trees.Edit.{Edit, edited, with_content}
@@ -8,7 +9,7 @@ use Rattle.layout.specs.CachedNodes.{CachedNode, tree_of}
 abbrev pub zeros : ℕ → List ℕ
 zeros count = replicate count 0
 
--- as many zeros for the bytes of a file
+-- a zero for each byte of a file
 abbrev pub blank : Content → Content
 blank (File bytes) = File (zeros (length bytes))
 blank (Directory names) = Directory names
@@ -25,12 +26,12 @@ without_data (entry ∷ rest) = (entry.0, blank_node entry.1) ∷ without_data r
 abbrev pub tree_without_data : List (Option CachedNode) → Tree
 tree_without_data cards = tree_of (λ n. []) cards
 
--- which is what every tree of these cached nodes is, blanked
+-- which every tree of these cached nodes is, with zeros for the bytes of its files
 abbrev pub EachOutline : Type 0
 EachOutline = (image : Image) (cards : List (Option CachedNode))
     → without_data (tree_of image cards) ≡ tree_without_data cards
 
--- blanked trees are edited alike
+-- trees with zeros are edited alike
 abbrev pub EditsBlanked : Type 0
 EditsBlanked = (edits : List Edit) (tree : Tree)
     → without_data (edited edits (without_data tree)) ≡ without_data (edited edits tree)

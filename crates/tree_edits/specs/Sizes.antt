@@ -1,4 +1,4 @@
--- How many bytes or names a node has, and what edits make of it.
+-- How many bytes or names a node has, and the effects of edits on it.
 use Rattle.std.specs.Prelude.{◌≡◌, ◌<◌, ◌+◌, ◌-◌, max, ℕ, List, Option, Some, None, length}
 use Rattle.tree_edits.specs.declared.edit.Edit.{Edit}
 use Rattle.tree_edits.specs.declared.edit.Edit.TheVariants as declared
@@ -19,7 +19,7 @@ abbrev pub size_of_content : Content → Size
 size_of_content (File bytes) = record { kind = kind.File; count = length bytes }
 size_of_content (Directory names) = record { kind = kind.Directory; count = length names }
 
--- none where no node is there
+-- none if there is no node
 abbrev pub size_there : Option Node → Option Size
 size_there None = None
 size_there (Some node) = Some (size_of_content node.content)
@@ -27,9 +27,9 @@ size_there (Some node) = Some (size_of_content node.content)
 abbrev pub size_at : Tree → (number : ℕ) → Option Size
 size_at tree number = size_there (at number tree)
 
--- What it comes to
+-- What it takes
 
--- what a node is charged that has so much
+-- what a node of this size is charged
 abbrev pub charge_of_size : Option Size → ℕ
 charge_of_size None = 0
 charge_of_size (Some size) = charge_of_blocks (blocks_of size.kind size.count)
@@ -48,12 +48,12 @@ abbrev pub names_in : Option Size → ℕ
 names_in None = 0
 names_in (Some size) = names_by size.kind size.count
 
--- fewer bytes or names than so many
+-- fewer than `most` bytes or names
 abbrev pub IsBelow : (most : ℕ) → Option Size → Type 0
 IsBelow most None = Unit {0}
 IsBelow most (Some size) = size.count < most
 
--- What an edit makes of it
+-- The effect of an edit on it
 
 -- the number of the node that an edit changes
 abbrev pub edited_number : Edit → ℕ
@@ -83,7 +83,7 @@ resized_by (declared.SetSize file size) None = None
 resized_by (declared.SetSize file size) (Some was) =
     Some (record { kind = kind.File; count = size })
 
--- what fits does not depend on what stands in files
+-- what fits does not depend on the bytes of files
 abbrev pub FitsAlike : Type 0
 FitsAlike = (limits : Limits) (tree other : Tree) (edits : List model.Edit)
     → without_data other ≡ without_data tree

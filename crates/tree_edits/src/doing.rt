@@ -1,4 +1,4 @@
-//! Edits that are done on a transaction.
+//! Performing edits on a transaction.
 
 ghost use Rattle.std.specs.Prelude.{◌≡◌, ◌≤◌, ◌<◌, ◌+◌, [], ◌∷◌, Some, None, All, length, slice_index_or};
 ghost use Rattle.std.specs.Prelude.{IsTrue, IfOk, OnOk, IsErrOf};
@@ -223,7 +223,7 @@ fn set_size<S: Sectors>(
     Ok(())
 }
 
-/// Does an edit.
+/// Performs an edit.
 fn edit_one<S: Sectors>(
     transaction: &mut Transaction<'_>,
     base: &mut S,
@@ -276,14 +276,14 @@ fn edit_one<S: Sectors>(
     Ok(())
 }
 
-/// Does edits one after the other. Each must be one that can be done in the tree that those before
-/// it give, and after none of them may a directory have more than `Names::MAX_NAMES` names.
+/// Performs edits in order. Each must be one that can be done in the tree after those before it,
+/// and after none of them may a directory have more than `Names::MAX_NAMES` names.
 ///
 /// # Errors
 ///
-/// The transaction is to be dropped then. [`TransactionFault::Device`] where the device failed,
-/// [`TransactionFault::Memory`], and [`TransactionFault::Full`], only where the tree after one of
-/// the edits has no room.
+/// The transaction is then to be dropped. [`TransactionFault::Device`] if the device failed,
+/// [`TransactionFault::Memory`], and [`TransactionFault::Full`], only if there is no room for the
+/// tree after a prefix of the edits.
 pub(crate) fn edit_all<S: Sectors>(
     transaction: &mut Transaction<'_>,
     base: &mut S,

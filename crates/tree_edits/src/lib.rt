@@ -1,4 +1,4 @@
-//! Edits of a volume's tree, each of them done on its transaction.
+//! Edits of a volume's tree, each of which is performed on its transaction.
 #![tactic(auto)]
 
 mod doing;

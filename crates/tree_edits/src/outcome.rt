@@ -1,4 +1,4 @@
-//! What edits come to.
+//! The result of edits.
 
 ghost use Rattle.std.specs.Prelude.{◌≡◌, length, IfOk, IsErrOf};
 ghost use Rattle.tree_edits.specs.Edits.{AreDoable, StayFew};
@@ -14,13 +14,13 @@ use node_table::Table;
 use std::alloc::Global;
 use tree_transaction::{PreparedTransaction, Transaction, TransactionFault};
 
-/// What edits of a volume come to, as one transaction: its updates, marks included, and the places
-/// and cached nodes that memory is to keep then. The table and the places stay as they are. There
-/// must be room after each of the edits.
+/// The result of edits of a volume, as one transaction: its updates, marks included, and the places
+/// and cached nodes that memory is then to keep. The table and the places do not change. There must
+/// be room after each of the edits.
 ///
 /// # Errors
 ///
-/// [`TransactionFault::Device`] where the device failed, [`TransactionFault::Memory`], never
+/// [`TransactionFault::Device`] if the device failed, [`TransactionFault::Memory`], never
 /// [`TransactionFault::Full`].
 pub fn outcome_of<S: Sectors>(
     alloc: Global,
@@ -40,7 +40,7 @@ pub fn outcome_of<S: Sectors>(
     ensures full { ¬ IsErrOf result TransactionFault.Full }
     ensures health { FailsOrStays (S.health base.old) (S.health base.new)
         (IsErrOf result TransactionFault.Device) }
-    // In every answer
+    // In any case
     ensures kept { S.kept base.new ≡ S.kept base.old }
 {
     let mut transaction = Transaction::new(alloc, table, places)?;

@@ -35,7 +35,7 @@ struct Taken {
     nodes: u128,
 }
 
-/// What a node of the table has.
+/// The size of a node of the table.
 fn size_in(table: &Table, number: u64) -> Option<Size>
     requires { (nodes : ℕ) × (mark : ℕ → ℕ) × AreCards nodes mark table.now }
     ensures size { result ≡ size_at (tree_without_data table.now) number }
@@ -66,7 +66,7 @@ fn number_of(edit: &Edit<'_>) -> u64
     }
 }
 
-/// A directory of so many names.
+/// A directory of `count` names.
 fn directory(count: u128) -> Option<Size>
     ensures { result ≡ Some (record { kind = NodeKind.Directory; count = count }) }
 {
@@ -76,7 +76,7 @@ fn directory(count: u128) -> Option<Size>
     })
 }
 
-/// A file of so many bytes.
+/// A file of `count` bytes.
 fn file(count: u128) -> Option<Size>
     ensures { result ≡ Some (record { kind = NodeKind.File; count = count }) }
 {
@@ -86,7 +86,7 @@ fn file(count: u128) -> Option<Size>
     })
 }
 
-/// What the node that an edit changes has after it.
+/// The size, after an edit, of the node that the edit changes.
 fn resized(size: Option<Size>, edit: &Edit<'_>) -> Option<Size>
     requires { IsBelow (2 ^ 66) size }
     ensures size { result ≡ resized_by edit.now size }
@@ -111,7 +111,7 @@ fn resized(size: Option<Size>, edit: &Edit<'_>) -> Option<Size>
     }
 }
 
-/// What a node has in the tree after edits: each of them that changes it is gone through.
+/// The size of a node in the tree after edits. This applies each edit that changes it.
 fn size_after(table: &Table, edits: &[Edit<'_>], number: u64) -> Option<Size>
     requires cards { (nodes : ℕ) × (mark : ℕ → ℕ) × AreCards nodes mark table.now }
     requires can { AreMeasurable (tree_without_data table.now) edits.now }
@@ -128,7 +128,7 @@ fn size_after(table: &Table, edits: &[Edit<'_>], number: u64) -> Option<Size>
     size
 }
 
-/// What a node is charged that has so much.
+/// What a node of this size is charged.
 fn charge_of(size: Option<Size>) -> u128
     requires { IsBelow (2 ^ 66) size }
     ensures charge { result ≡ charge_of_size size }
@@ -168,7 +168,7 @@ fn names_in(size: Option<Size>) -> u128
     }
 }
 
-/// What the nodes of the tree after edits take: each edit changes what one of them does.
+/// What the nodes of the tree after edits take: each edit changes the share of one of them.
 fn taken_after(table: &Table, edits: &[Edit<'_>]) -> Taken
     requires cards { (nodes : ℕ) × (mark : ℕ → ℕ) × AreCards nodes mark table.now }
     requires can { AreMeasurable (tree_without_data table.now) edits.now }
@@ -188,8 +188,8 @@ fn taken_after(table: &Table, edits: &[Edit<'_>]) -> Taken
     Taken { charge, nodes }
 }
 
-/// Whether no directory has more names than so many after edits. Those that no edit changes have
-/// `Names::MAX_NAMES` at most.
+/// Whether no directory has more than `most` names after edits. Those that no edit changes have at
+/// most `Names::MAX_NAMES`.
 fn have_few_names(table: &Table, edits: &[Edit<'_>], most: usize) -> bool
     requires cards { (nodes : ℕ) × (mark : ℕ → ℕ) × AreCards nodes mark table.now }
     requires can { AreMeasurable (tree_without_data table.now) edits.now }
@@ -205,11 +205,11 @@ fn have_few_names(table: &Table, edits: &[Edit<'_>], most: usize) -> bool
     true
 }
 
-/// Whether the tree after edits has room: its charges come to the data region at most, its nodes
-/// to their limit, and no directory has too many names. Each edit must be one whose room can be told
-/// in the tree that those before it give; a new node may have the number 0 there, and a new name the
-/// stamp 0. Takes no memory, and steps as the square of the edits, of which there are few, with two
-/// searches by number for each of them.
+/// Whether the tree after edits fits: its charges are at most the data region, its nodes at most
+/// their limit, and no directory has too many names. It must be possible to measure each edit in
+/// the tree after those before it; there a new node may have the number 0, and a new name the stamp
+/// 0. This needs no memory, and a number of steps that is quadratic in the number of edits, of
+/// which there are few, with two searches by number for each of them.
 pub fn fits(table: &Table, limits: &Limits, edits: &[Edit<'_>]) -> bool
     requires cards { (nodes : ℕ) × (mark : ℕ → ℕ) × AreCards nodes mark table.now }
     requires can { AreMeasurable (tree_without_data table.now) edits.now }

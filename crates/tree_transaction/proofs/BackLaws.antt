@@ -1,4 +1,4 @@
--- A cached node whose blocks have changed is put back: what is known then, and the step on it.
+-- A cached node whose blocks have changed is put back: what is then known, and the step on it.
 use Rattle.std.proofs.Common.{◌≡◌, ◌≢◌, ◌≤◌, ◌<◌, ◌+◌, ◌⊎◌, ℕ, Bool, List, [], Option, Some, None, length, get_or, set, refl, sym, ap, ◌∙◌, arith, subst, inl, inr}
 use Rattle.disk.specs.Moments.{Image, applied}
 use Rattle.disk.specs.declared.update.Update.{Update}
@@ -40,7 +40,7 @@ pub record IsMoved (old : Transaction) (was mid_card : CachedNode) (mid_places :
   pub len : length mid_places ≡ length old.places
   pub others : (image : Image) (n : ℕ) → times_set n was.blocks ≡ 0 → times_set n mid_card.blocks ≡ 0 → applied mid_updates image n ≡ applied old.updates image n
 
--- it is laid anew
+-- its runs are rewritten
 pub laid_again : (old new : Transaction) (place : ℕ) (card : CachedNode) (places : List Bool) (updates : List Update) → IsBack old.nodes place places updates (set (cards_of old) place None) new card → StandsAgain old new place card places updates
 laid_again old new place card places updates back =
     let laid = back.laid in
@@ -56,7 +56,7 @@ laid_again old new place card places updates back =
       others = λ image. let lays = laid.lays image in lays.others;
     }
 
--- or its runs stay, and its node alone is written
+-- or its runs stay, and only its node is written
 pub put_again : (old new : Transaction) (place : ℕ) (card : CachedNode) (places : List Bool) (updates : List Update) → IsCard card → times (148 + place) card.fields.run_sectors ≡ 0 → cards_of new ≡ set (set (cards_of old) place None) place (Some card)
     → new.nodes ≡ old.nodes → new.places ≡ places → ((image : Image) → IsSectorPut (applied updates image) (applied new.updates image) (148 + place) (inode_sector card.form card.fields)) → StandsAgain old new place card places updates
 put_again old new place card places updates is_card apart cards nodes same put =
@@ -74,7 +74,7 @@ put_again old new place card places updates is_card apart cards nodes same put =
       others = λ image n off none. away image n off;
     }
 
--- what all are charged, where the cached node had those blocks
+-- what all are charged if the cached node has those blocks
 module _ (old : Transaction) (place : ℕ) (was : CachedNode) (known : IsKnown old) (there : get_or (cards_of old) place None ≡ Some was) where
   each_charged : (i : ℕ) (card : CachedNode) → get_or (cards_of old) i None ≡ Some card → named_count card ≤ charge_of card
   each_charged i card at = named_charged card (card_at old.nodes (mark_by (148 + old.nodes) old.places) (cards_of old) i card known.cards at)
@@ -209,7 +209,7 @@ module _ (old new : Transaction) (place : ℕ) (was mid_card : CachedNode) (mid_
     behind = λ n. let c = counts n in c.behind;
   }
 
-  -- its run sectors are none of its blocks
+  -- its run sectors are not among its blocks
   held : (base : Image) → AreLaid old.nodes (image_of base old) (mark_by first old.places) (cards_of old) → AreRunSectors (applied mid_updates base) mid_card.fields.run_sectors mid_card.runs
   held base laid =
       let card = held_at old.nodes (image_of base old) (mark_by first old.places) (cards_of old) place was laid there in
@@ -235,7 +235,7 @@ module _ (old new : Transaction) (place : ℕ) (was mid_card : CachedNode) (mid_
       → NodeSteps old.nodes (image_of base old) (image_of base new) (mark_by first old.places) (mark_by first new.places) (cards_of old) place was is
   steps base laid = record { within = within; there = there; number = number; laid = laid; node = node base laid; own = own base }
 
-  -- what the blocks hold the laying keeps
+  -- writing the runs keeps what the blocks hold
   pub kept : (base : Image) (n : ℕ) → 0 < times_set n is.blocks → image_of base new n ≡ applied mid_updates base n
   kept base n some =
       let c = counts n in

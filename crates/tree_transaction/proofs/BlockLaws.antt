@@ -94,7 +94,7 @@ pub length-zero : length zero_sector ≡ 4096
 unfolding zero_sector
 length-zero = length-replicate {A = ℕ} 4096 0
 
--- what stands under a part does not matter
+-- what is under a part does not matter
 over_all : (f g : ℕ → ℕ) (offset : ℕ) (part : List ℕ) (k : ℕ) → ((k < offset) ⊎ (offset + length part ≤ k) → f k ≡ g k) → over f offset part k ≡ over g offset part k
 over_all f g offset part k same = elim (cases_lt k offset) [
   | inl low ↦ over-front f offset part k low ∙ same (inl low) ∙ sym (over-front g offset part k low)
@@ -172,7 +172,7 @@ writes_hole first places taken old new blocks block sector from part marked in_b
       others = λ i off. content-kept old mid blocks (λ n some. mid_away n (unlike n some)) (get_or blocks i None) i refl;
     }) k)
 
--- a hole that has taken a sector
+-- a hole that has been allocated a sector
 pub takes_sector : (first : ℕ) (places taken : List Bool) (blocks : List (Option ℕ)) (block sector : ℕ) → block < length blocks → get_or blocks block None ≡ None → TakesSector first places taken sector
     → GetSectors first places taken blocks (set blocks block (Some sector))
 takes_sector first places taken blocks block sector in_blocks hole takes =
@@ -189,7 +189,7 @@ takes_sector first places taken blocks block sector in_blocks hole takes =
       more = λ n. omega (arith, more n);
     }
 
--- a sector that a block has is one of the volume's
+-- a sector that a block has is in the volume
 pub sector-within : (first size : ℕ) (places : List Bool) (blocks : List (Option ℕ)) (block sector : ℕ) → first + length places ≤ size → HaveMarks first places blocks → get_or blocks block None ≡ Some sector → sector < size
 sector-within first size places blocks block sector room marked is =
     let each = each_mark first places 0 in
@@ -199,7 +199,7 @@ sector-within first size places blocks block sector room marked is =
       | inr high ↦ absurd (let none = each.within sector high in omega (arith, marked sector))
     ]
 
--- what follows where an answer is Ok
+-- what follows if a result is Ok
 
 pub on_ok : {A E P Q : Type 0} (r : Result A E) → OnOk r P → (P → Q) → OnOk r Q
 on_ok (Ok x) is f = f is
@@ -257,7 +257,7 @@ gets_new first places taken blocks block sector in_blocks hole takes = record {
   count = length-set blocks block (Some sector);
 }
 
--- after holes at the end, where one more block at most is new
+-- after holes at the end, if at most one more block is new
 pub writes_one : (first : ℕ) (places is_places : List Bool) (old new : Image) (was is : List (Option ℕ)) (block sector : ℕ) (content : List ℕ) → block ≤ length was → HaveMarks first places was
     → GetsSector first places is_places (with_holes was (block + 1)) is block sector → IsSectorPut old new sector content → WritesOne old new was is block content
 writes_one first places is_places old new was is block sector content in_blocks marked gets put =

@@ -1,4 +1,4 @@
--- A name that is dropped, as one edit.
+-- A name that is removed, as one edit.
 use Rattle.std.proofs.Common.{◌≡◌, ◌≢◌, ◌≤◌, ◌<◌, ◌+◌, ◌-◌, ◌/◌, ℕ, Bool, List, [], Option, Some, None, length, get_or, set, take, refl, sym, ap, ◌∙◌, arith, subst, inl, inr}
 use Rattle.std.proofs.lemmas.Bool.{cases_eq}
 use Rattle.std.proofs.lemmas.List.{length-take, length-set, get_or-take, take_all}
@@ -40,7 +40,7 @@ use Rattle.tree_transaction.proofs.RunLaws.{enough}
 
 module _ (old mid new : Image) (blocks : List (Option ℕ)) (one other : ℕ) (content : ℕ → List ℕ) (once : (n : ℕ) → times_set n blocks ≤ 1)
     (first : Rewrites old mid (get_or blocks one None) (content one)) (second : Rewrites mid new (get_or blocks other None) (content other)) where
-  -- a sector is of one block alone
+  -- only one block has a sector
   elsewhere : (i j n : ℕ) → i ≢ j → get_or blocks i None ≡ Some n → get_or blocks j None ≢ Some n
   elsewhere i j n off at = let own = each_own blocks n in own.once (once n) i at j (λ e. off (sym e))
 
@@ -110,7 +110,7 @@ module _ (old : Transaction) (place : ℕ) (was : CachedNode) (name : List ℕ) 
     stamped_now : NamesStamped names
     stamped_now = subst NamesStamped (sym are) (stays_stamped was.names at within stamped_was)
 
-    -- no block is given back
+    -- no block is freed
     pub drop_runs : length was.blocks ≤ count → IsDirectory names → HasItsRuns place (named_card was blocks names)
     drop_runs long are_names = same_runs old place was known there directory blocks names (take_all count was.blocks long) counted are_names stamped_now
 

@@ -42,7 +42,7 @@ take-hole n blocks i is = let next : i + 1 ≡ suc i = omega arith in ap (λ (k 
 pub take-set : (n : ℕ) (blocks : List (Option ℕ)) (i sector : ℕ) → get_or blocks i None ≡ Some sector → times_set n (take (i + 1) blocks) ≡ times_set n (take i blocks) + once_if (eqb n sector)
 take-set n blocks i sector is = let next : i + 1 ≡ suc i = omega arith in ap (λ (k : ℕ). times_set n (take k blocks)) next ∙ next-set n blocks i sector is
 
--- a block that is given back
+-- a block that is freed
 pub record GivesBlock (first : ℕ) (was now : List Bool) (blocks : List (Option ℕ)) (from i sector : ℕ) : Type 0 where
   pub behind : first ≤ sector
   pub used : slice_index_or now (sector - first) false ≡ true
@@ -66,13 +66,13 @@ gives_block first was now blocks from i sector marked follow is =
           omega (arith, given, follow n, take-set n blocks i sector is);
     }
 
--- the node goes
+-- the node is removed
 
 pub none-named : (n : ℕ) (numbers : List ℕ) → length numbers ≤ 0 → times n numbers ≡ 0
 none-named n [] none = refl
 none-named n (s ∷ numbers) none = absurd (omega arith)
 
--- when its blocks are given back its run sectors are marked still
+-- when its blocks are freed, its run sectors are still marked
 pub numbers_marked : (old : Transaction) (place : ℕ) (was : CachedNode) (left : List Bool) → IsKnown old → get_or (cards_of old) place None ≡ Some was
     → ((n : ℕ) → mark_by (148 + old.nodes) left n + times_set n was.blocks ≡ mark_by (148 + old.nodes) old.places n + times_set n (take 0 was.blocks)) → AreMarked (148 + old.nodes) left was.fields.run_sectors
 numbers_marked old place was left known there marks n = omega (arith, marks n, named_once old.nodes (mark_by (148 + old.nodes) old.places) (cards_of old) place was known.cards there n)

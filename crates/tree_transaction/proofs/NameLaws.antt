@@ -40,7 +40,7 @@ use Rattle.tree_transaction.proofs.BackLaws.{charged, IsMoved, stays, has_now, k
 use Rattle.tree_transaction.proofs.CountLaws.{few_numbers, set_most}
 use Rattle.tree_transaction.proofs.KnownLaws.{same_card, in_table, card_at, named_once, held_at, directory_known, directory_blocks, content_of_directory, fields_fit}
 
--- a stamp that stands at no key is no record's
+-- a stamp that is no key is no record's
 stamp-new : (names : List Record) (stamp : ℕ) → at stamp names ≡ None → (i : ℕ) (d : Record) → i < length names → (get_or names i d).0 ≢ stamp
 stamp-new [] stamp none i d h = absurd (omega arith)
 stamp-new (entry ∷ names) stamp none i d h = elim (cases_eq stamp entry.0) [
@@ -54,11 +54,11 @@ stamp-new (entry ∷ names) stamp none i d h = elim (cases_eq stamp entry.0) [
 abbrev pub named_card : CachedNode → List (Option ℕ) → List Record → CachedNode
 named_card card blocks names = record card { fields = record card.fields { size = length names }; blocks = blocks; names = names }
 
--- the runs of so few blocks stand in one sector
+-- the runs of so small a number of blocks are in one sector
 pub few_runs : (blocks : List (Option ℕ)) (count : ℕ) → length blocks ≡ blocks_of kind.Directory count → count ≤ MAX_NAMES → sectors_for (set_blocks blocks) ≤ 1
 few_runs blocks count long few = omega (arith, long, set_most blocks)
 
--- a directory whose blocks and names have changed, laid anew
+-- a directory whose blocks and names have changed, with its runs rewritten
 module _ (old : Transaction) (place : ℕ) (was : CachedNode) (known : IsKnown old) (there : get_or (cards_of old) place None ≡ Some was) (directory : was.fields.kind ≡ kind.Directory) where
   abbrev first : ℕ
   first = 148 + old.nodes

@@ -1,4 +1,4 @@
--- Nodes that are made, and what they show.
+-- Nodes that are made, and their metadata.
 use Rattle.std.proofs.Common.{◌≡◌, ◌≢◌, ◌≤◌, ◌<◌, ◌+◌, ℕ, Bool, List, Option, Some, None, length, get_or, set, refl, sym, ap, ◌∙◌, arith, subst}
 use Rattle.disk.specs.Moments.{Image, applied}
 use Rattle.inode.specs.declared.node.Form.{Form}
@@ -152,7 +152,7 @@ module _ (old new : Transaction) (place : ℕ) (card : CachedNode) (known : IsKn
       (ap (λ (one : CachedNode). layout.tree_of (image_of base new) (set (cards_of old) place (Some one))) is_new.is ∙ gives.tree_is
       ∙ ap (λ (one : CachedNode). done (PutNode one.fields.number (new_node one)) (changed_tree base old)) (sym is_new.is))
 
--- ---- a node's own sector alone is written: its run sectors and blocks stay
+-- ---- only a node's own sector is written: its run sectors and blocks stay
 
 module _ (old new : Transaction) (place : ℕ) (was is : CachedNode) (known : IsKnown old) (there : get_or (cards_of old) place None ≡ Some was) (number : is.fields.number ≡ was.fields.number) (runs : is.runs ≡ was.runs) (sectors : is.fields.run_sectors ≡ was.fields.run_sectors)
     (blocks : (n : ℕ) → times_set n is.blocks ≡ times_set n was.blocks) (is_known : IsCard is) (same : new.nodes ≡ old.nodes) (places : new.places ≡ old.places) (cards : cards_of new ≡ set (cards_of old) place (Some is))
@@ -218,9 +218,9 @@ module _ (old new : Transaction) (place : ℕ) (was is : CachedNode) (known : Is
         };
       }
 
--- ---- a node shows something else
+-- ---- a node gets other metadata
 
--- what is asked is of the cached node at the place
+-- what is required is required of the cached node at the place
 pub fits_at : (cards : List (Option CachedNode)) (place : ℕ) (shown : Shown) (was : CachedNode) → CanShow cards place shown → get_or cards place None ≡ Some was → IsInode was.form (fields_showing was.fields shown)
 fits_at cards place shown was can there = subst (λ (one : CachedNode). IsInode one.form (fields_showing one.fields shown)) (same_card cards place can.cached was can.there there) can.fits
 

@@ -1,4 +1,4 @@
--- Sectors that are taken and given, and their marks.
+-- Sectors that are allocated and freed, and their marks.
 use Rattle.std.proofs.Common.{◌≡◌, ◌≤◌, ◌<◌, ◌+◌, ◌-◌, ◌++◌, ℕ, zero, suc, Bool, true, false, List, [], ◌∷◌, Some, length, get_or, refl, sym, ap, arith, subst, eqb, slice_get, slice_index_or, slice_set}
 use Rattle.freemap.specs.Places.{bit_from}
 use Rattle.layout.specs.Marks.{times, once_if}

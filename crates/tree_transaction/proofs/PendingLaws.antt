@@ -37,7 +37,7 @@ encoded-pending (x ∷ us) (Some other ∷ ps) zero content e h = refl
 encoded-pending (x ∷ us) (None ∷ ps) (suc i) content e h = ap (λ (rest : List Update). x ∷ rest) (encoded-pending us ps i content (omega (arith, e)) (omega arith))
 encoded-pending (x ∷ us) (Some other ∷ ps) (suc i) content e h = ap (λ (rest : List Update). record { target = x.target; content = other } ∷ rest) (encoded-pending us ps i content (omega (arith, e)) (omega arith))
 
--- one update more
+-- one more update
 pub encoded-more : (us : List Update) (ps : List (Option (List ℕ))) (u : Update) → length ps ≡ length us → encoded (us ++ u ∷ []) (ps ++ None ∷ []) ≡ encoded us ps ++ u ∷ []
 encoded-more [] [] u e = refl
 encoded-more [] (p ∷ ps) u e = absurd (omega (arith, e))
@@ -45,7 +45,7 @@ encoded-more (x ∷ us) [] u e = absurd (omega (arith, e))
 encoded-more (x ∷ us) (None ∷ ps) u e = ap (λ (rest : List Update). x ∷ rest) (encoded-more us ps u (omega (arith, e)))
 encoded-more (x ∷ us) (Some content ∷ ps) u e = ap (λ (rest : List Update). record { target = x.target; content = content } ∷ rest) (encoded-more us ps u (omega (arith, e)))
 
--- where a sector is updated
+-- the place at which a sector is updated
 
 pub none-encoded : (us : List Update) (ps : List (Option (List ℕ))) (n : ℕ) → HasNoUpdate n us → HasNoUpdate n (encoded us ps)
 none-encoded us ps n none i h e = none i (omega (arith, encoded-len us ps)) (sym (target-encoded us ps i) ∙ e)

@@ -28,7 +28,7 @@ at_first run runs some =
     let same : run.sector + (run.block - run.block) ≡ run.sector = omega arith in
     inside run runs run.block (omega arith) (omega arith) ∙ ap (λ (s : ℕ). Some s) same
 
--- runs from a block on, up to a limit, beside others that have the same sectors there
+-- runs from a block on, up to a limit, and others that have the same sectors there
 abbrev AreSame : (runs others : List Run) (from limit : ℕ) → Type 0
 AreSame runs others from limit = (k : ℕ) → from ≤ k → k < limit → sector_by runs k ≡ sector_by others k
 
@@ -51,7 +51,7 @@ same_sector run other runs others from limit count rising up same =
     let block = same_block run other runs others from limit count rising up same in
     same_Some run.sector other.sector (sym (at_first run runs rising.1) ∙ same run.block rising.0 (omega (arith, rising.1, rising.2)) ∙ ap (sector_by (other ∷ others)) block ∙ at_first other others up.1)
 
--- one that goes on in the other list is followed by none here
+-- a run that goes on in the other list is followed by none here
 runs_on : (run other : Run) (runs others : List Run) (from limit count : ℕ) → AreRising from limit (run ∷ runs) → RunsApart (run ∷ runs) → AreRising from count (other ∷ others) → AreSame (run ∷ runs) (other ∷ others) from limit → run.length < other.length
     → length runs ≤ 0
 runs_on run other [] others from limit count rising apart up same longer = omega arith
@@ -114,7 +114,7 @@ fewest (other ∷ others) (run ∷ runs) from limit count rising apart up same =
       ]
     ]
 
--- so a cached node that keeps its first blocks wants no more run sectors than it has
+-- so a cached node that keeps its first blocks needs no more run sectors than it has
 pub enough : (was card : CachedNode) (count : ℕ) → IsCard was → card.blocks ≡ take count was.blocks → card.fields.run_sectors ≡ was.fields.run_sectors → HasEnough card
 enough was card count known blocks sectors runs are apart =
     let own = known.runs in

@@ -1,4 +1,4 @@
--- Updates of different sectors: what they give, and one more.
+-- Updates of distinct sectors: what they give, and one more.
 use Rattle.std.proofs.Common.{◌≡◌, ◌≢◌, ◌≤◌, ◌<◌, ◌+◌, ℕ, zero, suc, List, [], ◌∷◌, ◌++◌, ◌⊎◌, length, get_or, set, refl, sym, ap, ◌∙◌, arith, subst, eq-eqb, ne_eqb, inl, inr}
 use Rattle.std.proofs.lemmas.Bool.{cases_eq, cases_lt}
 use Rattle.disk.specs.declared.update.Update.{Update}
@@ -111,11 +111,11 @@ updated-fixes (update ∷ updates) (suc i) n a b h at = updated-fixes updates i 
 nil_cons : (x : ℕ) → (let none : List ℕ = [] in none ≡ x ∷ []) → ⊥
 nil_cons x e = cc
 
--- so where what is under them is read, it is none of theirs
+-- so if what is under them is read, the sector is none of theirs
 not-updated : (updates : List Update) (n : ℕ) → ((image : Image) → applied updates image n ≡ image n) → HasNoUpdate n updates
 not-updated updates n same i h at = nil_cons 0 (sym (same (λ n. [])) ∙ updated-fixes updates i n (λ n. []) (λ n. 0 ∷ []) h at ∙ same (λ n. 0 ∷ []))
 
--- where other updates leave what is outside, those that are outside are none
+-- if other updates leave what is outside unchanged, none of them is outside
 pub between-still : (first end : ℕ) (old new : List Update) → AreBetween first end old → ((image : Image) (n : ℕ) → (n < first) ⊎ (end ≤ n) → applied new image n ≡ applied old image n) → AreBetween first end new
 between-still first end old new between same i h =
     let n : ℕ = target_of new i in

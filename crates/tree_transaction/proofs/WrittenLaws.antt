@@ -1,4 +1,4 @@
--- A file whose blocks are written: it can be laid, and stands again.
+-- A file whose blocks are written: it can be laid, and is put back.
 use Rattle.std.proofs.Common.{◌≡◌, ◌≤◌, ◌<◌, ◌+◌, ◌∙◌, ℕ, Bool, false, List, [], Option, Some, None, length, set, sym, ap, subst, arith}
 use Rattle.std.proofs.lemmas.List.{length-set}
 use Rattle.disk.specs.Moments.{Image, applied}
@@ -55,7 +55,7 @@ module _ (old mid : Transaction) (place end : ℕ) (card : CachedNode) (filled :
   pub runs_now : filled ≡ false → HasItsRuns place card
   runs_now none = record { is_card = is_card none; apart = apart }
 
-  -- the cached node stands at its place again
+  -- the cached node is back at its place
 
   module _ (new : Transaction) (stands : StandsAgain mid new place card mid.places mid.updates) where
     again : StandsAgain old new place written mid.places mid.updates

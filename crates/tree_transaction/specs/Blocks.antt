@@ -13,7 +13,7 @@ use Rattle.layout.specs.Marks.{times_set, mark_by}
 abbrev pub IsSectorPut : (old new : Image) (sector : ℕ) → List ℕ → Type 0
 IsSectorPut old new sector content = new ≡ put old (record { target = sector; content = content })
 
--- a sector that was free is taken
+-- a free sector is allocated
 pub record TakesSector (first : ℕ) (was is : List Bool) (sector : ℕ) : Type 0 where
   pub behind : first ≤ sector
   pub free : slice_get was (sector - first) ≡ Some false
@@ -29,7 +29,7 @@ pub record HaveRegion (first : ℕ) (places : List Bool) (blocks : List (Option 
   pub marked : HaveMarks first places blocks
   pub few : length blocks ≤ 4096
 
--- how many blocks are no holes
+-- how many blocks are not holes
 abbrev pub set_blocks : List (Option ℕ) → ℕ
 set_blocks blocks = count_by is_some blocks
 
@@ -39,7 +39,7 @@ abbrev pub FollowBlocks : (first : ℕ) → (was is : List Bool)
 FollowBlocks first was is was_blocks is_blocks = (n : ℕ)
     → mark_by first is n + times_set n was_blocks ≡ mark_by first was n + times_set n is_blocks
 
--- Blocks get sectors: the marks follow, and so does how many places are free. No block loses its
+-- Blocks get sectors: the marks follow, and so does the number of free places. No block loses its
 -- sector.
 pub record GetSectors (first : ℕ) (was is : List Bool)
     (was_blocks is_blocks : List (Option ℕ)) : Type 0 where
@@ -48,12 +48,12 @@ pub record GetSectors (first : ℕ) (was is : List Bool)
   pub free : free_places is + set_blocks is_blocks ≡ free_places was + set_blocks was_blocks
   pub more : (n : ℕ) → times_set n was_blocks ≤ times_set n is_blocks
 
--- whether blocks got sectors: each is as it was, or more of them are set
+-- whether blocks got sectors: each is unchanged, or more of them are set
 abbrev pub FillHoles : (filled : Bool) → (was is : List (Option ℕ)) → Type 0
 FillHoles false was is = is ≡ was
 FillHoles true was is = set_blocks was < set_blocks is
 
--- a block has a sector: it had it, or it was a hole and has taken one
+-- a block has a sector: it had it before, or it was a hole and one was allocated for it
 pub record GetsSector (first : ℕ) (was is : List Bool) (was_blocks is_blocks : List (Option ℕ))
     (block sector : ℕ) : Type 0 where
   pub is_set : slice_index_or is_blocks block None ≡ Some sector
@@ -62,13 +62,13 @@ pub record GetsSector (first : ℕ) (was is : List Bool) (was_blocks is_blocks :
   pub gets : GetSectors first was is was_blocks is_blocks
   pub count : length is_blocks ≡ length was_blocks
 
--- a hole wants a sector, and none is free
+-- a hole needs a sector, and none is free
 pub record FindsNone (places : List Bool) (blocks : List (Option ℕ)) (block : ℕ) : Type 0 where
   pub hole : slice_index_or blocks block None ≡ None
   pub full : free_places places ≡ 0
 
--- One block holds this content, which is a new one after the last where there was none, and each
--- other one what it held. No sector has changed but of these blocks.
+-- One block, which may be a new one after the last, holds this content, and every other one what it
+-- held. Only sectors of these blocks have changed.
 pub record WritesOne (old new : Image) (was is : List (Option ℕ)) (block : ℕ)
     (content : List ℕ) : Type 0 where
   pub here : content_at new (slice_index_or is block None) ≡ content
@@ -78,12 +78,12 @@ pub record WritesOne (old new : Image) (was is : List (Option ℕ)) (block : ℕ
   pub others : (n : ℕ) → times_set n is ≡ 0 → new n ≡ old n
   pub count : length is ≡ max (length was) (block + 1)
 
--- the sectors of these blocks are the volume's
+-- the sectors of these blocks are in the volume
 abbrev pub BlocksWithin : (size : ℕ) → List (Option ℕ) → Type 0
 BlocksWithin size blocks = (block sector : ℕ)
     → slice_index_or blocks block None ≡ Some sector → sector < size
 
--- In the block of byte `size` zeros stand from there on; no other block has changed
+-- The block of byte `size` has zeros from there on; no other block has changed
 pub record ClearsTail (old new : Image) (blocks : List (Option ℕ)) (size : ℕ) : Type 0 where
   pub kept : (i : ℕ) → (i ≢ size / 4096) ⊎ (size % 4096 ≡ 0)
       → content_at new (slice_index_or blocks i None)
@@ -93,13 +93,13 @@ pub record ClearsTail (old new : Image) (blocks : List (Option ℕ)) (size : ℕ
       ≡ below (λ k. slice_index_or (content_at old (slice_index_or blocks (size / 4096) None)) k 0)
       (size % 4096) j
 
--- the blocks hold these bytes from a place on, in place of what they held there
+-- the blocks hold these bytes from an offset on, in place of what they held there
 abbrev pub WritesBytes : (old new : Image) (was is : List (Option ℕ)) (offset : ℕ)
     → (bytes : List ℕ) → Type 0
 WritesBytes old new was is offset bytes = (k : ℕ)
     → byte_at new is k ≡ over (byte_at old was) offset bytes k
 
--- whatever is under the updates, no sector has changed but of these blocks
+-- whatever is under the updates, only sectors of these blocks have changed
 abbrev pub ChangeBlocks : (old new : List Update) → List (Option ℕ) → Type 0
 ChangeBlocks old new blocks = (image : Image) (n : ℕ)
     → times_set n blocks ≡ 0 → applied new image n ≡ applied old image n

@@ -1,5 +1,5 @@
--- Why a transaction that reads nothing is given up, as a fault of any transaction, and why a place
--- was not taken, as a fault of a transaction that reads nothing.
+-- Why a transaction that reads nothing failed, as a fault of any transaction, and why a place was
+-- not allocated, as a fault of a transaction that reads nothing.
 use Rattle.freemap.specs.declared.fault.TakeFault.{TakeFault}
 use Rattle.freemap.specs.declared.fault.TakeFault.TheVariants as take
 use Rattle.tree_transaction.specs.declared.fault.TransactionFault.{TransactionFault}

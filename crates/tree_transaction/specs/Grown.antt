@@ -5,7 +5,7 @@ use Rattle.model_tree.specs.declared.node.NodeKind.TheVariants as kind
 use Rattle.model_tree.specs.Trees.Charge.{blocks_of}
 use Rattle.layout.specs.CachedNodes.{CachedNode}
 
--- a file of another size, and one that reaches to an end at least
+-- a file of another size, and one that reaches at least to an end
 
 abbrev pub sized : CachedNode → (size : ℕ) → CachedNode
 sized card size = record card { fields = record card.fields { size = size } }
@@ -13,7 +13,7 @@ sized card size = record card { fields = record card.fields { size = size } }
 abbrev pub reaching : (end : ℕ) → CachedNode → CachedNode
 reaching end card = sized card (max card.fields.size end)
 
--- how many blocks that has, and the one that has them
+-- how many blocks such a file has, and the file with these blocks
 
 abbrev pub blocks_to : (end : ℕ) → CachedNode → ℕ
 blocks_to end card = blocks_of kind.File (max card.fields.size end)
@@ -27,7 +27,7 @@ grown card end = record {
   names = card.names;
 }
 
--- a file of at most 16,777,216 bytes stands at a place, and an end is as low
+-- a file of at most 16,777,216 bytes is at a place, and `end` is no larger
 pub record CanWrite (cards : List (Option CachedNode)) (place end : ℕ) : Type 0 where
   pub cached : CachedNode
   pub there : slice_index_or cards place None ≡ Some cached
@@ -35,7 +35,7 @@ pub record CanWrite (cards : List (Option CachedNode)) (place end : ℕ) : Type 
   pub few : cached.fields.size ≤ 16777216
   pub low : end ≤ 16777216
 
--- a file stands at a place that is no longer than this
+-- a file that is no longer than this is at a place
 pub record CanGrow (cards : List (Option CachedNode)) (place size : ℕ) : Type 0 where
   pub cached : CachedNode
   pub there : slice_index_or cards place None ≡ Some cached
@@ -43,7 +43,7 @@ pub record CanGrow (cards : List (Option CachedNode)) (place size : ℕ) : Type 
   pub longer : cached.fields.size ≤ size
   pub few : size ≤ 16777216
 
--- a file stands at a place that is no shorter than this
+-- a file that is no shorter than this is at a place
 pub record CanCut (cards : List (Option CachedNode)) (place size : ℕ) : Type 0 where
   pub cached : CachedNode
   pub there : slice_index_or cards place None ≡ Some cached

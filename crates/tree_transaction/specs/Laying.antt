@@ -15,7 +15,7 @@ use Rattle.layout.specs.Marks.{times}
 use Rattle.layout.specs.Laid.{runs_of_sector, AreRunSectors}
 use Rattle.layout.specs.Marks.{mark_by}
 
--- no sector is there twice
+-- no sector occurs twice
 abbrev pub AreOnce : List ℕ → Type 0
 AreOnce numbers = (i j : ℕ) → i < j → j < length numbers
     → slice_index_or numbers i 0 ≢ slice_index_or numbers j 0
@@ -42,7 +42,7 @@ Follow first was is named_was named_is = (n : ℕ)
 abbrev pub AreMarked : (first : ℕ) → List Bool → List ℕ → Type 0
 AreMarked first places numbers = (n : ℕ) → times n numbers ≤ mark_by first places n
 
--- the fields but for the runs
+-- the fields with other runs
 abbrev pub fields_with : Fields → (runs : ℕ) → (run_sectors : List ℕ) → Fields
 fields_with fields runs run_sectors = record fields { runs = runs; run_sectors = run_sectors }
 
@@ -57,25 +57,25 @@ pub record IsRerun (was is : CachedNode) : Type 0 where
   pub run_count : length is.runs ≡ is.fields.runs
   pub fits : IsInode is.form is.fields
 
--- a cached node can be laid at a place: but for its runs its fields have a spelling, and its run
--- sectors are marked
+-- a cached node can be laid at a place: its fields, apart from its runs, can be encoded, and its
+-- run sectors are marked
 pub record CanBeLaid (nodes place : ℕ) (places : List Bool) (card : CachedNode) : Type 0 where
   pub room : 148 + nodes + length places < 2 ^ 32
   pub within : place < nodes
   pub fits : IsInode card.form (fields_with card.fields 0 [])
   pub marked : AreMarked (148 + nodes) places card.fields.run_sectors
 
--- runs of its blocks that have a spelling
+-- runs of its blocks that can be encoded
 pub record AreRunsFor (list : List Run) (card : CachedNode) : Type 0 where
   pub runs : AreRunsOf list card.blocks
   pub each : AllByRecursion IsRun list
   pub few : length list ≤ 4096
 
--- run sectors for so many runs, 500 each
+-- how many run sectors `runs` runs need, 500 each
 abbrev pub sectors_for : (runs : ℕ) → ℕ
 sectors_for runs = divided_up runs 500
 
--- the shortest list of its runs wants no more run sectors than it has
+-- the shortest list of its runs needs no more run sectors than it has
 abbrev pub HasEnough : CachedNode → Type 0
 HasEnough card = (runs : List Run) → AreRunsOf runs card.blocks → RunsApart runs
     → sectors_for (length runs) ≤ length card.fields.run_sectors

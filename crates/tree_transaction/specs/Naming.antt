@@ -1,4 +1,4 @@
--- Names that are put into a directory and dropped from it.
+-- Names that are put into a directory and removed from it.
 use Rattle.std.specs.Prelude.{◌≡◌, ◌≤◌, ◌<◌, ◌+◌}
 use Rattle.std.specs.Prelude.{ℕ, List, Option, Some, None, length, slice_index_or}
 use Rattle.disk.specs.Moments.{Image}
@@ -13,8 +13,7 @@ use Rattle.layout.specs.CachedNodes.{CachedNode}
 use Rattle.tree_transaction.specs.declared.transaction.Transaction.{Transaction}
 use Rattle.tree_transaction.specs.Transactions.{cards_of, MakesEdit}
 
--- a directory of fewer than MAX_NAMES names stands at a place, which has neither the name nor
--- the stamp
+-- a directory of fewer than MAX_NAMES names is at a place, and has neither the name nor the stamp
 pub record CanName (cards : List (Option CachedNode)) (place : ℕ) (name : List ℕ)
     (stamp : ℕ) : Type 0 where
   pub cached : CachedNode
@@ -28,7 +27,7 @@ pub record CanName (cards : List (Option CachedNode)) (place : ℕ) (name : List
   pub above : 0 < stamp
   pub new_stamp : at stamp cached.names ≡ None
 
--- a directory stands at a place, and has the name
+-- a directory that has the name is at a place
 pub record HasNameAt (cards : List (Option CachedNode)) (place : ℕ) (name : List ℕ) : Type 0 where
   pub cached : CachedNode
   pub there : slice_index_or cards place None ≡ Some cached
@@ -49,15 +48,15 @@ with_name entry card = renamed card (with_record card.names entry)
 abbrev pub without_name : List ℕ → CachedNode → CachedNode
 without_name name card = renamed card (without_place card.names (place_of name card.names))
 
--- over whatever base a transaction stays one, and its tree is the one before without the name: it
--- goes from the directory at a place with the stamp that it has there
+-- over any base a transaction remains one, and its tree is the previous one without the name: it is
+-- removed from the directory at a place, with the stamp that it has there
 abbrev pub DropsNamed : (old new : Transaction) → (place : ℕ) → (name : List ℕ) → Type 0
 DropsNamed old new place name = (card : CachedNode) (entry : Record)
     → slice_index_or (cards_of old) place None ≡ Some card
     → entry_of name card.names ≡ Some entry
     → MakesEdit old new (DropName card.fields.number entry.0)
 
--- how many blocks one more name wants
+-- how many blocks the directory needs with one more name
 abbrev pub blocks_named : CachedNode → ℕ
 blocks_named card = blocks_of kind.Directory (length card.names + 1)
 

@@ -1,4 +1,4 @@
--- Nodes that are made, and what nodes show.
+-- Nodes that are made, and the metadata of nodes.
 use Rattle.std.specs.Prelude.{◌≡◌, ◌<◌, ℕ, List, [], Option, Some, None, slice_index_or}
 use Rattle.inode.specs.declared.node.Form.{Form}
 use Rattle.inode.specs.Fields.{Fields, IsInode}
@@ -32,7 +32,7 @@ no_content kind.Directory = Directory []
 abbrev pub new_node : CachedNode → Node
 new_node card = node_with card.fields (no_content card.fields.kind)
 
--- what a node shows beside its content
+-- the metadata of a node
 
 abbrev pub shown_of : declared.Shown → Shown
 shown_of shown = record {
@@ -55,7 +55,7 @@ fields_showing fields shown = record fields {
 abbrev pub showing : Shown → CachedNode → CachedNode
 showing shown card = record card { fields = fields_showing card.fields shown }
 
--- a node stands at a place, and one that can show this
+-- a node is at a place, and one that can have this metadata
 
 pub record HasNode (cards : List (Option CachedNode)) (place : ℕ) : Type 0 where
   pub cached : CachedNode

@@ -1,4 +1,4 @@
--- The ranges of the numbers that a node shows.
+-- The ranges of the numbers in a node's metadata.
 use Rattle.std.specs.Prelude.{◌<◌, ◌^◌, ℕ}
 
 pub record IsInRange (owner group change time_modify : ℕ) : Type 0 where

@@ -1,4 +1,4 @@
--- What a transaction is, and what calls make of it.
+-- What a transaction is, and the effects of calls on it.
 use Rattle.std.specs.Prelude.{◌≡◌, ◌≢◌, ◌≤◌, ◌<◌, ◌+◌, ◌^◌}
 use Rattle.std.specs.Prelude.{ℕ, Bool, List, Option, Some, None, length, set, slice_index_or}
 use Rattle.disk.specs.declared.update.Update.{Update}
@@ -24,7 +24,7 @@ cards_of transaction = transaction.cards.cards
 abbrev pub end_of : Transaction → ℕ
 end_of transaction = 148 + transaction.nodes + length transaction.places
 
--- what the sectors hold, and the tree that they show, over what is below the transaction
+-- what the sectors hold, and the tree that they represent, over what is below the transaction
 
 abbrev pub image_of : Image → Transaction → Image
 image_of base transaction = applied transaction.updates base
@@ -32,7 +32,7 @@ image_of base transaction = applied transaction.updates base
 abbrev pub changed_tree : Image → Transaction → Tree
 changed_tree base transaction = layout.tree_of (image_of base transaction) (cards_of transaction)
 
--- What is known of a transaction whatever its sectors hold: its cached nodes by its places, and
+-- What is known of a transaction whatever its sectors hold: its cached nodes with its places, and
 -- that its updates are of the node table and the data region
 pub record IsKnown (transaction : Transaction) : Type 0 where
   pub cards : AreCards transaction.nodes (mark_by (148 + transaction.nodes) transaction.places)
@@ -40,21 +40,21 @@ pub record IsKnown (transaction : Transaction) : Type 0 where
   pub small : end_of transaction < 2 ^ 32
   pub targets : AreBetween 148 (end_of transaction) transaction.updates
 
--- and it stays so, over as many places of both kinds
+-- and it remains so, with the same number of places of both kinds
 pub record StaysKnown (old new : Transaction) : Type 0 where
   pub known : IsKnown new
   pub nodes : new.nodes ≡ old.nodes
   pub places : length new.places ≡ length old.places
 
--- Its cached nodes are laid by its updates and its places, over a volume of so many sectors
+-- Its cached nodes are laid by its updates and its places, over a volume of `size` sectors
 pub record IsTransaction (base : Image) (size : ℕ) (transaction : Transaction) : Type 0 where
   pub laid : AreLaid transaction.nodes (image_of base transaction)
       (mark_by (148 + transaction.nodes) transaction.places) (cards_of transaction)
   pub within : end_of transaction ≤ size
   pub small : size < 2 ^ 32
 
--- over this base a transaction stays one, and its tree is the one before with this edit; and the
--- same over whatever base
+-- over this base a transaction remains one, and its tree is the previous one with this edit; and
+-- the same over any base
 
 abbrev pub MakesOver : (base : Image) (size : ℕ) → (old new : Transaction) → Edit → Type 0
 MakesOver base size old new edit = IsTransaction base size old
@@ -77,7 +77,7 @@ Edits old new place edit = (card : CachedNode)
     → slice_index_or (cards_of old) place None ≡ Some card
     → MakesEdit old new (edit card.fields.number)
 
--- The cached node at a place alone is another one: this one, but for where its content stands
+-- Only the cached node at a place has changed: it is this one, apart from its runs
 pub record HasNow (old new : Transaction) (place : ℕ) (card : CachedNode) : Type 0 where
   pub is : CachedNode
   pub cards : cards_of new ≡ set (cards_of old) place (Some is)
@@ -90,7 +90,7 @@ NodeBecomes old new place change = (card : CachedNode)
     → slice_index_or (cards_of old) place None ≡ Some card
     → HasNow old new place (change card)
 
--- a cached node that was taken out stands at its place again, laid anew
+-- a cached node that was taken out is back at its place, with its runs rewritten
 pub record IsBack (nodes place : ℕ) (places : List Bool) (updates : List Update)
     (cards : List (Option CachedNode)) (new : Transaction) (card : CachedNode) : Type 0 where
   pub is : CachedNode
@@ -98,9 +98,9 @@ pub record IsBack (nodes place : ℕ) (places : List Bool) (updates : List Updat
   pub same : new.nodes ≡ nodes
   pub laid : LaysCard nodes place places new.places updates new.updates card is
 
--- A cached node that was taken out stands at its place again, over these places and updates, with
--- runs of its blocks. Its run sectors hold them where those of the cached node that was put back
--- held its own.
+-- A cached node that was taken out is back at its place, over these places and updates, with runs
+-- of its blocks. Its run sectors hold them if those of the cached node that was put back held its
+-- own.
 pub record StandsAgain (old new : Transaction) (place : ℕ) (card : CachedNode)
     (places : List Bool) (updates : List Update) : Type 0 where
   pub is : CachedNode
@@ -118,8 +118,8 @@ pub record StandsAgain (old new : Transaction) (place : ℕ) (card : CachedNode)
   pub others : (image : Image) (n : ℕ) → n ≢ 148 + place → times n is.fields.run_sectors ≡ 0
       → applied new.updates image n ≡ applied updates image n
 
--- where the node at a place had so many blocks, all would be charged for more sectors than the data
--- region has
+-- if the node at a place had `blocks` blocks, all nodes together would be charged for more sectors
+-- than the data region has
 abbrev pub IsOvercharged : Transaction → (place : ℕ) → (blocks : CachedNode → ℕ) → Type 0
 IsOvercharged transaction place blocks = (card : CachedNode)
     → slice_index_or (cards_of transaction) place None ≡ Some card

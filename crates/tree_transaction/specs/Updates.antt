@@ -1,4 +1,4 @@
--- Updates of different sectors.
+-- Updates of distinct sectors.
 use Rattle.std.specs.Prelude.{◌≡◌, ◌≢◌, ◌≤◌, ◌<◌, ◌==◌, [], ◌∷◌, if◌then◌else◌}
 use Rattle.std.specs.Prelude.{ℕ, zero, suc, List, length, set, Option, Some, None}
 use Rattle.disk.specs.declared.update.Update.{Update}
@@ -55,12 +55,12 @@ AreBetween first end updates = (i : ℕ) → i < length updates
     → (first ≤ target_of updates i) × (target_of updates i < end)
 
 -- the updates of a whole transaction: of sectors after the journal's, below the volume's size, and
--- all different
+-- all distinct
 pub record AreTreeUpdates (size : ℕ) (updates : List Update) : Type 0 where
   pub between : AreBetween 98 size updates
   pub apart : UpdatesApart updates
 
--- whatever is under the updates, one sector alone has changed
+-- whatever is under the updates, only one sector has changed
 abbrev pub ChangeOne : (old new : List Update) → (sector : ℕ) → Type 0
 ChangeOne old new sector = (image : Image) (n : ℕ)
     → n ≢ sector → applied new image n ≡ applied old image n

@@ -1,4 +1,4 @@
--- A transaction whose marks are written: what it leaves of a volume.
+-- A transaction whose marks are written: what it makes of a volume.
 use Rattle.std.specs.Prelude.{◌≡◌, ◌≢◌, ◌≤◌, ◌<◌, ◌+◌, ◌*◌, ◌⊎◌, ℕ, Bool, List, length}
 use Rattle.disk.specs.Moments.{Image}
 use Rattle.freemap.specs.Places.{ShowsPlaces, HaveSamePart, mark_of, bit_in}
@@ -11,7 +11,7 @@ pub record IsMarked (base : Image) (places : List Bool) : Type 0 where
   pub few : length places ≤ 65536
   pub bits : (i : ℕ) → bit_in (base 98) (base 99) i ≡ mark_of places i
 
--- bitmap sector 0 or 1 shows the places from its first on, or is as it was, where there they are as
+-- bitmap sector 0 or 1 shows the places from its first on, or is unchanged if these are the same as
 -- before; and no other sector has changed
 pub record ShowsPart (old new : Image) (before places : List Bool) (part : ℕ) : Type 0 where
   pub shows : ShowsPlaces (new (98 + part)) places (32768 * part)
@@ -19,7 +19,7 @@ pub record ShowsPart (old new : Image) (before places : List Bool) (part : ℕ) 
   pub others : (n : ℕ) → n ≢ 98 + part → new n ≡ old n
 
 -- the transaction is one of a volume of this version: its places are the whole data region, and the
--- spare sectors are as they are to be
+-- spare sectors are those of the version
 pub record IsWhole (version : Version) (base : Image) (size : ℕ) (transaction : Transaction)
     : Type 0 where
   pub size_is : size ≡ 148 + transaction.nodes + length transaction.places
@@ -27,7 +27,7 @@ pub record IsWhole (version : Version) (base : Image) (size : ℕ) (transaction 
   pub forms : HaveForms version (cards_of transaction)
   pub spare : (n : ℕ) → 100 ≤ n → n < 148 → base n ≡ version.spare n
 
--- Then, over sectors that are marked by the places as they were before, the sectors hold its cached
+-- Then, over sectors whose marks are those of the previous places, the sectors hold its cached
 -- nodes, marks included, and the tree is the same
 pub record LeavesLaid (version : Version) (base : Image) (size : ℕ) (old new : Transaction)
     : Type 0 where

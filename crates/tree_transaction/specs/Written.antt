@@ -1,4 +1,4 @@
--- Files whose blocks are written, before their nodes are.
+-- Files whose blocks are written before their nodes are.
 use Rattle.std.specs.Prelude.{◌≡◌, ◌+◌, ℕ, Bool, List, Some, None, length, set, slice_index_or}
 use Rattle.disk.specs.Moments.{Image, applied}
 use Rattle.layout.specs.CachedNodes.{CachedNode}
@@ -9,7 +9,7 @@ use Rattle.tree_transaction.specs.Blocks.{GetSectors, ChangeBlocks, FillHoles, W
 use Rattle.tree_transaction.specs.Grown.{grown}
 use Rattle.tree_transaction.specs.Transactions.{cards_of}
 
--- A file's cached node was taken out, and reaches to an end; some of its holes have sectors
+-- A file's cached node was taken out, and extended to an end; some of its holes have got sectors
 pub record IsWritten (old new : Transaction) (place end : ℕ) (card : CachedNode) (filled : Bool)
     : Type 0 where
   pub was : CachedNode

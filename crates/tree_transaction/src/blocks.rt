@@ -1,4 +1,4 @@
-//! Bytes and names over a node's blocks.
+//! Bytes and names in a node's blocks.
 
 ghost use Rattle.std.specs.Prelude.{◌≡◌, ◌≤◌, ◌<◌, ◌+◌, ◌*◌, ◌/◌, ◌%◌, ◌^◌, ℕ, false, Some, None, length, replicate, max, ◌-◌, set, slice_index_or, IfOk, OnOk, IsErrOf};
 ghost use Rattle.disk.specs.Calls.{zero_sector};
@@ -23,7 +23,7 @@ use layout::sectors::Sectors;
 use sector::{put_bytes, put_zeros};
 use std::alloc::AllocError;
 
-/// Bytes from a place of a block on.
+/// Bytes from an offset in a block on.
 #[derive(Clone, Copy)]
 struct Part<'a> {
     block: u32,
@@ -31,7 +31,7 @@ struct Part<'a> {
     bytes: &'a [u8],
 }
 
-/// Writes bytes over those that a sector has.
+/// Overwrites bytes of a sector.
 fn write_over<S: Sectors>(
     updates: &mut Updates,
     base: &mut S,
@@ -75,7 +75,7 @@ fn write_new(
         (placed zero_sector from bytes.now)) }
     ensures count { length updates.new ≤ length updates.old + 1 }
 {
-    // Bytes of a whole sector are not laid over zeros.
+    // The bytes of a whole sector need no zeros below them.
     if let Some(whole) = bytes.first_chunk::<SECTOR>() {
         updates.put(sector, whole)?;
         return Ok(());
@@ -86,7 +86,7 @@ fn write_new(
     Ok(())
 }
 
-/// Takes a sector for a hole.
+/// Allocates a sector for a hole.
 fn take_sector(
     places: &mut SharedBitmap,
     first: u32,
@@ -106,8 +106,7 @@ fn take_sector(
     Ok(first + place)
 }
 
-/// Writes a part within one block, which gets a sector where it is a hole. Tells whether it was
-/// one.
+/// Writes a part within one block, which gets a sector if it is a hole. Returns whether it was one.
 fn write_block<S: Sectors>(
     updates: &mut Updates,
     places: &mut SharedBitmap,
@@ -155,7 +154,7 @@ fn write_block<S: Sectors>(
     }
 }
 
-/// Writes bytes over blocks, part by part; holes on the way get sectors. Tells whether there were
+/// Writes bytes over blocks, part by part; holes on the way get sectors. Returns whether there were
 /// any.
 pub(crate) fn write_blocks<S: Sectors>(
     updates: &mut Updates,
@@ -204,7 +203,7 @@ pub(crate) fn write_blocks<S: Sectors>(
     Ok(filled)
 }
 
-/// The sector of a block, which takes one where it is a hole.
+/// The sector of a block, which allocates one if it is a hole.
 fn sector_for(
     places: &mut SharedBitmap,
     first: u32,
@@ -225,8 +224,8 @@ fn sector_for(
     }
 }
 
-/// Writes the names of a block, which may be a new one after the last. Tells whether it was one or
-/// a hole.
+/// Writes the names of a block, which may be a new one after the last. Returns whether it was new
+/// or a hole.
 pub(crate) fn write_names(
     updates: &mut Updates,
     places: &mut SharedBitmap,
@@ -256,7 +255,7 @@ pub(crate) fn write_names(
     Ok(filled)
 }
 
-/// Writes the names of a block again, where there is such a block.
+/// Writes the names of a block again, if there is such a block.
 pub(crate) fn rewrite_names(
     updates: &mut Updates,
     blocks: &BlockList,
@@ -278,7 +277,7 @@ pub(crate) fn rewrite_names(
     Ok(())
 }
 
-/// Puts zeros from byte `size` of these blocks on, as far as its block reaches.
+/// Puts zeros from byte `size` of these blocks on, up to the end of the block that has it.
 pub(crate) fn clear_tail<S: Sectors>(
     updates: &mut Updates,
     base: &mut S,
@@ -310,7 +309,7 @@ pub(crate) fn clear_tail<S: Sectors>(
     }
 }
 
-/// Puts zeros into a sector from a place on.
+/// Puts zeros into a sector from an offset on.
 fn clear_from<S: Sectors>(
     updates: &mut Updates,
     base: &mut S,

@@ -1,4 +1,4 @@
-//! Why a transaction was given up.
+//! Why a transaction failed.
 
 ghost use Rattle.std.specs.Prelude.{◌≡◌};
 ghost use Rattle.tree_transaction.specs.declared.fault.TransactionFault.TheVariants.{Device};
@@ -10,7 +10,7 @@ use layout::sectors::ReadFault;
 use std::alloc::{AllocError, AllocFailed};
 use thiserror::Error;
 
-/// Why a transaction was given up. It is dropped then: nothing of it is kept.
+/// Why a transaction failed. It is then dropped: nothing of it is kept.
 #[derive(Clone, Copy, Debug, PartialEq, Eq, Error)]
 pub enum TransactionFault {
     /// The device failed.
@@ -24,7 +24,7 @@ pub enum TransactionFault {
     Full,
 }
 
-/// Why a transaction was given up by a call that reads nothing.
+/// Why a transaction failed in a call that reads nothing.
 #[derive(Clone, Copy, Debug, PartialEq, Eq, Error)]
 pub enum SpaceFault {
     /// Memory ran out.

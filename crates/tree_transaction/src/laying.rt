@@ -24,9 +24,9 @@ fn sectors_for(runs: usize) -> usize
     runs.div_ceil(MAX_SECTOR_RUNS)
 }
 
-/// Writes runs, 500 a sector.
+/// Writes runs, 500 in each sector.
 fn lay_runs(updates: &mut Updates, numbers: &[u32], runs: &[Run]) -> Result<(), AllocError>
-    // The sectors, and as many runs as they have room for
+    // The sectors, and no more runs than they have room for
     requires once { AreOnce numbers.now }
     requires few { length numbers.now ≤ 9 }
     requires room { length runs.now ≤ MAX_SECTOR_RUNS * length numbers.now }
@@ -50,7 +50,7 @@ fn store_node_sectors(
     sector: u32,
     cached: &CachedNode,
 ) -> Result<(), AllocError>
-    // A cached node that has a spelling, in sectors that are apart
+    // A cached node that can be encoded, in distinct sectors
     requires fits { IsInode cached.now.form cached.now.fields }
     requires count { length cached.now.runs ≡ cached.now.fields.runs }
     requires once { AreOnce cached.now.fields.run_sectors }
@@ -66,8 +66,8 @@ fn store_node_sectors(
     Ok(())
 }
 
-/// Puts runs into a cached node that has enough run sectors for them, gives the others back, and
-/// writes its node.
+/// Puts runs into a cached node that has enough run sectors for them, frees the others, and writes
+/// its inode.
 pub(crate) fn store_given_runs(
     updates: &mut Updates,
     places: &mut SharedBitmap,
@@ -93,7 +93,7 @@ pub(crate) fn store_given_runs(
     Ok(())
 }
 
-/// Puts a cached node's blocks into runs again, and writes its node.
+/// Encodes the blocks of a cached node as runs again, and writes its inode.
 pub(crate) fn rerun(
     alloc: Global,
     updates: &mut Updates,

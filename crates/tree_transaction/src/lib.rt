@@ -1,5 +1,5 @@
-//! One transaction in the making: sectors that are to be written, and the marks of those that are
-//! taken or given.
+//! A transaction that is being prepared: sectors that are to be written, and the marks of those
+//! that are allocated or freed.
 #![tactic(auto)]
 
 mod blocks;

@@ -1,4 +1,4 @@
-//! The marks of used sectors, written where they change.
+//! The marks of used sectors, written if they change.
 
 ghost use Rattle.std.specs.Prelude.{◌≤◌, ◌<◌, ◌+◌, length, OnOk};
 ghost use Rattle.disk.specs.Moments.{Image, applied};
@@ -11,7 +11,7 @@ use freemap::SharedBitmap;
 use layout::places::BITMAP;
 use std::alloc::AllocError;
 
-/// Writes bitmap sector 0 or 1 where its places are not as before.
+/// Writes bitmap sector 0 or 1 if its places have changed.
 pub(crate) fn put_marks(
     updates: &mut Updates,
     places: &SharedBitmap,

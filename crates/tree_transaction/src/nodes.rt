@@ -1,4 +1,4 @@
-//! Nodes that are made, and what they show.
+//! Nodes that are made, and their metadata.
 
 ghost use Rattle.std.specs.Prelude.{◌≤◌, ◌<◌, ◌+◌, ◌^◌, length, OnOk};
 ghost use Rattle.disk.specs.Moments.{Image, applied};
@@ -13,7 +13,7 @@ use model_tree::acl::Acl;
 use node_table::CachedNode;
 use std::alloc::AllocError;
 
-/// What a node shows beside its content.
+/// The metadata of a node.
 #[derive(Drop)]
 pub struct Shown {
     pub owner: u32,
@@ -21,9 +21,9 @@ pub struct Shown {
     pub acl: Acl,
     /// The change value (RFC 8881, section 5.8.1.4).
     pub change: u64,
-    /// When it was modified last, in nanoseconds since 1970.
+    /// When it was last modified, in nanoseconds since 1970.
     pub time_modify: u64,
-    // What a proof knows so of the numbers without a read.
+    // The ranges of the numbers, which a proof thus knows without a read.
     ghost in_range: { IsInRange owner group change time_modify },
 }
 

@@ -11,7 +11,7 @@ use extents::BlockList;
 use freemap::SharedBitmap;
 use std::alloc::AllocError;
 
-/// Takes sectors until there are so many.
+/// Allocates sectors until there are at least `wanted`.
 pub(crate) fn take_numbers(
     places: &mut SharedBitmap,
     first: u32,
@@ -19,7 +19,7 @@ pub(crate) fn take_numbers(
     wanted: usize,
 ) -> Result<(), SpaceFault>
     requires { first + length places.old ≤ 2 ^ 32 }
-    // How many there are then
+    // How many there are afterwards
     ensures least { OnOk result (wanted ≤ length numbers.new.items) }
     ensures most { length numbers.old.items ≤ wanted → length numbers.new.items ≤ wanted }
     // What it takes
@@ -37,7 +37,7 @@ pub(crate) fn take_numbers(
     Ok(())
 }
 
-/// Gives sectors back until there are no more than so many.
+/// Frees sectors until there are at most `wanted`.
 pub(crate) fn give_numbers(
     places: &mut SharedBitmap,
     first: u32,
@@ -48,7 +48,7 @@ pub(crate) fn give_numbers(
     // How many are left
     ensures most { OnOk result (length numbers.new.items ≤ wanted) }
     ensures least { wanted ≤ length numbers.old.items → wanted ≤ length numbers.new.items }
-    // What it gives back
+    // What it frees
     ensures marks { OnOk result (Follow first places.old places.new
         numbers.old.items numbers.new.items) }
     ensures len { length places.new ≡ length places.old }
@@ -61,7 +61,7 @@ pub(crate) fn give_numbers(
     Ok(())
 }
 
-/// Gives the sectors of the blocks from one on back.
+/// Frees the sectors of the blocks from block `from` on.
 pub(crate) fn give_blocks(
     places: &mut SharedBitmap,
     first: u32,

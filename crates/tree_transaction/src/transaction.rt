@@ -1,4 +1,4 @@
-//! One transaction in the making.
+//! A transaction that is being prepared.
 
 ghost use Rattle.std.specs.Prelude.{◌≡◌, ◌≤◌, ◌<◌, ◌+◌, ◌*◌, ◌/◌, ◌%◌, ◌^◌, false, set, [], Some, None, length, slice_index_or, IfOk, OnOk, IsErrOf};
 ghost use Rattle.node_table.specs.Overlays.{overlaid};
@@ -41,7 +41,7 @@ use layout::sectors::Sectors;
 use node_table::{CachedNode, Changes, Overlay, Table};
 use std::alloc::{AllocError, Global};
 
-/// Cached nodes, places and updates as edits make them.
+/// Cached nodes, places and updates as edits have made them.
 #[derive(Drop)]
 pub struct Transaction<'a> {
     pub alloc: Global,
@@ -51,8 +51,8 @@ pub struct Transaction<'a> {
     pub cards: Overlay<'a>,
 }
 
-/// What a transaction comes to: what is to be written, and what memory is to keep of the volume
-/// then.
+/// The result of a transaction: what is to be written, and what memory is then to keep of the
+/// volume.
 #[derive(Drop)]
 pub struct PreparedTransaction {
     pub updates: Vec<Update>,
@@ -60,7 +60,7 @@ pub struct PreparedTransaction {
     pub changes: Changes,
 }
 
-/// A cached node that was taken out, and whose blocks are written.
+/// A cached node that was taken out and whose blocks are written.
 #[derive(Drop)]
 struct WrittenCard {
     cached: CachedNode,
@@ -89,7 +89,7 @@ fn put_card(cards: &mut Overlay<'_>, place: u32, cached: CachedNode) -> Result<(
     cards.put(place, Some(cached))
 }
 
-/// Lets a cached node show something else beside its content.
+/// Gives a cached node other metadata.
 fn show_in(cached: &mut CachedNode, shown: &Shown) -> Result<(), AllocError>
     ensures { OnOk result (cached.new ≡ showing (shown_of shown.now) cached.old) }
 {
@@ -109,7 +109,7 @@ fn blocks_of(size: u64) -> u32
     size.div_ceil(SECTOR as u64) as u32
 }
 
-/// Lets a file reach to an end at least, by holes.
+/// Extends a file to at least this end, by holes.
 fn grow_to(cached: &mut CachedNode, end: u64) -> Result<(), AllocError>
     requires end { end ≤ SECTOR * BlockList.MAX_BLOCKS }
     requires few { cached.old.fields.size ≤ SECTOR * BlockList.MAX_BLOCKS }
@@ -122,8 +122,8 @@ fn grow_to(cached: &mut CachedNode, end: u64) -> Result<(), AllocError>
 }
 
 impl<'a> Transaction<'a> {
-    /// A transaction that has changed nothing yet, over a table of a volume and the places of its
-    /// data region, whose memory is copied once one is taken or given back.
+    /// A transaction that has changed nothing yet, over a volume's table and the places of its data
+    /// region. The memory of the places is copied once one is allocated or freed.
     pub fn new(
         alloc: Global,
         table: &'a Table,
@@ -146,7 +146,7 @@ impl<'a> Transaction<'a> {
         })
     }
 
-    /// What the transaction comes to. The table is borrowed no longer.
+    /// The result of the transaction. The table is no longer borrowed.
     pub fn into_prepared(self) -> PreparedTransaction
         ensures updates { result.updates.items ≡ self.entry.updates }
         ensures places { result.places ≡ self.entry.places }
@@ -163,7 +163,7 @@ impl<'a> Transaction<'a> {
     ///
     /// # Errors
     ///
-    /// Memory alone.
+    /// Only memory.
     pub fn make(&mut self, place: u32, cached: CachedNode) -> Result<(), AllocError>
         requires known { IsKnown self.old }
         requires free { IsFree (cards_of self.old) place }
@@ -183,11 +183,11 @@ impl<'a> Transaction<'a> {
         Ok(())
     }
 
-    /// Lets a node show something else beside its content.
+    /// Gives a node other metadata.
     ///
     /// # Errors
     ///
-    /// Memory alone.
+    /// Only memory.
     pub fn show(&mut self, place: u32, shown: &Shown) -> Result<(), AllocError>
         requires known { IsKnown self.old }
         requires node { CanShow (cards_of self.old) place (shown_of shown.now) }
@@ -207,11 +207,11 @@ impl<'a> Transaction<'a> {
         Ok(())
     }
 
-    /// Removes a node: its place gets zeros, and its sectors are given back.
+    /// Removes a node: its place gets zeros, and its sectors are freed.
     ///
     /// # Errors
     ///
-    /// Memory alone.
+    /// Only memory.
     pub fn free(&mut self, place: u32) -> Result<(), AllocError>
         requires known { IsKnown self.old }
         requires node { HasNode (cards_of self.old) place }
@@ -234,7 +234,7 @@ impl<'a> Transaction<'a> {
     ///
     /// # Errors
     ///
-    /// [`SpaceFault::Memory`], and [`SpaceFault::Full`] where no sector is free.
+    /// [`SpaceFault::Memory`], and [`SpaceFault::Full`] if no sector is free.
     pub fn put_name(
         &mut self,
         place: u32,
@@ -256,7 +256,7 @@ impl<'a> Transaction<'a> {
         ensures table { self.new.cards.table ≡ self.old.cards.table }
     {
         let mut cached = take_card(&mut self.cards, place)?;
-        // There is room for the name, so memory alone can be missing.
+        // There is room for the name, so it can only be memory that is lacking.
         let Ok(at) = cached.names.put(name, stamp, number) else {
             return Err(SpaceFault::Memory);
         };
@@ -273,11 +273,11 @@ impl<'a> Transaction<'a> {
         Ok(())
     }
 
-    /// Drops a name of a directory; the last record moves into its place.
+    /// Removes a name from a directory; the last record moves into its place.
     ///
     /// # Errors
     ///
-    /// Memory alone.
+    /// Only memory.
     pub fn drop_name(&mut self, place: u32, name: &[u8]) -> Result<(), AllocError>
         requires known { IsKnown self.old }
         requires names { HasNameAt (cards_of self.old) place name.now }
@@ -304,11 +304,11 @@ impl<'a> Transaction<'a> {
         Ok(())
     }
 
-    /// Lets a file reach to this size, by holes.
+    /// Extends a file to this size, by holes.
     ///
     /// # Errors
     ///
-    /// Memory alone.
+    /// Only memory.
     pub fn grow(&mut self, place: u32, size: u64) -> Result<(), AllocError>
         requires known { IsKnown self.old }
         requires file { CanGrow (cards_of self.old) place size }
@@ -328,11 +328,11 @@ impl<'a> Transaction<'a> {
         Ok(())
     }
 
-    /// Cuts a file to this size.
+    /// Truncates a file to this size.
     ///
     /// # Errors
     ///
-    /// [`TransactionFault::Device`] where the device failed, [`TransactionFault::Memory`].
+    /// [`TransactionFault::Device`] if the device failed, [`TransactionFault::Memory`].
     pub fn cut<S: Sectors>(
         &mut self,
         base: &mut S,
@@ -365,13 +365,13 @@ impl<'a> Transaction<'a> {
         Ok(())
     }
 
-    /// Writes bytes into a file from a place on. Holes on the way get sectors, and the file grows
-    /// where the bytes pass its end. Of 8,192 bytes that makes 13 updates at most.
+    /// Writes bytes into a file from an offset on. Holes on the way get sectors, and the file grows
+    /// if the bytes pass its end. For 8,192 bytes that makes at most 13 updates.
     ///
     /// # Errors
     ///
-    /// [`TransactionFault::Device`] where the device failed, [`TransactionFault::Memory`], and
-    /// [`TransactionFault::Full`] where no sector is free.
+    /// [`TransactionFault::Device`] if the device failed, [`TransactionFault::Memory`], and
+    /// [`TransactionFault::Full`] if no sector is free.
     pub fn write<S: Sectors>(
         &mut self,
         base: &mut S,
@@ -403,8 +403,8 @@ impl<'a> Transaction<'a> {
         Ok(())
     }
 
-    /// Takes the cached node of a file out, lets it reach to the end of these bytes, and writes
-    /// them into its blocks.
+    /// Takes the cached node of a file out, extends it to the end of these bytes, and writes them
+    /// into its blocks.
     fn write_blocks_of<S: Sectors>(
         &mut self,
         base: &mut S,
@@ -444,12 +444,12 @@ impl<'a> Transaction<'a> {
         Ok(WrittenCard { cached, filled })
     }
 
-    /// Writes the marks of the places where they are not as before: the last step. What is to be
-    /// written is whole then.
+    /// Writes the marks of the places if they have changed. This is the last step: what is to be
+    /// written is then complete.
     ///
     /// # Errors
     ///
-    /// Memory alone.
+    /// Only memory.
     pub fn finish(&mut self, before: &SharedBitmap) -> Result<(), AllocError>
         requires { IsKnown self.old }
         ensures laid { OnOk result (Finishes before.now self.old self.new) }
@@ -466,8 +466,8 @@ impl<'a> Transaction<'a> {
         Ok(())
     }
 
-    /// Puts a cached node whose blocks were written back. Its runs are laid anew only where holes
-    /// got sectors.
+    /// Puts a cached node whose blocks were written back. Its runs are rewritten only if holes got
+    /// sectors.
     fn store_written(&mut self, place: u32, mut written: WrittenCard) -> Result<(), SpaceFault>
         requires can { CanBeLaid self.old.nodes place self.old.places written.cached }
         requires within { place < length (cards_of self.old) }
@@ -494,14 +494,14 @@ impl<'a> Transaction<'a> {
             )?;
             put_card(&mut self.cards, place, written.cached)?;
         } else {
-            // The runs of its blocks are as they were.
+            // The runs of its blocks have not changed.
             self.store_node(place, written.cached)?;
         }
         Ok(())
     }
 
-    /// Puts a cached node back that had so many blocks before. Its runs are laid anew only where it
-    /// has fewer.
+    /// Puts a cached node back that had `before` blocks before. Its runs are rewritten only if it
+    /// now has fewer.
     fn store_cut(&mut self, place: u32, cached: CachedNode, before: u32) -> Result<(), AllocError>
         requires can { CanBeLaid self.old.nodes place self.old.places cached }
         requires within { place < length (cards_of self.old) }
@@ -522,7 +522,7 @@ impl<'a> Transaction<'a> {
         Ok(())
     }
 
-    /// Puts a cached node that was taken out back, and writes its node alone.
+    /// Puts a cached node that was taken out back, and writes only its inode.
     fn store_node(&mut self, place: u32, cached: CachedNode) -> Result<(), AllocError>
         requires fits { IsInode cached.form cached.fields }
         requires within { place < length (cards_of self.old) }
@@ -543,8 +543,8 @@ impl<'a> Transaction<'a> {
         Ok(())
     }
 
-    /// Puts the blocks of a cached node that was taken out into runs again, for which it has run
-    /// sectors enough, writes its node, and puts it back.
+    /// Encodes the blocks of a cached node that was taken out as runs again, for which it has
+    /// enough run sectors, writes its inode, and puts it back.
     fn store_node_and_runs(&mut self, place: u32, mut cached: CachedNode) -> Result<(), AllocError>
         requires can { CanBeLaid self.old.nodes place self.old.places cached }
         requires within { place < length (cards_of self.old) }

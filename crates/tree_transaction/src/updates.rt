@@ -18,16 +18,16 @@ use layout::sectors::{ReadFault, Sectors};
 use std::alloc::{AllocError, Global};
 use std::marker::Model;
 
-/// For so many updates there is room from the first one on: a WRITE of whole blocks has three.
+/// The number of updates for which the first one makes room: a WRITE of whole blocks has three.
 const ROOM: usize = 8;
 
-/// Updates of different sectors. Those of inodes are encoded when the list is returned, so each
-/// once, however often its inode changed. Contracts see the list with all of them encoded.
+/// Updates of distinct sectors. Those of inodes are encoded when the list is returned, so only once
+/// each, however often the inode changed. Contracts see the list with all of them encoded.
 #[derive(Drop)]
 pub struct Updates {
     alloc: Global,
     list: Vec<Update>,
-    /// For each update the inode that it is to hold, if it is not encoded yet.
+    /// For each update, the inode that it is to hold, if it is not encoded yet.
     pending: Vec<Option<PendingInode>>,
 }
 
@@ -56,7 +56,7 @@ impl Updates {
         }
     }
 
-    /// Tells that no two of them are of one sector.
+    /// States that no two of them are of the same sector.
     pub(crate) fn tell_apart(&self)
         ensures { UpdatesApart self.now }
     {
@@ -79,7 +79,7 @@ impl Updates {
         }
     }
 
-    /// One update more, in place of the one of its sector. An `Err` changes nothing.
+    /// One more update, in place of the one of its sector. An `Err` changes nothing.
     pub fn put(&mut self, target: u32, content: &[u8; SECTOR]) -> Result<(), AllocError>
         ensures list { OnOk result (self.new
             ≡ updated self.old (record { target = target; content = content.now })) }
@@ -96,7 +96,7 @@ impl Updates {
         Ok(())
     }
 
-    /// The same of the sector of an inode, which is encoded later.
+    /// The same for the sector of an inode, which is encoded later.
     pub(crate) fn put_inode(
         &mut self,
         target: u32,
@@ -118,7 +118,7 @@ impl Updates {
         Ok(())
     }
 
-    /// The same of a run sector, which is encoded where it stays.
+    /// The same for a run sector, which is encoded in its final place.
     pub(crate) fn put_runs(&mut self, target: u32, runs: &[Run]) -> Result<(), AllocError>
         requires { length runs.now ≤ MAX_SECTOR_RUNS }
         ensures image { OnOk result ((image : Image)
@@ -134,7 +134,7 @@ impl Updates {
         Ok(())
     }
 
-    /// The updates, for whoever writes them.
+    /// The updates, for the caller to write.
     pub fn into_vec(self) -> Vec<Update>
         ensures { result.items ≡ self }
     {
@@ -148,9 +148,9 @@ impl Updates {
     }
 }
 
-/// The place of the update of a sector, which is one of zeros after the others where there was
-/// none: what it is to hold is put where it stays. The first one takes room for most transactions.
-/// An `Err` changes nothing.
+/// The place of the update of a sector. If there was none, this appends one of zeros: what it is to
+/// hold is put in its final place. The first one makes room for most transactions. An `Err` changes
+/// nothing.
 fn place_for(
     list: &mut Vec<Update>,
     pending: &mut Vec<Option<PendingInode>>,
@@ -184,7 +184,7 @@ fn place_for(
     Ok(last)
 }
 
-/// Puts a content into an update.
+/// Puts a sector's content into an update.
 fn fill(
     list: &mut Vec<Update>,
     pending: &mut Vec<Option<PendingInode>>,
@@ -204,7 +204,7 @@ fn fill(
     pending[place] = None;
 }
 
-/// Puts the encoding of runs into an update.
+/// Encodes runs into an update.
 fn fill_runs(
     list: &mut Vec<Update>,
     pending: &mut Vec<Option<PendingInode>>,
@@ -266,7 +266,7 @@ fn encode_at(list: &mut Vec<Update>, place: usize, inode: &Option<PendingInode>)
     }
 }
 
-/// Where the update of a sector stands.
+/// The place of the update of a sector.
 fn place_of(updates: &[Update], target: u32) -> Option<usize>
     ensures some { IfSome result (λ place. IsFirst updates.now target place) }
     ensures none { IfNone result (HasNoUpdate target updates.now) }

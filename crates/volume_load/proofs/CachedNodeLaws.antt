@@ -29,7 +29,7 @@ use Rattle.volume_load.proofs.MarkingLaws.{most-some, can_more, can_marked}
 use Rattle.volume_load.proofs.NameLaws.{same_at}
 use Rattle.volume_load.proofs.RunLaws.{all-take, all-drop}
 
--- One list of runs, and one of blocks, is found at most
+-- At most one list of runs, and one of blocks, is found
 
 no_run : Run
 no_run = record { block = 0; length = 0; sector = 0 }

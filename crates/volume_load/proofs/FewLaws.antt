@@ -1,4 +1,5 @@
--- A well-formed tree has no file of more than 16,777,216 bytes, so no node has more than 4,096 blocks.
+-- A well-formed tree, in a version whose files have at most 16,777,216 bytes, has no node with more
+-- than 4,096 blocks.
 use Rattle.std.proofs.Common.{◌≡◌, ◌≤◌, ℕ, None, length, refl, sym, ap, subst, ◌∙◌, arith, inl, inr}
 use Rattle.std.proofs.Props.{props}
 use Rattle.std.proofs.Math.Logic.{∥∥₁_elim}

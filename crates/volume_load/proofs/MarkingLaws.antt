@@ -1,4 +1,4 @@
--- Marking one sector after the other.
+-- Marking sectors one by one.
 use Rattle.std.proofs.Common.{◌≡◌, ◌≤◌, ◌<◌, ◌+◌, ◌-◌, ℕ, zero, suc, Bool, true, false, List, [], ◌∷◌, Option, Some, None, length, get_or, set, take, refl, ap, ◌∙◌, arith, inl, inr, eqb, lt-ltb, le-ltb, slice_get}
 use Rattle.std.proofs.lemmas.Bool.{cases_lt, lt-leb, le-leb}
 use Rattle.std.proofs.lemmas.List.{length-set}
@@ -35,7 +35,7 @@ most-le first count n = elim (cases_lt n first) [
   ]
 ]
 
--- where a sector has all its marks it cannot be marked once more
+-- a sector that has all its marks cannot be marked again
 cannot : (first : ℕ) (places : List Bool) (sector : ℕ) → max_marks first (length places) sector ≤ mark_by first places sector → CanMark first places (λ n. once_if (eqb n sector)) → ⊥
 cannot first places sector full can = omega (arith, can sector, once-here sector)
 
@@ -58,7 +58,7 @@ marks_one first places place sector high at free =
       marks = λ n. each.taken free n ∙ ap (λ (s : ℕ). mark_by first places n + once_if (eqb n s)) is;
     }
 
--- One after the other
+-- One by one
 
 pub marked_none : (first : ℕ) (places : List Bool) (often : ℕ → ℕ) → ((n : ℕ) → often n ≡ 0) → AreMarked first places places often
 marked_none first places often none = record { len = refl; marks = λ n. omega (arith, none n) }

@@ -1,4 +1,4 @@
--- The mark of a migration, and the seats in front of it.
+-- The mark of a migration, and the seats before it.
 use Rattle.std.proofs.Common.{◌≡◌, ◌≤◌, ◌<◌, ◌+◌, ◌-◌, ◌/◌, ◌%◌, ◌^◌, ℕ, List, Option, Some, None, length, get_or, drop, refl, sym, ap, ◌∙◌, arith, inl, inr}
 use Rattle.std.specs.Int.{w32, from_be_bytes}
 use Rattle.std.proofs.lemmas.Bool.{cases_eq, cases_lt}
@@ -16,7 +16,7 @@ use Rattle.seats.specs.Spelling.{seat_sector, seats_sector}
 use Rattle.volume_load.specs.Sectors.{AreSpare, AreZeroFrom}
 use Rattle.volume_load.proofs.SectorLaws.{zero-all}
 
--- A mark's sector begins with a byte that is not zero, and tells how many places it is of
+-- A mark's sector begins with a byte that is not zero, and says how many places the mark counts
 
 starts : (moved : ℕ) → get_or (mark_sector moved) 0 0 ≡ 77
 unfolding mark_sector
@@ -29,7 +29,7 @@ moved-back : (moved : ℕ) → moved < 2 ^ 32 → from_be_bytes w32 (drop 4 (mar
 unfolding mark_sector
 moved-back moved fits = from_be_bytes-to_be_bytes_4 moved fits
 
--- so one mark at most stands there
+-- so at most one mark is there
 
 pub mark_fits : (number : VersionNumber) (nodes : ℕ) (mark : Option ℕ) → nodes < 2 ^ 32 → IsMark number nodes mark → moved_by mark < 2 ^ 32
 mark_fits number nodes None small is = omega arith
@@ -43,7 +43,7 @@ one_mark (Some moved) None first second same = absurd (not_zero moved same)
 one_mark (Some moved) (Some other) first second same =
     ap (λ (n : ℕ). Some n) (sym (moved-back moved first) ∙ ap (λ (l : List ℕ). from_be_bytes w32 (drop 4 l)) same ∙ moved-back other second)
 
--- a sector that is not zero is that of no mark but the one that its word tells
+-- a sector that is not zero belongs to no mark except the one that its word gives
 pub told : (content : List ℕ) (number : ℕ) (mark : Option ℕ) → (AreZeroFrom content 0 → ⊥) → number ≡ from_be_bytes w32 (drop 4 content) → moved_by mark < 2 ^ 32 → content ≡ mark_held mark → (let some : Option ℕ = Some number in some ≡ mark)
 told content number None other is fits same = absurd (other (zero-all content 0 same))
 told content number (Some moved) other is fits same = ap (λ (n : ℕ). Some n) (is ∙ ap (λ (l : List ℕ). from_be_bytes w32 (drop 4 l)) same ∙ moved-back moved fits)

@@ -13,7 +13,7 @@ use Rattle.layout.specs.Laid.{names_of_block}
 use Rattle.volume_load.specs.Names.{FindsPart, FindsRecords, FindsNames}
 use Rattle.volume_load.proofs.RunLaws.{all-append, all-take, all-drop}
 
--- the names of the first so many blocks: all of them are full, but perhaps the last
+-- the names of the first `i` blocks, all of which are full, except perhaps the last
 pub record AreReadTo (word : Type 0) (image : Image) (blocks : List (Option ℕ)) (count : ℕ) (i : ℕ) (names : List Record) : Type 0 where
   pub each : AllByRecursion IsRecord names
   pub long : length names ≡ min (15 * i) count
@@ -53,7 +53,7 @@ pub no_hole : (word : Type 0) (image : Image) (blocks : List (Option ℕ)) (coun
 no_hole word image blocks count i names w found h none =
     not_empty (names_of_block i names) (omega (arith, length-take 15 (drop (15 * i) names))) (ap (content_at image) (sym none) ∙ found.spelled w i h)
 
--- One list of names at most is found
+-- At most one list of names is found
 
 no_name : Record
 no_name = record_from 0 [] 0

@@ -1,4 +1,4 @@
--- Sorted numbers are apart exactly where no two neighbours are the same.
+-- Sorted numbers are distinct exactly if no two neighbours are the same.
 use Rattle.std.proofs.Common.{◌≡◌, ◌≢◌, ◌≤◌, ◌<◌, ◌+◌, ℕ, zero, suc, List, [], ◌∷◌, length, get_or, refl, sym, ◌∙◌, arith, inl, inr, eqb, eq-eqb, ne_eqb}
 use Rattle.std.proofs.lemmas.Bool.{cases_eq}
 use Rattle.std.specs.List.Sorted.{IsPermutation, IsNonDecreasing}
@@ -6,7 +6,7 @@ use Rattle.layout.specs.Marks.{once_if, times}
 use Rattle.layout.proofs.NumberLaws.{times-moved, place-of, rising, once-each}
 use Rattle.volume_load.specs.Numbers.{AreDifferent}
 
--- a number that two places have stands twice
+-- a number at two places occurs twice
 
 pub times-at : (n : ℕ) (xs : List ℕ) (i : ℕ) → i < length xs → get_or xs i 0 ≡ n → 1 ≤ times n xs
 times-at n [] i h is = absurd (omega arith)
@@ -27,7 +27,7 @@ sorted_apart numbers sorted moved apart i h same =
     let n = get_or sorted i 0 in
     omega (arith, apart n, times-moved n numbers sorted moved, times-twice n sorted i (i + 1) (omega arith) h refl (sym same))
 
--- where no two places have one number, none stands twice
+-- if no two places have the same number, none occurs twice
 pub once : (xs : List ℕ) → ((i j : ℕ) → i < j → j < length xs → get_or xs i 0 ≢ get_or xs j 0) → (n : ℕ) → times n xs ≤ 1
 once [] apart n = omega arith
 once (x ∷ xs) apart n = elim (cases_eq n x) [

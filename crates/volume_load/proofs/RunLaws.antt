@@ -39,7 +39,7 @@ fills content count runs found some few = record { some = omega (arith, found.co
 
 -- The first sectors
 
--- the runs of the first so many sectors: all of them are full, but perhaps the last
+-- the runs of the first `i` sectors, all of which are full, except perhaps the last
 pub record AreReadTo (word : Type 0) (image : Image) (sectors : List ℕ) (count : ℕ) (i : ℕ) (runs : List Run) : Type 0 where
   pub each : AllByRecursion IsRun runs
   pub long : length runs ≡ min (500 * i) count
@@ -60,7 +60,7 @@ all-drop P (suc n) [] all = tt
 all-drop P (suc n) (x ∷ xs) all = all-drop P n xs all.1
 
 module _ (word : Type 0) (image : Image) (sectors : List ℕ) (count : ℕ) (i : ℕ) (runs part : List Run) (far : AreReadTo word image sectors count i runs) (within : 500 * i < count) where
-  -- the sectors in front are full, so they stay what they are
+  -- the sectors before are full, so they remain what they are
   front_same : (k : ℕ) → k < i → runs_of_sector k (runs ++ part) ≡ runs_of_sector k runs
   front_same k h = ap (take 500) (drop-append-le (500 * k) runs part (omega (arith, far.long))) ∙ take-append-le 500 (drop (500 * k) runs) part (omega (arith, length-drop (500 * k) runs, far.long))
 

@@ -37,11 +37,11 @@ hold_one image seats place few holds k h =
 pub place_of : (seats : Seats) (place : ℕ) → place < 5 → ArePlaces seats → IsSeatPlace (get_or seats place None)
 place_of seats place few are = each_at IsSeatPlace seats place None are.each (omega (arith, are.five))
 
--- so they hold one list of seats at most
+-- so they hold at most one list of seats
 pub one_seats : SeatsReadBack → (image : Image) (a b : Seats) → ArePlaces a → ArePlaces b → HoldSeats image a → HoldSeats image b → a ≡ b
 one_seats back image a b first second holds other = sym (back a (λ n. image (100 + n)) first holds) ∙ back b (λ n. image (100 + n)) second other
 
--- Seats that are apart
+-- Seats of distinct sessions
 
 pub apart_drop : (i : ℕ) (seats : Seats) → SeatsApart seats → SeatsApart (drop i seats)
 apart_drop zero seats apart = apart
@@ -76,7 +76,7 @@ seated_other id seats i seat h is other =
     ap (has_seat id) (rest-at seats i (Some seat) h is)
     ∙ ap (λ (b : Bool). is_some (if b then Some seat else seat_of id (drop (i + 1) seats))) other
 
--- Sessions that were made in one of so many runs
+-- Sessions that were made in one of the runs up to a last one
 
 either_way : (id : List ℕ) (seat : Seat) (seats : Seats) (b : Bool) → is_seat_of id seat ≡ b → has_seat id seats ≡ true → has_seat id (Some seat ∷ seats) ≡ true
 either_way id seat seats true is has = ap (λ (b : Bool). is_some (if b then Some seat else seat_of id seats)) is

@@ -1,4 +1,4 @@
--- A sector of zeros, and what a refusal of a part was.
+-- A sector of zeros, and which fault a part gave.
 use Rattle.std.proofs.Common.{◌≡◌, ℕ, List, Option, Some, None, length, get_or, refl, sym, ap, ◌∙◌, arith}
 use Rattle.std.proofs.lemmas.List.{ext_get_or, length-replicate}
 use Rattle.std.specs.Prelude.{Result, Err, IsErrAnd}
@@ -30,7 +30,7 @@ pub finds-here : (word : Type 0) (form : Form) (content there : List ℕ) (field
 finds-here word form content there None w same found = λ u. same ∙ found w
 finds-here word form content there (Some fields) w same found = record { fits = found.fits; number = found.number; spelled = λ u. same ∙ found.spelled w }
 
--- What a refusal of a part was, where that of the whole is Damaged
+-- Which fault a part gave, if the whole is `Damaged`
 
 refused_by : {T : Type 0} (result : Result T ScanFault) (given made : ScanFault) → result ≡ Err made → made ≡ given → result ≡ Err Damaged → given ≡ Damaged
 refused_by result given made is gives damaged = cc

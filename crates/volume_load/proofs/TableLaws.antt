@@ -20,7 +20,7 @@ use Rattle.layout.proofs.MarkProofs.{mark-front, mark-back}
 use Rattle.volume_load.specs.CachedNodes.{FindsPlace, ArePlaces, numbers_of}
 use Rattle.volume_load.specs.Names.{FindsContent}
 
--- What is found is held where the device keeps its word, and what is held is found
+-- What is found is held if the device keeps its word, and what is held is found
 
 content_held : (word : Type 0) (image : Image) (kind : NodeKind) (card : CachedNode) → word → FindsContent word image kind card.fields.size card.blocks card.names → HoldsContent image kind card
 content_held word image kind.File card w found = record { unnamed = found.unnamed; tail = found.tail w }
@@ -88,7 +88,7 @@ place_found word form image place (Some card) forms few holds = record {
   };
 }
 
--- so one cached node at most is found at a place
+-- so at most one cached node is found at a place
 pub one_place : (word : Type 0) (form : Form) (image : Image) (place : ℕ) (a b : Option CachedNode) → word → FindsPlace word form image place a → FindsPlace word form image place b → a ≡ b
 one_place word form image place a b w first second = sym (cached-back image place a (place_held word form image place a w first)) ∙ cached-back image place b (place_held word form image place b w second)
 
@@ -107,7 +107,7 @@ named-front n (one ∷ front) (card ∷ cards) h same =
     let e : namings_of n one ≡ namings_of n card = ap (namings_of n) first in
     omega (arith, named-front n front cards (omega arith) (λ p below. same (suc p) (omega arith)))
 
--- of a table whose first places are those that were found, the next one can be marked
+-- if a table begins with those that were found, its next place can be marked
 pub next_fits : (word : Type 0) (form : ℕ → Form) (image : Image) (nodes n : ℕ) (front cards : List (Option CachedNode)) → word → length cards ≡ nodes → length front < nodes → ((p : ℕ) → p < length front → FindsPlace word (form p) image p (get_or front p None)) → ArePlaces word form image nodes cards
     → named n front + namings_of n (get_or cards (length front) None) ≤ named n cards
 next_fits word form image nodes n front cards w many h found each =
@@ -123,7 +123,7 @@ mark-none first count n = elim (cases_lt n first) [
   ])
 ]
 
--- one place more
+-- one more place
 pub each_more : (word : Type 0) (form : ℕ → Form) (image : Image) (cards : List (Option CachedNode)) (card : Option CachedNode) (place : ℕ) → length cards ≡ place → ((p : ℕ) → p < place → FindsPlace word (form p) image p (get_or cards p None)) → FindsPlace word (form place) image place card
     → (p : ℕ) → p < place + 1 → FindsPlace word (form p) image p (get_or (cards ++ card ∷ []) p None)
 each_more word form image cards card place long each found p h = elim (cases_lt p place) [

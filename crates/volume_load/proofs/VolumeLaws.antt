@@ -23,7 +23,7 @@ use Rattle.volume_load.proofs.MigrationLaws.{mark_fits, one_mark, mark_there, sa
 use Rattle.volume_load.proofs.MigrationLaws.{spare_there}
 use Rattle.volume_load.proofs.TableLaws.{place_held, place_known, place_found, one_place}
 
--- in versions one and two the marks stand in sectors
+-- in versions one and two the marks are in sectors
 pub version_marking : (number : VersionNumber) (mark : Option ℕ) (seats : Seats) → (version_by number mark seats).marking ≡ InSectors
 version_marking One mark seats = refl
 version_marking Two mark seats = refl
@@ -47,7 +47,7 @@ laid_can word number mark seats image size nodes count cards sized laid few = re
   ];
 }
 
--- by the one mark that stands there
+-- by the one mark that is there
 pub record LaidHere (number : VersionNumber) (mark : Option ℕ) (seats : Seats) (image : Image) (size nodes : ℕ) (cards : List (Option CachedNode)) : Type 0 where
   pub may : MayHaveSeats number mark seats
   pub laid : IsLaid (version_by number mark seats) size nodes image cards
@@ -92,13 +92,13 @@ module _ (nodes : ℕ) (image : Image) (places : List Bool) (marks : (n : ℕ) �
   part_bits (suc zero) h = high_bits
   part_bits (suc (suc part)) h = absurd (omega arith)
 
--- of cached nodes that are laid the marks that were made are those of the bitmap
+-- if cached nodes are laid, the marks that were made are those of the bitmap
 pub same_marks : (word : Type 0) (version : Version) (form : ℕ → Form) (image : Image) (size nodes count : ℕ) (cards others : List (Option CachedNode)) (places : List Bool) → word → IsFound word form image nodes count cards places → CanHold word form image nodes count others → version.marking ≡ InSectors → IsLaid version size nodes image others
     → (n : ℕ) → mark_in nodes image n ≡ mark_by (148 + nodes) places n
 same_marks word version form image size nodes count cards others places w found can marking laid n =
     sym (laid.laid.marks n ∙ ap (λ (m : Marking). marked_by m nodes image others n) marking) ∙ ap (named n) (sym (one_table word form image nodes count cards others places w found can)) ∙ sym (found.marks n)
 
--- What is found of all is read
+-- What is found of all parts is read
 
 module _ (word : Type 0) (number : VersionNumber) (run : ℕ) (mark : Option ℕ) (seats : Seats) (image : Image) (size nodes count : ℕ) (cards : List (Option CachedNode)) (places : List Bool) (sized : size ≡ 148 + nodes + count) (small : count ≤ 65536) (marked : IsMark number nodes mark) (may : MayHaveSeats number mark seats) (keeps : AreKept run seats)
     (found : IsFound word (version_by number mark no_seats).form image nodes count cards places) (apart : AreNumbered cards) (low : word → ShowsPlaces (image 98) places 0) (high : word → ShowsPlaces (image 99) places 32768) (there : word → image 147 ≡ mark_held mark) (holds : word → HoldSeats image seats) (spare : word → AreSpare image) where

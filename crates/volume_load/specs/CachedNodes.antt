@@ -18,7 +18,7 @@ use Rattle.volume_load.specs.Runs.{FindsRuns}
 abbrev pub uses : Fields → List (Option ℕ) → (n : ℕ) → ℕ
 uses fields blocks n = times n fields.run_sectors + times_set n blocks
 
--- what a node's run sectors hold of it, which has 4,096 blocks at most
+-- what the run sectors of a node that has at most 4,096 blocks hold
 pub record FindsBlocks (word : Type 0) (image : Image) (fields : Fields) (runs : List Run)
     (blocks : List (Option ℕ)) : Type 0 where
   pub in_sectors : FindsRuns word image fields.run_sectors fields.runs runs
@@ -31,7 +31,7 @@ pub record FindsRest (word : Type 0) (image : Image) (card : CachedNode) : Type 
   pub in_blocks : FindsBlocks word image card.fields card.runs card.blocks
   pub content : FindsContent word image card.fields.kind card.fields.size card.blocks card.names
 
--- a place whose own form this is
+-- a place whose node has this form
 pub record FindsCard (word : Type 0) (own : Form) (image : Image) (place : ℕ) (card : CachedNode)
     : Type 0 where
   pub form : card.form ≡ own
@@ -56,7 +56,7 @@ pub record IsFound (word : Type 0) (form : ℕ → Form) (image : Image) (nodes 
   pub len : length places ≡ count
   pub marks : (n : ℕ) → mark_by (148 + nodes) places n ≡ named n cards
 
--- a table that names each sector of the data region once at most, and no other
+-- a table that names each sector of the data region at most once, and no other sector
 pub record CanHold (word : Type 0) (form : ℕ → Form) (image : Image) (nodes count : ℕ)
     (cards : List (Option CachedNode)) : Type 0 where
   pub many : length cards ≡ nodes

@@ -1,4 +1,4 @@
--- What a fault of a part is as one of the whole.
+-- The fault of the whole for each fault of a part.
 use Rattle.inode.specs.declared.fault.InodeFault.{InodeFault}
 use Rattle.inode.specs.declared.fault.InodeFault.TheVariants as inode
 use Rattle.extents.specs.declared.fault.ExtentsFault.{ExtentsFault}

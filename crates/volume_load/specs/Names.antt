@@ -15,14 +15,14 @@ abbrev pub AreSetWithin : (size : ℕ) → List (Option ℕ) → Type 0
 AreSetWithin size blocks =
     (i sector : ℕ) → slice_index_or blocks i None ≡ Some sector → sector < size
 
--- so many records in one sector
+-- `count` records in one sector
 pub record FindsPart (word : Type 0) (content : List ℕ) (count : ℕ) (names : List Record)
     : Type 0 where
   pub each : AllByRecursion IsRecord names
   pub count_is : length names ≡ count
   pub spelled : word → content ≡ directory_sector names
 
--- so many in all blocks
+-- `count` records in all blocks
 pub record FindsRecords (word : Type 0) (image : Image) (blocks : List (Option ℕ)) (count : ℕ)
     (names : List Record) : Type 0 where
   pub each : AllByRecursion IsRecord names

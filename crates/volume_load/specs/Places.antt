@@ -1,5 +1,5 @@
--- What is found at a place of the node table. Of what is read something is known whatever the
--- sectors hold; that they hold it only where the device keeps its word, which is `word` here.
+-- What is found at a place of the node table. Something is known of what is read, whatever the
+-- sectors hold; that they hold it, only if the device keeps its word, which is `word` here.
 use Rattle.std.specs.Prelude.{◌≡◌, ◌<◌, ℕ, List, Option, Some, None}
 use Rattle.disk.specs.Calls.{zero_sector}
 use Rattle.inode.specs.declared.node.Form.{Form}

@@ -6,14 +6,14 @@ use Rattle.extents.specs.declared.run.Run.{Run}
 use Rattle.extents.specs.Sector.{run_sector, IsRun}
 use Rattle.layout.specs.Laid.{AreRunSectors}
 
--- so many runs in one sector
+-- `count` runs in one sector
 pub record FindsPart (word : Type 0) (content : List ℕ) (count : ℕ) (runs : List Run)
     : Type 0 where
   pub each : AllByRecursion IsRun runs
   pub count_is : length runs ≡ count
   pub spelled : word → content ≡ run_sector runs
 
--- so many in all of them
+-- `count` runs in all of them
 pub record FindsRuns (word : Type 0) (image : Image) (sectors : List ℕ) (count : ℕ)
     (runs : List Run) : Type 0 where
   pub each : AllByRecursion IsRun runs

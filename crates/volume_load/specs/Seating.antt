@@ -6,15 +6,15 @@ use Rattle.layout.specs.Stands.{AreKept}
 use Rattle.model_tree.specs.Seats.Seats.{Seat, Seats, no_seats, run_of}
 use Rattle.seats.specs.Spelling.{seat_sector}
 
--- the nine sectors of a place hold its seat, or that it is free
+-- the nine sectors of a place encode its seat, or that it is free
 abbrev pub HoldPlace : Image → (place : ℕ) → Option Seat → Type 0
 HoldPlace image place seat = (k : ℕ) → k < 9 → image (100 + (9 * place + k)) ≡ seat_sector k seat
 
--- a session of this id was made in one of so many runs
+-- a session with this id was made in one of the runs up to `run`
 abbrev pub IsOfRuns : (run : ℕ) → (id : List ℕ) → Type 0
 IsOfRuns run id = (1 ≤ run_of id) × (run_of id ≤ run)
 
--- so was the one of a place, where one has it
+-- so was the session of a place, if it has one
 abbrev pub IsMade : (run : ℕ) → Option Seat → Type 0
 IsMade run None = Unit {0}
 IsMade run (Some seat) = IsOfRuns run seat.session
@@ -22,7 +22,7 @@ IsMade run (Some seat) = IsOfRuns run seat.session
 abbrev pub AreMade : (run : ℕ) → Seats → Type 0
 AreMade run seats = AllByRecursion (IsMade run) seats
 
--- seats that a volume may keep which was mounted so often: none where it may keep none
+-- seats that a volume may keep that was mounted `run` times: none if it may keep none
 pub record MayStand (run : ℕ) (may_keep : Bool) (seats : Seats) : Type 0 where
   pub kept : AreKept run seats
   pub none : (may_keep ≡ true) ⊎ (seats ≡ no_seats)

@@ -16,10 +16,10 @@ abbrev pub AreFew : List (Option CachedNode) → Type 0
 AreFew cards = (place : ℕ) (card : CachedNode) → slice_index_or cards place None ≡ Some card
     → length card.blocks ≤ 4096
 
--- A mark of a migration, seats that a volume with it may keep after so many mounts, cached nodes in
--- the forms that it tells, and marks of the whole data region that are what they name, whatever the
--- sectors hold; and where the device keeps its word the sectors hold this mark, these seats and
--- these cached nodes, which are those that are read of the image
+-- A mark of a migration, seats that a volume with it may keep after `run` mounts, cached nodes in
+-- the forms that it gives, and marks of the whole data region that are what they name, whatever the
+-- sectors hold; and if the device keeps its word, the sectors hold this mark, these seats and these
+-- cached nodes, which are those that are read from the image
 pub record IsRead (word : Type 0) (size nodes : ℕ) (number : VersionNumber) (run : ℕ)
     (mark : Option ℕ) (seats : Seats) (image : Image) (cards : List (Option CachedNode))
     (places : List Bool) : Type 0 where
@@ -33,8 +33,8 @@ pub record IsRead (word : Type 0) (size nodes : ℕ) (number : VersionNumber) (r
   pub laid : word → IsLaid (version_by number mark seats) size nodes image cards
   pub read : word → cards ≡ cards_in nodes image
 
--- If a volume encodes a tree, and its version's files have at most 16 MiB, the cached nodes that are
--- read of it have few blocks
+-- If a volume holds a tree, and its version's files have at most 16 MiB, the cached nodes that are
+-- read from it have few blocks
 abbrev pub StandsIsFew : Type 0
 StandsIsFew = (version : Version) (size nodes : ℕ) (image : Image) (run : ℕ) (tree : Tree)
     → (version.limits size nodes).file_bytes ≤ 16777216

@@ -17,7 +17,7 @@ pub enum ScanFault {
     /// The device failed.
     #[error("device fault")]
     Device,
-    /// The sectors hold no cached nodes.
+    /// The sectors do not hold a mark, seats and cached nodes of a volume.
     #[error("damaged")]
     Damaged,
     /// Memory ran out.

@@ -1,4 +1,5 @@
-//! What a mount reads of a volume: the cached nodes of its nodes, or that its sectors hold none.
+//! What a mount reads of a volume: its mark, its seats and the cached nodes of its nodes, or that
+//! it is damaged.
 #![tactic(auto)]
 
 mod fault;

@@ -7,7 +7,7 @@ ghost use Rattle.layout.specs.Marks.{once_if, times, times_set};
 use extents::BlockList;
 use freemap::Bitmap;
 
-/// Marks a sector: whether it is one of the data region, and was not marked.
+/// Marks a sector, and returns whether it is in the data region and was not marked.
 fn mark_sector(places: &mut Bitmap, first: u32, sector: u32) -> bool
     ensures marked { result ≡ true
         → AreMarked first places.old places.new (λ n. once_if (n == sector)) }
@@ -23,7 +23,8 @@ fn mark_sector(places: &mut Bitmap, first: u32, sector: u32) -> bool
     true
 }
 
-/// Marks sectors: whether all are of the data region, and none was marked or stands twice.
+/// Marks sectors, and returns whether all are in the data region, none was marked, and none occurs
+/// twice.
 pub(crate) fn mark_sectors(places: &mut Bitmap, first: u32, sectors: &[u32]) -> bool
     ensures marked { result ≡ true
         → AreMarked first places.old places.new (λ n. times n sectors.now) }
@@ -37,7 +38,7 @@ pub(crate) fn mark_sectors(places: &mut Bitmap, first: u32, sectors: &[u32]) -> 
     true
 }
 
-/// Marks the sectors of blocks, in the same way.
+/// Marks the sectors of blocks in the same way.
 pub(crate) fn mark_blocks(places: &mut Bitmap, first: u32, blocks: &BlockList) -> bool
     ensures marked { result ≡ true
         → AreMarked first places.old places.new (λ n. times_set n blocks.now) }

@@ -12,7 +12,7 @@ use layout::sectors::Sectors;
 use layout::versions::{VersionNumber, is_mark, mark_sector};
 use sector::u32_at;
 
-/// The one mark whose sector this may be; none where it is zero.
+/// The only mark whose sector this may be; none if it is zero.
 fn told_mark(content: &[u8; SECTOR]) -> Option<u32>
     ensures { (mark : Option ℕ) → moved_by mark < 2 ^ 32 → content.now ≡ mark_held mark
         → result ≡ mark }
@@ -23,7 +23,7 @@ fn told_mark(content: &[u8; SECTOR]) -> Option<u32>
     Some(u32_at(content, 4))
 }
 
-/// The mark whose sector this is, of a volume of this version and so many nodes.
+/// The mark whose sector this is, of a volume of this version with `nodes` nodes.
 fn checked_mark(
     content: &[u8; SECTOR],
     number: VersionNumber,

@@ -1,4 +1,5 @@
-//! What the blocks of a node hold: a directory's names, and the zeros after a file's last byte.
+//! What the blocks of a node hold: the names of a directory, and the zeros after a file's last
+//! byte.
 
 ghost use Rattle.std.specs.Prelude.{◌≡◌, ◌↔◌, ◌<◌, ◌≤◌, ◌+◌, ◌/◌, List, length, map, IfOk, OnOk};
 ghost use Rattle.std.specs.Prelude.{IsErrOf, IsTrue};
@@ -20,7 +21,7 @@ use layout::sectors::Sectors;
 use model_tree::node::NodeKind;
 use std::alloc::{AllocError, Global};
 
-/// The records of a sector that is to have so many.
+/// The `count` records that a sector is to hold.
 fn read_part<S: Sectors>(
     alloc: Global,
     sectors: &mut S,
@@ -44,7 +45,7 @@ fn read_part<S: Sectors>(
     Ok(entries)
 }
 
-/// So many records, of these blocks, all but the last of which are full.
+/// The `count` records that these blocks hold; all blocks except the last are full.
 fn read_entries<S: Sectors>(
     alloc: Global,
     sectors: &mut S,
@@ -97,7 +98,7 @@ fn stamps_of(alloc: Global, entries: &[Entry]) -> Result<Vec<u64>, AllocError>
     Ok(stamps)
 }
 
-/// Whether stamps are above 0, and none stands twice.
+/// Whether all stamps are above 0, and none occurs twice.
 fn are_stamped(alloc: Global, entries: &[Entry]) -> Result<bool, AllocError>
     ensures { IfOk result (λ are. IsTrue are ↔ NamesStamped (map record_of entries.now)) }
 {
@@ -109,7 +110,7 @@ fn are_stamped(alloc: Global, entries: &[Entry]) -> Result<bool, AllocError>
     Ok(apart)
 }
 
-/// The directory of these records.
+/// The names of a directory with these records.
 fn names_from(alloc: Global, entries: Vec<Entry>) -> Result<Names, ScanFault>
     ensures found { IfOk result (λ names. names ≡ map record_of entries.items) }
     ensures names { IfOk result IsDirectory }
@@ -155,7 +156,7 @@ fn read_names<S: Sectors>(
     names_from(alloc, entries)
 }
 
-/// Sees that the bytes of a file's last block past its size are zero.
+/// Checks that the bytes of a file's last block past its size are zero.
 fn check_tail<S: Sectors>(sectors: &mut S, size: u64, blocks: &BlockList) -> Result<(), ScanFault>
     requires within { AreSetWithin (S.size (S.kept sectors.old)) blocks.now }
     requires enough { length blocks.now ≡ blocks_of kind.File size }
@@ -180,8 +181,8 @@ fn check_tail<S: Sectors>(sectors: &mut S, size: u64, blocks: &BlockList) -> Res
     Ok(())
 }
 
-/// The names of a node of this size, whose blocks these are: none of a file, whose last block is
-/// looked at.
+/// The names of a node of this size with these blocks. A file has none, and its last block is
+/// checked.
 pub(crate) fn read_content<S: Sectors>(
     alloc: Global,
     sectors: &mut S,

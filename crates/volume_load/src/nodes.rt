@@ -14,7 +14,7 @@ use layout::places::NODES;
 use layout::sectors::Sectors;
 use std::alloc::Global;
 
-/// The node whose sector this is, in its place's form; none where it is a free place's.
+/// The node whose sector this is, in the form of its place; none if it is that of a free place.
 fn node_in(alloc: Global, form: Form, content: &[u8; SECTOR]) -> Result<Option<Inode>, ScanFault>
     ensures found { IfOk result
         (λ node. FindsFields (Unit {0}) form content.now (option_map fields_of node)) }
@@ -32,7 +32,7 @@ fn node_in(alloc: Global, form: Form, content: &[u8; SECTOR]) -> Result<Option<I
     Ok(Some(inode))
 }
 
-/// The node at a place, in this form; none where the place is free.
+/// The node at a place, in this form; none if the place is free.
 pub(crate) fn read_node<S: Sectors>(
     alloc: Global,
     sectors: &mut S,

@@ -1,4 +1,4 @@
-//! Numbers, none of which is to stand twice.
+//! Numbers, none of which may occur twice.
 
 ghost use Rattle.std.specs.Prelude.{◌≤◌, ◌↔◌, ℕ, IsTrue, IfOk};
 ghost use Rattle.layout.specs.Marks.{times};
@@ -18,7 +18,7 @@ fn are_different(numbers: &[u64]) -> bool
     true
 }
 
-/// Whether no number stands twice.
+/// Whether no number occurs twice.
 pub(crate) fn are_apart(mut numbers: Vec<u64>) -> Result<bool, AllocError>
     ensures { IfOk result (λ are. IsTrue are ↔ ((n : ℕ) → times n numbers.items ≤ 1)) }
 {

@@ -1,4 +1,4 @@
-//! Runs in their sectors, and the blocks that they are runs of.
+//! Runs in their sectors, and the blocks that they encode.
 
 ghost use Rattle.std.specs.Prelude.{◌≡◌, ◌<◌, ◌≤◌, ◌+◌, ◌-◌, ◌/◌, ◌*◌, ℕ, List, Option, length};
 ghost use Rattle.std.specs.Prelude.{min, IfOk, IfSome, IfNone, IsErrOf};
@@ -17,7 +17,7 @@ use layout::sectors::Sectors;
 use model_tree::node::NodeKind;
 use std::alloc::Global;
 
-/// The runs of a run sector that is to have so many.
+/// The `count` runs that a run sector is to hold.
 fn runs_in(alloc: Global, content: &[u8; SECTOR], count: usize) -> Result<Vec<Run>, ScanFault>
     requires some { 0 < count }
     requires few { count ≤ MAX_SECTOR_RUNS }
@@ -34,7 +34,7 @@ fn runs_in(alloc: Global, content: &[u8; SECTOR], count: usize) -> Result<Vec<Ru
     Ok(runs)
 }
 
-/// The same of a sector that is read.
+/// The same, for a sector that is read.
 fn read_part<S: Sectors>(
     alloc: Global,
     sectors: &mut S,
@@ -58,7 +58,7 @@ fn read_part<S: Sectors>(
     runs_in(alloc, &content, count)
 }
 
-/// So many runs, of these sectors, all but the last of which are full.
+/// The `count` runs that these sectors hold; all sectors except the last are full.
 pub(crate) fn read_runs<S: Sectors>(
     alloc: Global,
     sectors: &mut S,
@@ -86,8 +86,7 @@ pub(crate) fn read_runs<S: Sectors>(
     Ok(runs)
 }
 
-/// How many blocks a node of this size has: none where they are more than
-/// [`BlockList::MAX_BLOCKS`].
+/// How many blocks a node of this size has: none if there are more than [`BlockList::MAX_BLOCKS`].
 fn count_of(kind: NodeKind, size: u64) -> Option<u32>
     ensures some { IfSome result (λ count.
         (count ≡ blocks_of kind size) × (count ≤ BlockList.MAX_BLOCKS)) }
@@ -103,7 +102,7 @@ fn count_of(kind: NodeKind, size: u64) -> Option<u32>
     Some(count as u32)
 }
 
-/// The blocks of a node of this size that these are the runs of.
+/// The blocks of a node of this size that these runs encode.
 pub(crate) fn blocks_from(
     alloc: Global,
     kind: NodeKind,

@@ -47,7 +47,7 @@ fn fetch_place<S: Sectors>(
     Ok(content)
 }
 
-/// The seat of a place, or that it is free.
+/// The seat of a place, or none if it is free.
 fn read_place<S: Sectors>(
     alloc: Global,
     sectors: &mut S,
@@ -94,7 +94,7 @@ fn read_places<S: Sectors>(alloc: Global, sectors: &mut S) -> Result<Seats, Scan
     Ok(Seats { places })
 }
 
-/// Whether a seat of the session stands at one of these places.
+/// Whether one of these places has a seat of the session.
 fn is_seated(id: &[u8; 16], places: &[Option<Seat>]) -> bool
     ensures { result ≡ has_seat id.now (map place_view places.now) }
 {
@@ -108,7 +108,7 @@ fn is_seated(id: &[u8; 16], places: &[Option<Seat>]) -> bool
     false
 }
 
-/// Whether no two seats are of one session.
+/// Whether no two seats are of the same session.
 fn are_apart(places: &[Option<Seat>]) -> bool
     ensures { IsTrue result ↔ SeatsApart (map place_view places.now) }
 {
@@ -122,7 +122,7 @@ fn are_apart(places: &[Option<Seat>]) -> bool
     true
 }
 
-/// Whether a session of this id was made in one of so many runs.
+/// Whether a session with this id was made in one of the runs up to `run`.
 fn is_of_runs(id: &[u8; 16], run: u32) -> bool
     ensures { IsTrue result ↔ IsOfRuns run id.now }
 {
@@ -144,8 +144,8 @@ fn are_made(places: &[Option<Seat>], run: u32) -> bool
     true
 }
 
-/// Whether no two seats are of one session, and each is of one that was made in one of so many
-/// runs.
+/// Whether no two seats are of the same session, and each session was made in one of the runs up to
+/// `run`.
 fn are_of_runs(seats: &Seats, run: u32) -> bool
     ensures { IsTrue result ↔ AreOfRuns run (seats_view seats.now) }
 {
@@ -172,7 +172,7 @@ pub(crate) fn may_keep(number: VersionNumber, mark: Option<u32>) -> bool
     matches!((number, mark), (VersionNumber::Two, None))
 }
 
-/// Reads the seats of a volume that was mounted so often, and may keep some or none.
+/// Reads the seats of a volume that was mounted `run` times, and may keep some or none.
 pub(crate) fn read_seats<S: Sectors>(
     alloc: Global,
     sectors: &mut S,

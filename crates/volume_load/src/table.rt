@@ -39,7 +39,7 @@ struct Laid {
     blocks: BlockList,
 }
 
-/// The runs and the blocks of a node, whose sectors are marked before they are read.
+/// The runs and the blocks of a node. Their sectors are marked before they are read.
 fn read_blocks<S: Sectors>(
     alloc: Global,
     sectors: &mut S,
@@ -77,7 +77,7 @@ fn read_blocks<S: Sectors>(
     Ok(Laid { runs, blocks })
 }
 
-/// The cached node of a node: what the sectors hold that it names, which are marked.
+/// The cached node of a node: what the sectors that it names hold. These are marked.
 fn read_card<S: Sectors>(
     alloc: Global,
     sectors: &mut S,
@@ -115,7 +115,7 @@ fn read_card<S: Sectors>(
     })
 }
 
-/// The cached node of a place, whose node is to have this form; none where it is free.
+/// The cached node of a place, whose node is to have this form; none if it is free.
 fn read_place<S: Sectors>(
     alloc: Global,
     sectors: &mut S,
@@ -147,7 +147,7 @@ fn read_place<S: Sectors>(
     Ok(Some(cached))
 }
 
-/// The cached nodes of so many places, in the forms of the version and its mark, and the marks of
+/// The cached nodes of `nodes` places, in the forms of the version and its mark, and the marks of
 /// what they name.
 pub(crate) fn read_table<S: Sectors>(
     alloc: Global,
@@ -195,7 +195,7 @@ fn numbers_in(alloc: Global, cards: &[Option<CachedNode>]) -> Result<Vec<u64>, A
     Ok(numbers)
 }
 
-/// Whether no two nodes have one number.
+/// Whether no two nodes have the same number.
 pub(crate) fn are_numbered(alloc: Global, cards: &[Option<CachedNode>]) -> Result<bool, AllocError>
     ensures { IfOk result (λ are. IsTrue are ↔ AreNumbered cards.now) }
 {

@@ -32,13 +32,13 @@ use std::alloc::Global;
 pub struct Contents {
     pub cards: Vec<Option<CachedNode>>,
     pub places: Bitmap,
-    /// How far a migration came, as its mark tells.
+    /// How far a migration has come, as its mark says.
     pub mark: Option<u32>,
     /// The seats of persistent sessions.
     pub seats: Seats,
 }
 
-/// Sees that sector `part` of the bitmap shows these places and nothing else.
+/// Checks that sector `part` of the bitmap shows these places and nothing else.
 fn check_marks<S: Sectors>(sectors: &mut S, places: &Bitmap, part: u32) -> Result<(), ScanFault>
     requires part { part < 2 }
     requires within { BITMAP + part < S.size (S.kept sectors.old) }
@@ -63,7 +63,7 @@ fn check_marks<S: Sectors>(sectors: &mut S, places: &Bitmap, part: u32) -> Resul
     Ok(())
 }
 
-/// Sees that the sectors between the seats and the mark are zero.
+/// Checks that the sectors between the seats and the mark are zero.
 fn check_spare<S: Sectors>(sectors: &mut S) -> Result<(), ScanFault>
     requires within { MARK ≤ S.size (S.kept sectors.old) }
     ensures found { OnOk result (S.keeps_word → AreSpare (S.image (S.kept sectors.old))) }
@@ -84,16 +84,16 @@ fn check_spare<S: Sectors>(sectors: &mut S) -> Result<(), ScanFault>
     Ok(())
 }
 
-/// Reads a volume of so many sectors and nodes, of this version and mounted so often, as its
-/// superblock tells them: the mark of its migration, the seats that it keeps, the cached nodes that
+/// Reads a volume of `size` sectors and `nodes` nodes, of this version and mounted `run` times, as
+/// its superblock says: the mark of its migration, the seats that it keeps, the cached nodes that
 /// its sectors hold, each in the form of its place, and the places of the data region that these
 /// use.
 ///
 /// # Errors
 ///
-/// [`ScanFault::Damaged`] exactly where the sectors hold no mark with seats that it may keep and
-/// cached nodes of nodes that have 4,096 blocks at most; [`ScanFault::Device`] where the device
-/// failed, and [`ScanFault::Memory`].
+/// [`ScanFault::Damaged`] exactly if the sectors do not hold a mark, seats that a volume with the
+/// mark may keep, and cached nodes with at most 4,096 blocks each; [`ScanFault::Device`] if the
+/// device failed, and [`ScanFault::Memory`].
 pub fn read_volume<S: Sectors>(
     alloc: Global,
     sectors: &mut S,

@@ -29,7 +29,7 @@ returns-in_err-rewrite_record-clause-moments g c =
 place : (g : Over) (c : In_ok-rewrite_record g) → StaysInPlace (log_of c.args.journal.now) (log_of c.rewrite_record.new.self)
 place g c = record { area = c.in_ok-rewrite_record.ensures.safe.area; size = c.in_ok-rewrite_record.ensures.safe.size }
 
--- and the base stayed
+-- and the base did not change
 base : (g : Over) (c : In_ok-rewrite_record g) → g.D.Device.keeps_word → (log_of c.rewrite_record.new.self).base ≡ (log_of c.args.journal.now).base
 base g c k = ap (λ (log : Log). log.base) (c.in_ok-rewrite_record.ensures.ok k)
 

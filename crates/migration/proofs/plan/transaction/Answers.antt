@@ -10,7 +10,7 @@ use Rattle.migration.proofs.plan.transaction.Goals.{in-Some+in_ok-push, in_defau
 pub moved_node-requires-clause-fit : goal.moved_node-requires-clause-fit
 moved_node-requires-clause-fit c = c.requires.fit c.loop-place.place c.in-Some.cached.now c.in-Some.ensures.some
 
--- one place more, which holds this
+-- one more place, which holds this
 more : (cards : List (Option CachedNode)) (from place : ℕ) (card : Option CachedNode) (updates : List Update) → from ≤ place → get_or cards place None ≡ card
     → updates ≡ nodes_of cards from (place - from) ++ moved_node place card → updates ≡ nodes_of cards from (place + 1 - from)
 more cards from place card updates low there are =

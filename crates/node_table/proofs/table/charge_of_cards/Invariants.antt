@@ -3,7 +3,7 @@ use Rattle.layout.specs.CachedNodes.{CachedNode}
 use Rattle.node_table.specs.Tables.{charge_of_all}
 use Rattle.node_table.proofs.table.charge_of_cards.Given as goal
 
--- so many places are looked at
+-- this many places have been looked at
 abbrev pub invariant-loop-cached : goal.invariant-loop-cached
 invariant-loop-cached l = record {
   charge : l.charge ≡ charge_of_all (take l.cached-index l.cards);

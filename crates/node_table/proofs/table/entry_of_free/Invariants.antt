@@ -1,7 +1,7 @@
 use Rattle.std.proofs.Common.{◌≢◌, ◌≤◌, ◌<◌, ℕ, length, get_or}
 use Rattle.node_table.proofs.table.entry_of_free.Given as goal
 
--- after place i the place does not stand
+-- the place does not occur from index i on
 abbrev pub invariant-loop-i : goal.invariant-loop-i
 invariant-loop-i l = record { within : l.i ≤ length l.free; off : (k : ℕ) → l.i ≤ k → k < length l.free → get_or l.free k 0 ≢ l.place }
 

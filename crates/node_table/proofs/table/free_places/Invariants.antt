@@ -4,7 +4,7 @@ use Rattle.layout.specs.Marks.{times}
 use Rattle.node_table.specs.Tables.{count_of_all, vacant}
 use Rattle.node_table.proofs.table.free_places.Given as goal
 
--- so many places are looked at
+-- this many places have been looked at
 abbrev pub invariant-loop-place : goal.invariant-loop-place
 invariant-loop-place l = record {
   times : (n : ℕ) → times n l.free.items ≡ vacant n (take l.place l.cards);

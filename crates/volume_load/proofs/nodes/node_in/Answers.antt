@@ -10,7 +10,7 @@ use Rattle.volume_load.specs.Sectors.{AreZeroFrom}
 use Rattle.volume_load.proofs.SectorLaws.{zero-is, zero-all, not_inode}
 use Rattle.volume_load.proofs.nodes.node_in.Goals as goal
 
--- what is no node's, and not zero, is no place's
+-- what is not a node's and not zero belongs to no place
 not_place : (form : Form) (content : List ℕ) (fields : Option Fields) → (AreZeroFrom content 0 → ⊥) → ((fields : Fields) → IsInode form fields → 0 < fields.number → content ≡ inode_sector form fields → ⊥) → FindsFields (Unit {0}) form content fields → ⊥
 not_place form content None other none found = other (zero-all content 0 (found tt))
 not_place form content (Some fields) other none found = none fields found.fits found.number (found.spelled tt)

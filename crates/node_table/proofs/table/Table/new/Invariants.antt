@@ -3,7 +3,7 @@ use Rattle.std.specs.Prelude.{vec_len, vec_capacity}
 use Rattle.node_table.proofs.TableLaws.{AreFirst}
 use Rattle.node_table.proofs.table.Table.new.Given as goal
 
--- so many places are free, and in the table
+-- this many places are free, and in the table
 abbrev pub invariant-loop-place : goal.invariant-loop-place
 invariant-loop-place l = record {
   within : l.place ≤ l.places;

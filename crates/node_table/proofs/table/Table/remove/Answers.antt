@@ -7,7 +7,7 @@ use Rattle.node_table.specs.Tables.{node_number_at, charge_there}
 use Rattle.node_table.proofs.TableLaws.{charge-within, removed}
 use Rattle.node_table.proofs.table.Table.remove.Goals as goal
 
--- what stood there is part of the sum
+-- the former cached node is part of the sum
 pub overflow_sub-self : goal.overflow_sub-self
 overflow_sub-self c =
     let kept = c.self.invariant.0 in

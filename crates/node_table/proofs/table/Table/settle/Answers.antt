@@ -13,7 +13,7 @@ loop-place-init c = record {
   own = c.changes.invariant;
 }
 
--- the loop's state, where the last change of the list is this one
+-- the loop's state, if the last change of the list is this one
 taken : (cards target : List (Option CachedNode)) (old left : Keyed (Option CachedNode)) (place : ℕ) (card same : Option CachedNode) → IsSettling cards target old → old ≡ left ++ (place, card) ∷ [] → card ≡ same
     → IsSettling cards target (left ++ (place, same) ∷ [])
 taken cards target old left place card same settling is e = subst (IsSettling cards target) (is ∙ ap (λ (k : Option CachedNode). left ++ (place, k) ∷ []) e) settling

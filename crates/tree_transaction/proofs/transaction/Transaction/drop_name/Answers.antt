@@ -41,7 +41,7 @@ card_is was card is cut blocks cut_is names size same =
     ∙ ap (λ (b : List (Option ℕ)). record was { fields = record was.fields { size = size }; blocks = b; names = names }) cut_is
     ∙ ap (λ (n : ℕ). record was { fields = record was.fields { size = n }; blocks = blocks; names = names }) same
 
--- what is left, of the cached node that was taken out
+-- what is left of the cached node that was taken out
 record IsLeft (was card : CachedNode) (name : List ℕ) (names : List Record) (at left : ℕ) (cut : List (Option ℕ)) : Type 0 where
   pub at_is : at ≡ place_of name was.names
   pub are : names ≡ without_place was.names (place_of name was.names)
