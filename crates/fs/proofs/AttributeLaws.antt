@@ -66,7 +66,7 @@ module _ (card : CachedNode) where
           (same_values limits number card.fields.number is.node (node_shown card) (sym is.number_is) (kind_is tree number card is ∙ sym (kind_shown card.fields.kind))
           (size_is ∙ sym size_shown) is.owner is.group is.acl is.change is.time_modify)
 
-    -- and so does what is answered of it
+    -- and so do the attributes that are returned
     pub shows : (limits : Limits) (node : NodeAttributes) → node.kind ≡ card.fields.kind → node.number ≡ card.fields.number → node.owner ≡ card.fields.owner → node.group ≡ card.fields.group
         → node.acl.now ≡ card.fields.acl → node.change ≡ card.fields.change → node.time_modify ≡ card.fields.time_modify
         → node.size ≡ card.fields.size → node.max_file_size ≡ limits.file_bytes → node.max_name ≡ limits.name_bytes

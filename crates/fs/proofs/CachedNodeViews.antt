@@ -24,7 +24,7 @@ stamped card fit directory = (let has = subst (λ (of : NodeKind). HasContent of
 some : {A : Type 0} (entry : A) (rest : List A) → nat_lt 0 (length (entry ∷ rest)) ≡ true
 some entry rest = lt-ltb 0 (length (entry ∷ rest)) (omega arith)
 
--- there are as many names by stamp: none only where there are none
+-- there are no names by stamp only if there are no names
 with_some : {A : Type 0} (entries : Keyed A) (key : ℕ) (value : A) → nat_lt 0 (length (with entries key value)) ≡ true
 with_some {A} [] key value = some {A = ℕ × A} (key, value) []
 with_some {A} (entry ∷ rest) key value = by_key (eqb key entry.0) (ltb key entry.0)
@@ -52,7 +52,7 @@ module _ (tree : Tree) (number : ℕ) (card : CachedNode) (is : IsNodeOf tree nu
       by_kind kind.File file other = ap is_directory file.file
       by_kind kind.Directory names other = absurd (other refl)
 
-  -- what the names answer is what the tree has
+  -- what a search of the names returns is what the tree has
   pub entry_is : IsCard card → card.fields.kind ≡ kind.Directory → (name : List ℕ) (names : List Record) → names ≡ card.names → (found : Option Record)
       → (NamesStamped names → found ≡ entry_of name (by_stamp names)) → entry_of name (names_of is.node.content) ≡ found
   entry_is fit directory name names same found told =
@@ -72,7 +72,7 @@ module _ (tree : Tree) (number : ℕ) (card : CachedNode) (is : IsNodeOf tree nu
   has_names_told directory names same = ap (λ (l : List Record). nat_lt 0 (length l)) same ∙ sym (any_by_stamp card.names)
       ∙ sym (ap (λ (o : Option Node). nat_lt 0 (length (names_of_node o))) is.there ∙ ap (λ (content : Content). nat_lt 0 (length (names_of content))) (names_are directory))
 
-  -- whether an entry may be taken away, by the number that it leads to
+  -- whether an entry may be removed, by the number that it leads to
   pub may_remove_told : (name : List ℕ) (cred : Cred) (target : ℕ) → number_named tree number name ≡ target
       → (granted_on (at target tree) cred delete || granted card.fields.acl card.fields.owner card.fields.group cred delete_child) ≡ may_remove tree cred number name
   may_remove_told name cred target named =

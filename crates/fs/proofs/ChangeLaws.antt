@@ -22,7 +22,7 @@ use Rattle.volume.specs.declared.fault.VolumeFault.TheVariants as volumes
 use Rattle.volume.specs.VolumeState.{VolumeState, IsRecent, StandsForOne, MayAdd, with_tree}
 use Rattle.volume.specs.Shown.{ShowsAs}
 
--- what the definition says may be said otherwise
+-- what the definition says may be stated otherwise
 
 module _ (keeps_word : Type 0) (given other : Given) (weaker : (after : Kept) (lasts : Bool) → other after lasts → given after lasts)
     (old new : VolumeState) (before after : ℕ) where
@@ -48,7 +48,7 @@ module _ (keeps_word : Type 0) (given other : Given) (weaker : (after : Kept) (l
     brief = changes.brief;
   }
 
--- and so where it is deferred
+-- also if it is deferred
 deferred_by : (held : VolumeState) (defers : Bool) (given other : Given) → ((after : Kept) (lasts : Bool) → other after lasts → given after lasts)
     → (after : Kept) (lasting : Bool) → deferred held defers other after lasting → deferred held defers given after lasting
 deferred_by held defers given other weaker after lasting is = (is.0, weaker after is.0 is.1, is.2)
@@ -73,7 +73,7 @@ changes_by keeps_word given other weaker old new before after ending changes = r
   lets_wait = waits_by keeps_word given other (λ keeps. weaker) old new ending changes.lets_wait;
 }
 
--- What has to last where the seats stay, and where it is deferred
+-- What has to last if the seats stay, and if it is deferred
 
 pub seats_stay : (held : VolumeState) (durable lasting : Bool) (after : Kept) → HasToLast held durable after lasting → after.seats ≡ held.seats → lasting ≡ durable
 seats_stay held durable lasting after last stay = elim last [

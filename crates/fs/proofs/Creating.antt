@@ -71,7 +71,7 @@ module _ (limits : Limits) (state : State) (now : ℕ) (name : List ℕ) (given 
   abbrev arguments : Refusals
   arguments = name_refusals limits name ++ attribute_refusals limits kind.Directory settable_at_creation given
 
-  -- the tests of rights and behind them, as the definitions have them, and these
+  -- the tests of rights and those after them, as the definitions have them, and these
   abbrev behind : Refusals
   behind = (without_rights state (need_first state.tree state.context (create_of name given)), status.Access)
       ∷ (without_rights state (need_then state.tree state.context (create_of name given)), status.Access)

@@ -45,7 +45,7 @@ known_number who.Everyone has = omega arith
 known_number (who.User number) has = ltb-true number (2 ^ 32) has
 known_number (who.NamedGroup number) has = ltb-true number (2 ^ 32) has
 
--- an entry that a node may have has a spelling
+-- an entry that a node may have can be encoded
 each_spelled : (of : NodeKind) (acl : List Ace) → list_all (is_entry_for of) acl ≡ true → AllByRecursion IsAce acl
 each_spelled of [] all = tt
 each_spelled of (ace ∷ acl) all =
@@ -78,7 +78,7 @@ few_listed fs formed limited number card node = ∥∥₁_elim formed.well_forme
     let same : length node.node.acl ≡ length card.fields.acl = ap (λ (l : List Ace). length l) node.acl in
     omega (arith, small.few, most, same))
 
--- the list of a new node is one, where the list that is given is
+-- the list of a new node may be one if the list that is given may
 pub given_list_fits : (limits : Limits) (sectors nodes : ℕ) → limits ≡ limits_of sectors nodes → (of : NodeKind) (parent : List Ace) → IsList limits kind.Directory parent
     → (settings : Settings) → WithinLimits limits of settings → IsList limits of (created_list parent of settings.is_empty settings.mode settings.acl)
 given_list_fits limits sectors nodes limited of parent is settings within =
@@ -86,7 +86,7 @@ given_list_fits limits sectors nodes limited of parent is settings within =
     list_given modes_keep_limits inheritance_keeps_limits limits of room parent is settings.is_empty settings.mode settings.acl
     (λ list said. within.acl (omega (arith, room)) list said)
 
--- so is the list that a node has where one, or a mode, is set
+-- and so may the list that a node has if one, or a mode, is set
 pub set_list : (limits : Limits) (sectors nodes : ℕ) → limits ≡ limits_of sectors nodes → (of : NodeKind) (acl : List Ace) → IsList limits of acl
     → (settings : Settings) → WithinLimits limits of settings → IsList limits of (list_set of acl settings.mode settings.acl)
 set_list limits sectors nodes limited of acl is settings within =

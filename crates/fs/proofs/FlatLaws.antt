@@ -1,4 +1,5 @@
--- A tree with zeros for the bytes of its files: what is asked of its names and rights is what the tree itself answers, and edits of names leave the zeros.
+-- A tree with zeros for the bytes of its files has the same names and rights as the tree itself,
+-- and edits of names leave the zeros.
 use Rattle.std.proofs.Common.{◌≡◌, ◌≢◌, ℕ, Bool, false, List, Option, Some, None, refl, sym, ap, ap₂, ◌∙◌, is_some, inl, inr}
 use Rattle.std.specs.Prelude.{option_map, ◌||◌}
 use Rattle.std.proofs.lemmas.Bool.{cases_eq}
@@ -16,7 +17,7 @@ use Rattle.model.specs.Operations.Need.{granted_on}
 use Rattle.model_tree.proofs.Trees.KeyedLaws.{at-with_same, at-with_other, at-without_other}
 use Rattle.fs.specs.Removing.{may_remove}
 
--- What the tree answers
+-- Names and rights
 
 pub granted-without_data : (tree : Tree) (number : ℕ) (cred : Cred) (mask : ℕ) → granted_on (at number (without_data tree)) cred mask ≡ granted_on (at number tree) cred mask
 granted-without_data tree number cred mask = ap (λ (o : Option Node). granted_on o cred mask) (at-without_data tree number) ∙ mapped (at number tree)

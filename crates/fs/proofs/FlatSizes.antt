@@ -1,4 +1,5 @@
--- A file whose size is set, and what it shows then, on the tree with zeros for the bytes of files: the tree after it may stand.
+-- A file whose size is set, and what it then shows, on the tree with zeros for the bytes of files:
+-- the tree after it is one that the run may have.
 use Rattle.std.proofs.Common.{◌≡◌, ◌≤◌, ◌<◌, ◌+◌, ℕ, true, false, List, [], ◌∷◌, Some, length, refl, sym, ap, ◌∙◌, arith, subst}
 use Rattle.std.proofs.Math.Logic.{∥∥₁_map, ∥∥₁_elim}
 use Rattle.std.proofs.Props.{props}
@@ -23,7 +24,7 @@ use Rattle.fs.specs.Ready.{MayStand}
 use Rattle.fs.proofs.FlatWrites.{bytes_blank, resized_zeros}
 use Rattle.volume.specs.Formed.{IsFormed}
 
--- of a tree with zeros as many zeros are left
+-- resizing the zeros for a file's bytes gives zeros, as many as resizing the bytes gives bytes
 resized_blank : (content : Content) (size : ℕ) → resized (bytes_of (blank content)) size ≡ zeros (length (resized (bytes_of content) size))
 resized_blank content size =
     ap (λ (l : List ℕ). resized l size) (bytes_blank content) ∙ resized_zeros (length (bytes_of content)) size
@@ -89,7 +90,7 @@ module _ (fs : FileSystem) (formed : MayStand fs.volume fs.changes) (number : �
   fits_flat : fits limits (with flat number last_flat) ≡ fits limits after
   fits_flat = ap (fits limits) seen ∙ fits-without_data limits after
 
-  -- The tree after them may stand
+  -- The tree after them is one that the run may have
 
   module _ (well : IsWellFormed limits flat) where
     was : All (λ byte. byte < 256) (bytes_of (blank node.content)) × (length (bytes_of (blank node.content)) ≤ limits.file_bytes)

@@ -1,4 +1,5 @@
--- WRITE of bytes that passed its tests, on the tree with zeros for the bytes of files: there it is WRITE of as many zeros. So the tree after it may stand.
+-- WRITE of bytes that passed its tests, on the tree with zeros for the bytes of files: there it
+-- writes the same number of zeros. So the tree after it is one that the run may have.
 use Rattle.std.proofs.Common.{◌≡◌, ◌≤◌, ◌<◌, ◌+◌, ◌-◌, ◌^◌, ℕ, zero, suc, Bool, true, false, List, [], ◌∷◌, ◌++◌, Option, Some, None, length, drop, replicate, refl, sym, ap, ap₂, ◌∙◌, arith, subst, not}
 use Rattle.std.proofs.Math.Logic.{∥∥₁_elim}
 use Rattle.std.proofs.Props.{props}

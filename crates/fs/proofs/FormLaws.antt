@@ -29,7 +29,7 @@ use Rattle.volume.proofs.EditLaws.{one_number}
 use Rattle.fs.specs.Forms.{Change, Place, Making, Removing, Moving, Writing, Setting, IsAllowed, edits_by, moving}
 use Rattle.fs.proofs.RoomLaws.{above_altered, above_flat, above_name_dropped, above_node_dropped, above_shown, drop_name_room, drop_node_room, put_name_room_back, set_size_room_back, show_room}
 
--- Its edits are few, and put one name at most
+-- Its edits are few, and put at most one name
 
 few_updates : (held : VolumeState) (change : Change) → IsAllowed held change → updates_of_all (edits_by change) ≤ 46
 few_updates held (Making number of zero shown directory name directory_shown) above = omega arith
@@ -129,7 +129,7 @@ name_there tree (Setting number (Some size) shown) can = tt
 
 -- What fits before the first and after the last fits after each: what lowers the charge comes first, then one edit of any kind, and then what raises it
 
--- where there is room after each of these edits, there was before it
+-- if there is room after each of these edits, there was before it
 abbrev AreRaising : Limits → Tree → List model.Edit → Type 0
 AreRaising limits tree [] = Unit {0}
 AreRaising limits tree (one ∷ rest) = (IsTrue (fits limits (done one tree)) → IsTrue (fits limits tree)) × AreRaising limits (done one tree) rest

@@ -1,4 +1,5 @@
--- What every change asks of its edits, said once for all operations: the tree after it may stand, and so it may be kept.
+-- What every change requires of its edits, stated once for all operations: the tree after it is one
+-- that the run may have, so the change may be kept.
 use Rattle.std.proofs.Common.{◌≡◌, ◌≤◌, ◌<◌, ◌+◌, ◌^◌, ℕ, sym, ap, ap₂, ◌∙◌, arith, subst}
 use Rattle.std.proofs.Math.Logic.{∥∥₁_map, ∥∥₁_elim}
 use Rattle.std.proofs.Props.{props}
@@ -40,7 +41,8 @@ module _ (fs : FileSystem) (formed : MayStand fs.volume fs.changes) (counted : f
     room_for_mode = subst (λ (l : Limits). l.aces_set + 5 ≤ l.aces) (sym limited) (omega arith);
   }
 
-  -- what a change leaves of such a state may stand after it, and so may each tree with these zeros for its bytes
+  -- what a change leaves of such a state is a tree that the run may have after it, and so is each
+  -- tree with these zeros for its bytes
   pub formed_by : (state : State) (now : ℕ) (operation : Argument) (stepped : Stepped) (after : Tree)
       → state.tree ≡ without_data fs.volume.tree → state.changes ≡ fs.changes → state.context.run ≡ fs.volume.run
       → does limits state now operation ≡ stepped → stepped.state.changes ≡ fs.changes + 1 → stepped.state.tree ≡ without_data after
@@ -58,7 +60,7 @@ module _ (fs : FileSystem) (formed : MayStand fs.volume fs.changes) (counted : f
             (subst (λ (n : ℕ). IsBefore n stepped.state.tree) (ap₂ next_stamp run_then more) (kept well).before));
       }
 
-  -- a change of one of the forms, whose tree has room and may stand after it
+  -- a change of one of the forms, whose tree has room and is one that the run may have after it
   pub planned_by : (change : Change) → IsAllowed fs.volume change → AreDoable fs.volume.tree (edits_by change)
       → IsTrue (fits limits (edited_by fs.volume (edits_by change))) → fs.changes + 1 < 2 ^ 32
       → IsFormed limits (next_stamp fs.volume.run (fs.changes + 1)) (edited_by fs.volume (edits_by change)) → IsPlanned fs (edits_by change)

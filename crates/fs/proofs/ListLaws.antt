@@ -34,7 +34,8 @@ module _ {A : Type 0} (x y : A) where
   chosen true false (inr allowed) = absurd (cc)
   chosen false may which = refl
 
-  -- where all lists may be read unless errors are asked, only where they are a list has to be tested
+  -- if all lists may be read unless errors are asked for, it is enough to test a list if both are
+  -- asked for
   same_choice : (asked errors may others : Bool) → ((asked && not errors) && not (may && others)) ≡ false
       → (if (asked && errors) && not may then x else y) ≡ (if asked && not may then x else y)
   same_choice false errors may others passed = refl
@@ -54,7 +55,7 @@ pub attributes_shown : (limits : Limits) (cred : Cred) (hides : Bool) (bitmap : 
 attributes_shown limits cred hides bitmap number found which =
     chosen unreadable (attributes_at limits bitmap number found) hides (may_read_list cred found) which
 
--- the entries are the definition's where each list is tested before, or hides its node
+-- the entries are the definition's if each list was tested before, or hides its node
 
 module _ (limits : Limits) (tree : Tree) (cred : Cred) (bitmap : List ℕ) where
   abbrev may : ℕ × DirEntry → Bool

@@ -1,4 +1,5 @@
--- A node and its name more, whichever operation makes them: the tree after them may stand.
+-- One more node and its name, whichever operation makes them: the tree after them is one that the
+-- run may have.
 use Rattle.std.proofs.Common.{◌≡◌, ◌≢◌, ◌<◌, ◌+◌, ℕ, true, List, [], ◌∷◌, Option, Some, None, refl, sym, ap, ap₂, ◌∙◌, arith, subst, is_some}
 use Rattle.std.proofs.Math.Logic.{∥∥₁_map, ∥∥₁_elim}
 use Rattle.std.proofs.Props.{props}
@@ -24,7 +25,7 @@ use Rattle.fs.specs.Ready.{MayStand}
 use Rattle.volume.specs.Formed.{IsFormed}
 use Rattle.volume.proofs.EditLaws.{fits_alike}
 
--- zeros stand for the bytes of a new file already
+-- a new file has zeros for its bytes already
 blank_first : (of : NodeKind) (size : ℕ) → blank (first_content of size) ≡ first_content of size
 blank_first kind.File size = ap (λ (n : ℕ). File (zeros n)) (length-zeros size)
 blank_first kind.Directory size = refl
@@ -153,7 +154,7 @@ module _ (fs : FileSystem) (formed : MayStand fs.volume fs.changes) (now number 
     fits_flat : fits limits (edited wanted flat) ≡ fits limits after
     fits_flat = fits_alike limits after (edited wanted flat) (edits_blanked wanted tree)
 
-    -- The tree after them may stand
+    -- The tree after them is one that the run may have
 
     module _ (may : MayBeMade fs number name child) (fit : fits limits after ≡ true) where
       directory_flat : is_directory_at flat number ≡ true

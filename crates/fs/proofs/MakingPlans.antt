@@ -53,7 +53,7 @@ name_short limits name passes =
     let second = none_in_front (nat_lt limits.name_bytes (length name)) status.NameTooLong _ first.1 in
     not_less limits.name_bytes (length name) second.0
 
--- a new node whose size is set is the one that is wanted
+-- a new node whose size is set is the one that is to be made
 grown : (of : NodeKind) (size : ℕ) (made : model.Shown) → IsSizeOf of (suc size)
     → with_content (fresh_node of made) (File (resized (bytes_of (fresh_node of made).content) (suc size))) ≡ first_node of (suc size) made
 grown kind.File size made has =

@@ -1,4 +1,5 @@
--- OPEN by a name, in each state of a COMPOUND: what refuses it, and what it comes to of a file that is there, that is cut or that is made.
+-- OPEN by a name, in each state of a COMPOUND: what refuses it, and what it does if the file is
+-- there, is truncated or is made.
 use Rattle.std.proofs.Common.{◌≡◌, ◌+◌, ◌&&◌, ◌||◌, ℕ, Bool, true, false, List, Option, Some, None, not, refl, sym, ap, ap₂, ◌∙◌, subst}
 use Rattle.model_tree.specs.declared.acl.Cred.{Cred}
 use Rattle.model_tree.specs.declared.limits.Limits.{Limits}

@@ -43,7 +43,7 @@ use Rattle.volume.specs.Edits.{edited_by}
 use Rattle.fs.specs.Forms.{sizing}
 use Rattle.fs.proofs.RoomLaws.{above_altered, show_room}
 
--- The room of a node that is made does not depend on its number: it is asked for the number 0
+-- The room of a node that is made does not depend on its number: it is computed for the number 0
 
 module _ (fs : FileSystem) (formed : MayStand fs.volume fs.changes) (number : ℕ) (spelled : Bor (List ℕ)) (of : NodeKind) (card : CachedNode) (parent : IsDirectoryOf fs.volume.tree number card) (blank : Shown) where
   abbrev first : Node
@@ -179,7 +179,7 @@ module _ (fs : FileSystem) (formed : MayStand fs.volume fs.changes) (counted : f
       (plans.planned fs formed counted limited now number spelled node (by_stamp card.names) parent.node.there content of child_shown parent_shown new_shown size has may entries parent_entries
       (ap (λ (l : List Edit). fits fs.volume.limits (edited_by fs.volume l)) (sym list_is) ∙ fit) left)
 
-  -- .. where none of the tests of room and stamps holds
+  -- .. if none of the tests of room and stamps holds
   pub planned_where : first_refusal (room_tests fs (tree_with fs number spelled.now (first_node of size (shown_of child_shown)) now)) ≡ None → IsPlanned fs edits
   planned_where passed =
       let wanted = tree_with fs number spelled.now (first_node of size (shown_of child_shown)) now in

@@ -33,7 +33,7 @@ not_named name (entry ∷ rest) none = by_test (bytes_eq name entry.1.name) refl
         let zero : one_if (bytes_eq name entry.1.name) ≡ 0 = ap one_if is in
         ap (λ (b : Bool). found_or b entry (entry_of name rest)) is ∙ others (omega (arith, none, zero))
 
--- an entry stays where one of another stamp goes
+-- an entry stays if one of another stamp goes
 entry_stays : (name : List ℕ) (names : Keyed DirEntry) (stamp : ℕ) (found : ℕ × DirEntry) → entry_of name names ≡ Some found → found.0 ≢ stamp
     → entry_of name (without names stamp) ≡ Some found
 entry_stays name [] stamp found is apart = is
@@ -137,7 +137,7 @@ module _ (limits : Limits) (tree : Tree) (well : IsWellFormed limits tree) (own 
           omega (arith, sum, one, most, same);
     }
 
--- What its edits ask of the tree, only in equalities
+-- What its edits require of the tree, only in equalities
 
 abbrev pub moving_edits : Renaming → (old_stamp number stamp : ℕ) → (from_shown to_shown : Shown) → List Edit
 moving_edits asked old_stamp number stamp from_shown to_shown = moving number (old_place asked old_stamp) (new_place asked stamp) from_shown to_shown

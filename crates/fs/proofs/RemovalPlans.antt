@@ -1,4 +1,5 @@
--- The edits that remove a name, as they are in memory: a change that may be kept, which comes to what the definition says.
+-- The edits that remove a name, as they are in memory: a change that may be kept, and that does
+-- what the definition says.
 use denote.Ref.{Bor}
 use Rattle.std.proofs.Common.{◌≡◌, ◌<◌, ◌+◌, ◌^◌, ℕ, true, false, List, [], ◌∷◌, Option, Some, None, sym, ap, ◌∙◌, subst}
 use Rattle.std.proofs.lemmas.Bool.{lt-ltb}

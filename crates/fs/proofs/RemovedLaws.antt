@@ -1,4 +1,5 @@
--- REMOVE of a name that passed its tests: its edits can be done, the tree after them always has room, and it may stand.
+-- REMOVE of a name that passed its tests: its edits can be done, and the tree after them always has
+-- room and is one that the run may have.
 use Rattle.std.proofs.Common.{◌≡◌, ◌≢◌, ◌<◌, ◌+◌, ◌^◌, ℕ, Bool, true, false, not, List, [], ◌∷◌, ◌++◌, Option, Some, None, length, refl, sym, ap, ◌∙◌, is_some, true≢false, arith}
 use Rattle.std.proofs.Math.Logic.{∥∥₁_elim}
 use Rattle.std.proofs.Props.{props}

@@ -1,4 +1,5 @@
--- The edits of a rename can be done one after the other, and there is room for them where there is for those with the stamp 0.
+-- The edits of a rename can be done one after the other, and there is room for them if there is for
+-- those with the stamp 0.
 use Rattle.std.proofs.Common.{◌≡◌, ◌≤◌, ◌<◌, ◌^◌, ◌++◌, ℕ, true, false, List, [], ◌∷◌, Option, Some, None, length, refl, sym, ap, ◌∙◌, arith, inl, inr, subst, ◌⊎◌}
 use denote.Ref.{Bor}
 use Rattle.std.proofs.Math.Logic.{∥∥₁_elim}
@@ -114,7 +115,7 @@ module _ (fs : FileSystem) (formed : MayStand fs.volume fs.changes) (counted : f
   pub doable_own : AreDoable fs.volume.tree (list_at own)
   doable_own = doable_alike flat fs.volume.tree (list_at own) (sym (without_data-twice fs.volume.tree)) flat_doable
 
-  -- Room can be asked for the next stamp, and for 0
+  -- Room can be computed for the next stamp, and for 0
 
   zero_by : IsWellFormed fs.volume.limits flat → at 0 (names_at (done (DropName asked.from old_stamp) (laws.cleared asked.to target flat)) asked.to) ≡ None
   zero_by well = zero_open fs.volume.limits (laws.cleared asked.to target flat) own asked.from asked.to asked.old_name.now asked.new_name.now old_stamp
@@ -139,7 +140,7 @@ module _ (fs : FileSystem) (formed : MayStand fs.volume fs.changes) (counted : f
   measured_at stamp (inl same) = subst (λ (s : ℕ). AreMeasurable fs.volume.tree (list_at s)) (sym same) measured_own
   measured_at stamp (inr none) = subst (λ (s : ℕ). AreMeasurable fs.volume.tree (list_at s)) (sym none) measured_zero
 
--- As much room is left under any two stamps
+-- The same room is left under any two stamps
 
 put_alike : (to stamp other number : ℕ) (name : Bor (List ℕ)) (size : _) → resized_by (edit.PutName to stamp name number) size ≡ resized_by (edit.PutName to other name number) size
 put_alike to stamp other number name None = refl

@@ -1,4 +1,5 @@
--- The edits of a rename, as they are in memory: a change that may be kept where it fits, which comes to what the definition says.
+-- The edits of a rename, as they are in memory: a change that may be kept if it fits, and that does
+-- what the definition says.
 use Rattle.std.proofs.Common.{◌≡◌, ◌<◌, ◌+◌, ◌^◌, ℕ, true, false, List, [], ◌∷◌, ◌++◌, Option, Some, None, refl, sym, ap, ap₂, ◌∙◌, subst, inl, inr, ◌⊎◌, true≢false}
 use denote.Ref.{Bor}
 use Rattle.std.proofs.Math.Logic.{∥∥₁_elim}
@@ -93,7 +94,7 @@ module _ (fs : FileSystem) (formed : MayStand fs.volume fs.changes) (counted : f
         (subst (IsFormed fs.volume.limits (next_stamp fs.volume.run (fs.changes + 1))) (sym after_is)
         (laws.formed_after fs formed counted limited cred now asked old_stamp number target found under passed placed other fit_after (lt-ltb (fs.changes + 1) (2 ^ 32) left)))
 
--- The stamp of its edits: the next one, or 0 where none is left
+-- The stamp of its edits: the next one, or 0 if none is left
 
 pub stamp_of : (fs : FileSystem) (next : Option ℕ)
     → MatchOption next (is_stamp_left fs.changes ≡ false) (λ stamp. (stamp ≡ next_stamp fs.volume.run fs.changes) × (fs.changes + 1 < 2 ^ 32))
@@ -113,7 +114,7 @@ record_mapped : (name : List ℕ) (o : Option (ℕ × ℕ)) → option_map (λ (
 record_mapped name None = refl
 record_mapped name (Some found) = refl
 
--- what the target directory answers is the target
+-- what a search of the target directory returns is the target
 pub target_told : (tree : Tree) (asked : Renaming) (card : CachedNode) (node : IsNodeOf tree asked.to card) → IsCard card → is_directory_at tree asked.to ≡ true
     → (names : List Record) → names ≡ card.names → (target : Option (ℕ × ℕ))
     → (NamesStamped names → option_map (λ (found : ℕ × ℕ). record_from found.0 asked.new_name.now found.1) target ≡ entry_of asked.new_name.now (by_stamp names)) → IsTarget tree asked target

@@ -109,7 +109,7 @@ module _ (limits : Limits) (state : State) (now : ℕ) (arguments : RenameArgume
       ∙ ap (refused_or stale status.Stale) (front_behind (first_refusal names) (first_refusal last))
       ∙ or_behind stale status.Stale (front (first_refusal names)) (first_refusal last)
 
-  -- behind them comes nothing where a name is given to itself
+  -- after them comes nothing if a name is renamed to itself
   abbrev behind : Bool → Option Status
   behind true = None
   behind false = first_refusal placing

@@ -1,4 +1,5 @@
--- RENAME of a name that passed its tests, and is not given to itself: its edits can be done, and the tree after them may stand where it fits.
+-- RENAME of a name that passed its tests, and is not renamed to itself: its edits can be done, and
+-- the tree after them is one that the run may have if it fits.
 use Rattle.std.proofs.Common.{◌≡◌, ◌<◌, ◌+◌, ◌^◌, ◌&&◌, ℕ, Bool, true, false, List, [], ◌∷◌, ◌++◌, Option, Some, None, eq-eqb, refl, sym, ap, ap₂, ◌∙◌, is_some, bytes_eq}
 use Rattle.std.proofs.lemmas.Bool.{not-false}
 use Rattle.std.specs.Prelude.{IsTrue, option_map, ◌==◌}
@@ -83,7 +84,7 @@ module _ (fs : FileSystem) (cred : Cred) (from to now : ℕ) (arguments : Rename
   change_here : (number at_number before : ℕ) → at_number ≡ number → change_of (at number fs.volume.tree) ≡ before → change_of (at at_number state.tree) ≡ before
   change_here number at_number before same is = ap (λ (t : Tree). change_of (at at_number t)) in_it.on.is_state.tree_is ∙ ap (λ (n : ℕ). change_of (at n fs.volume.tree)) same ∙ is
 
-  -- a name that is given to itself
+  -- a name that is renamed to itself
   pub stays : first_refusal (moving_refusals fs.volume.limits fs.volume.tree from to arguments) ≡ None → is_itself from to arguments ≡ true
       → (from_before to_before : ℕ) → change_of (at from fs.volume.tree) ≡ from_before → change_of (at to fs.volume.tree) ≡ to_before
       → does fs.volume.limits state now (Argument.Rename arguments) ≡ renamed fs.volume.tree fs.changes state arguments

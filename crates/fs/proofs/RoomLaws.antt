@@ -15,7 +15,7 @@ use Rattle.model_tree.proofs.Trees.KeyedParts.{total-ones}
 use Rattle.tree_check.proofs.FitLaws.{few-from}
 use Rattle.volume.proofs.EditLaws.{DoesFit, fit_parts}
 
--- A tree fits that has what one needs
+-- A tree fits if it has what one needs
 
 fit_of : (limits : Limits) (tree : Tree) → DoesFit limits tree → IsTrue (fits limits tree)
 unfolding fits
@@ -84,7 +84,7 @@ module _ (tree : Tree) (number : ℕ) (node old : Node) (above : IsAbove 0 tree)
         ]);
       })
 
--- A node that is changed, where there is one
+-- A node that is changed, if there is one
 
 module _ (change : Node → Node) (tree : Tree) (number : ℕ) (above : IsAbove 0 tree) where
   above_by : (found : Option Node) → at number tree ≡ found → IsAbove 0 (altered_at change tree number found)
@@ -196,7 +196,7 @@ set_size_room_back tree number size old above there none unnamed limits fit =
     replaced_room_back tree number (sized old) old above there limits (omega (arith, none)) (omega (arith, unnamed))
     (sym (ap (λ (found : Option Node). fits limits (altered_at sized tree number found)) there) ∙ fit)
 
--- numbers rise in a tree where they do in the one with zeros for the bytes of files
+-- numbers rise in a tree if they do in the one with zeros for the bytes of files
 pub above_flat : (least : ℕ) (tree : Tree) → IsAbove least (without_data tree) → IsAbove least tree
 above_flat least [] above = tt
 above_flat least (entry ∷ rest) above = (above.0, above_flat entry.0 rest above.1)

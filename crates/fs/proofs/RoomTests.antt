@@ -32,7 +32,7 @@ use Rattle.fs.specs.Forms.{resizing}
 use Rattle.volume.specs.Nodes.{IsNodeOf, IsFile, ShowsContent}
 use Rattle.fs.proofs.RoomLaws.{above_altered, above_flat, show_room}
 
--- What the tests of room and stamps come to
+-- The results of the tests of room and stamps
 
 pub no_room : (fs : FileSystem) (after : Tree) → fits fs.volume.limits after ≡ false → first_refusal (room_tests fs after) ≡ Some status.NoSpc
 no_room fs after full = ap (λ (b : Bool). refused_or (not b) status.NoSpc (refused_or (not (is_stamp_left fs.changes)) status.ServerFault None)) full
@@ -65,7 +65,7 @@ told_by fs Told after full used_up reason first = by_room (fits fs.volume.limits
     by_room true fit = by_left fit (is_stamp_left fs.changes) refl
     by_room false none = subst Told (some_is (sym (no_room fs after none) ∙ first)) (full none)
 
--- and where nothing does
+-- and if nothing does
 pub record HasRoom (fs : FileSystem) (after : Tree) : Type 0 where
   pub fit : fits fs.volume.limits after ≡ true
   pub left : is_stamp_left fs.changes ≡ true

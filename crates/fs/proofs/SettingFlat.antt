@@ -1,4 +1,5 @@
--- SETATTR that passed its tests, on the tree with zeros for the bytes of files: there it sets the same, with as many zeros. So the tree after it may stand.
+-- SETATTR that passed its tests, on the tree with zeros for the bytes of files: there it sets the
+-- same, with the same number of zeros. So the tree after it is one that the run may have.
 use Rattle.std.proofs.Common.{◌≡◌, ◌<◌, ◌+◌, ◌^◌, ℕ, Bool, true, false, List, [], ◌∷◌, ◌++◌, Option, Some, None, length, refl, sym, ap, ◌∙◌, not}
 use Rattle.std.specs.Prelude.{Result, Ok, option_map, if◌then◌else◌}
 use Rattle.tree_edits.specs.Outlines.{blank_node, without_data, zeros}

@@ -1,4 +1,5 @@
--- SETATTR in each state of a COMPOUND: what it comes to by the definition, where its tests on a file system are known.
+-- SETATTR in each state of a COMPOUND: what it does by the definition, if its tests on a file
+-- system are known.
 use Rattle.std.proofs.Common.{◌≡◌, ◌+◌, ℕ, Bool, true, false, List, [], ◌∷◌, ◌++◌, Some, None, refl, ap, ap₂, ◌∙◌, not}
 use Rattle.tree_edits.specs.declared.edit.Edit.{Edit}
 use Rattle.layout.specs.Stands.{Kept}

@@ -1,4 +1,5 @@
--- SETATTR that passed its tests: its edits are a change that may be kept, and what they leave is what it comes to by the definition.
+-- SETATTR that passed its tests: its edits are a change that may be kept, and have its effect by
+-- the definition.
 use Rattle.std.proofs.Common.{◌≡◌, ◌≤◌, ◌<◌, ◌+◌, ◌^◌, ℕ, Bool, true, false, List, [], ◌∷◌, ◌++◌, Option, Some, None, length, refl, sym, ap, ◌∙◌, arith, subst, not, is_some}
 use Rattle.std.proofs.Math.Logic.{∥∥₁_elim}
 use Rattle.std.proofs.Props.{props}
@@ -99,7 +100,7 @@ no_directory_at fs cred asked passed sized =
 low_size : (limits : Limits) (of : NodeKind) (settings : Settings) → WithinLimits limits of settings → (size : ℕ) → settings.size ≡ Some size → size ≤ limits.file_bytes
 low_size limits of settings within size is = (subst (λ (o : Option ℕ). ForSome o (λ (n : ℕ). n ≤ limits.file_bytes)) is within.size) size refl
 
--- The tree that it leaves has room where that with the size has
+-- The tree that it leaves has room exactly if that with the size has
 
 pub room_asked : (fs : FileSystem) → MayStand fs.volume fs.changes → (now : ℕ) (asked : Setting) (node : Node) (settings : Settings) → AreSettings settings (given_of asked.attributes)
     → AsRoomy fs (laws.tree_set fs now asked node) (edited_by fs.volume (resizing asked.number settings.size))

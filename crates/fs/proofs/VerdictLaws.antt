@@ -1,4 +1,4 @@
--- Which verdicts stateids get, and a state in which each of them is got.
+-- Which verdicts stateids get, and a state in which each of them occurs.
 use Rattle.std.proofs.Common.{◌≡◌, ◌≤◌, ◌<◌, ◌^◌, ◌-◌, ◌⊎◌, ◌==◌, ◌&&◌, ◌||◌, ℕ, Bool, true, false, [], ◌∷◌, Option, Some, None, Result, Ok, Err, if◌then◌else◌, nat_lt, refl, sym, ap, ◌∙◌, arith, inl, inr, subst}
 use Rattle.std.specs.Prelude.{bit_and, not}
 use Rattle.std.proofs.lemmas.Bool.{cases_eq}
@@ -68,7 +68,7 @@ only_possible state access stateid (Ok done) is = tt
 only_possible state access stateid (Err reason) is =
     of_found access (found state.opens state.context stateid) reason (low_found state.opens state.context stateid) is
 
--- A state in which it is got
+-- A state in which it occurs
 
 module _ (fs : FileSystem) (cred : Cred) (number access : ℕ) where
   abbrev context : Context

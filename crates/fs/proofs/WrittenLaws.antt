@@ -1,4 +1,5 @@
--- WRITE that was permitted: what it comes to by the definition, and that its edits are a change that may be kept.
+-- WRITE that was permitted: what it does by the definition, and that its edits are a change that
+-- may be kept.
 use denote.Ref.{Bor}
 use Rattle.std.proofs.Common.{◌≡◌, ◌≤◌, ◌<◌, ◌+◌, ◌^◌, ℕ, Bool, true, false, List, [], ◌∷◌, Some, None, length, take, refl, sym, ap, ap₂, ◌∙◌, arith, subst, not, is_some, ◌&&◌, ◌||◌}
 use Rattle.std.proofs.lemmas.Bool.{lt-ltb, le-ltb, ltb-true}
@@ -60,7 +61,7 @@ abbrev pub tree_written : FileSystem → (now number : ℕ) → Writing → Node
 tree_written fs now number asked node =
     edited (PutBytes number asked.offset (bytes_taken fs asked) ∷ Show number (touched (Some node) (next_stamp fs.volume.run fs.changes) now) ∷ []) fs.volume.tree
 
--- has room where the bytes have
+-- has room exactly if the tree with the bytes has
 pub room_asked : (fs : FileSystem) → MayStand fs.volume fs.changes → (now number : ℕ) (asked : Writing) (node : Node) (place : ℕ) (spelled : Bor (List ℕ)) → place ≡ asked.offset → spelled.now ≡ bytes_taken fs asked
     → AsRoomy fs (tree_written fs now number asked node) (edited_by fs.volume (edit.PutBytes number place spelled ∷ []))
 room_asked fs formed now number asked node place spelled place_is spelled_is =
@@ -140,7 +141,8 @@ module _ (fs : FileSystem) (cred : Cred) (now number : ℕ) (verdict : Result (U
         pub late : (reason : Status) → first_refusal (room_tests fs after) ≡ Some reason → does_on fs state now (Argument.Write arguments) ≡ refused state (Argument.Write arguments) reason
         late = told_by fs (λ (reason : Status). does_on fs state now (Argument.Write arguments) ≡ refused state (Argument.Write arguments) reason) after full used_up
 
--- What it leaves by the definition is what its edits put, and need not last where it is not to be stable
+-- What it leaves by the definition is what its edits put, and need not last if it is not to be
+-- stable
 
 unless_stable : (alters done stable unstable : Bool) → unstable ≡ not stable → ((alters && (done && not unstable)) || false) ≡ true → stable ≡ true
 unless_stable alters done true unstable is lasts = refl

@@ -15,7 +15,7 @@ use Rattle.fs.specs.Outline.{node_shown}
 abbrev pub access_answer : Access → AccessAnswer
 access_answer access = record { supported = access.supported; access = access.granted }
 
--- what a cached node supports and grants, of the bits that are asked
+-- what a cached node supports and grants, of the bits that are asked for
 abbrev pub access_on : CachedNode → Cred → (asked : ℕ) → AccessAnswer
 access_on card cred asked = record {
   supported = asked_bits asked (access_masks card.fields.kind);

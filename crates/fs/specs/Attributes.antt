@@ -18,7 +18,7 @@ use Rattle.wire_attributes.specs.NodeValues.{answer_view, attributes_answered}
 use Rattle.wire_attributes.specs.declared.answer.AttributesAnswer.{AttributesAnswer}
 use Rattle.wire_attributes.specs.declared.node.NodeAttributes.{NodeAttributes}
 
--- what a cached node shows, whichever attributes are asked
+-- what a cached node shows, whichever attributes are asked for
 abbrev pub ShowsCard : Limits → CachedNode → NodeAttributes → Type 0
 ShowsCard limits card node = (bitmap : List ℕ) → attributes_answered node bitmap
     ≡ node_attributes limits bitmap card.fields.number (node_shown card)

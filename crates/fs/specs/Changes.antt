@@ -1,4 +1,4 @@
--- What a call does to a file system: said once, for each call of this crate and of those above it
+-- What a call does to a file system, stated once for each call of this crate and of those above it
 -- that may change the tree.
 use Rattle.std.specs.Prelude.{ℕ, Bool, true, false, not, ◌&&◌, Result, Ok, Err, ◌≡◌, ◌≢◌, ◌⊎◌}
 use Rattle.layout.specs.Stands.{Kept}
@@ -18,19 +18,19 @@ fs_ending (Err fault.Memory) = Nothing
 fs_ending (Err fault.Device) = Broken
 fs_ending (Err fault.Down) = Nothing
 
--- whether what is kept has to last: where the seats change all of it, and else where `durable` says
+-- whether what is kept has to last: all of it if the seats change, and otherwise if `durable` says
 -- so
 abbrev pub HasToLast : VolumeState → (durable : Bool) → Given
 HasToLast held durable after lasting = (lasting ≡ durable) ⊎ (after.seats ≢ held.seats)
 
--- Where a file system defers, nothing has to last yet, unless the seats change: a change of them is
+-- If a file system defers, nothing has to last yet unless the seats change: a change of them is
 -- flushed in either mode, with all that waits.
 abbrev pub deferred : VolumeState → (defers : Bool) → Given → Given
 deferred held defers given after lasting =
     (lasts : Bool) × given after lasts × HasToLast held (lasts && not defers) after lasting
 
--- What waits for the next flush: where it defers, all that has to last by the definition, and else
--- what waited before
+-- What waits for the next flush: if it defers, all that has to last by the definition, and
+-- otherwise what waited before
 pub record LetsWait (keeps_word : Type 0) (given : Given) (old new : FileSystem) (ending : Ending)
     : Type 0 where
   pub mode : new.defers ≡ old.defers

@@ -1,4 +1,4 @@
--- What an operation on a file's bytes asks before it looks at them.
+-- What an operation on a file's bytes checks before it looks at them.
 use Rattle.std.specs.Prelude.{ℕ, [], ◌∷◌, ◌++◌, true, not, Result, Ok, Err}
 use Rattle.model_tree.specs.declared.acl.Cred.{Cred}
 use Rattle.model_tree.specs.declared.status.Status.{Status}
@@ -29,7 +29,7 @@ abbrev pub file_refusals : Tree → (number : ℕ) → Refusals
 file_refusals tree number =
     (not (is_key number tree), status.Stale) ∷ (is_directory_at tree number, status.IsDir) ∷ []
 
--- of a caller who wants these rights, with a stateid of this verdict
+-- for a caller who needs these rights, with a stateid of this verdict
 abbrev pub permit_refusals : Tree → Cred → (number mask : ℕ) → Result (Unit {0}) Status → Refusals
 permit_refusals tree cred number mask verdict =
     file_refusals tree number

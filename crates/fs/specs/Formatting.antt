@@ -1,4 +1,4 @@
--- What a format of a device says by its answer.
+-- What the result of a format of a device says.
 use Rattle.std.specs.Prelude.{ℕ, ◌≡◌, ◌≤◌, ◌⊎◌, ◌↔◌, false, Result, OnOk, IsErrOf}
 use Rattle.disk.specs.Cause.{IsCounted}
 use Rattle.disk.specs.Moments.{History}
@@ -8,8 +8,8 @@ use Rattle.volume.specs.declared.fault.FormatFault.{FormatFault}
 use Rattle.volume.specs.declared.fault.FormatFault.TheVariants as faults
 
 -- A crash within it leaves what was there, no volume, or the new one, and after Ok only the new
--- one. Size comes exactly where no volume has such numbers; after it, as without memory, nothing
--- was written. Device comes exactly where a failure was counted.
+-- one. Size is returned exactly if no volume has such numbers; after Size or Memory nothing was
+-- written. Device is returned exactly if a failure was counted.
 pub record Formats {D : Type 0} (keeps_word : Type 0) (sectors failed : D → ℕ)
     (history : D → History) (nodes : ℕ) (old new : D) (result : Result (Unit {0}) FormatFault)
     : Type 0 where

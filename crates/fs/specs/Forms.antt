@@ -1,4 +1,4 @@
--- The changes that operations make of a volume's tree, and the edits that each is made of.
+-- The changes that operations make to a volume's tree, and the edits that each consists of.
 use Rattle.std.specs.Prelude.{◌≤◌, ℕ, zero, suc, List, [], ◌∷◌, ◌++◌, Option, Some, None, length}
 use denote.Ref.{Bor}
 use Rattle.tree_transaction.specs.declared.nodes.Shown.{Shown}
@@ -14,21 +14,21 @@ pub record Place : Type 0 where
   pub stamp : ℕ
   pub name : Bor (List ℕ)
 
--- The changes that there are, and what each is made of
+-- The changes that there are, and what each consists of
 pub data Change : Type 0 where
-  -- a node, and of a file its size where it has one; its name, whose entry has its number for a
-  -- stamp; and what its directory shows then
+  -- a node, and for a file its size if it has one; its name, whose entry has its number as the
+  -- stamp; and what its directory then shows
   Making : (number : ℕ) → NodeKind → (size : ℕ) → Shown
       → (directory : ℕ) → (name : Bor (List ℕ)) → (directory_shown : Shown) → Change
-  -- a name and the node of this number are gone, and what the directory shows then
+  -- a name and the node of this number are gone, and what the directory then shows
   Removing : Place → (number : ℕ) → (directory_shown : Shown) → Change
-  -- what has the new name is gone, where something has it (its entry's stamp and number);
-  -- the old name of the node is gone, the new one is there; and what both directories show then
+  -- what has the new name is gone, if something has it (its entry's stamp and number); the old name
+  -- of the node is gone, the new one is there; and what both directories then show
   Moving : (number : ℕ) → (old new : Place) → (target : Option (ℕ × ℕ))
       → (old_shown new_shown : Shown) → Change
-  -- bytes of a file from a place on, and what it shows then
+  -- bytes of a file from `offset` on, and what it then shows
   Writing : (file offset : ℕ) → (bytes : Bor (List ℕ)) → Shown → Change
-  -- the size of a file, where one is set, and what the node shows then
+  -- the size of a file, if one is set, and what the node then shows
   Setting : (number : ℕ) → (size : Option ℕ) → Shown → Change
 
 -- Their edits
@@ -72,8 +72,8 @@ edits_by (Writing file offset bytes shown) =
     edit.PutBytes file offset bytes ∷ edit.Show file shown ∷ []
 edits_by (Setting number size shown) = resizing number size ++ (edit.Show number shown ∷ [])
 
--- What a form asks beside its edits: a new node has a number above all others, and few bytes are
--- written
+-- What a form requires besides its edits: a new node has a number above all others, and few bytes
+-- are written
 abbrev pub IsAllowed : VolumeState → Change → Type 0
 IsAllowed held (Making number of size shown directory name directory_shown) =
     IsAboveAll held number

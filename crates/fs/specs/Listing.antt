@@ -48,11 +48,11 @@ Lists fs state now arguments (Err fault.Memory) = Unit {0}
 Lists fs state now arguments (Err fault.Device) = ⊥
 Lists fs state now arguments (Err fault.Down) = fs.volume.is_down ≡ true
 
--- each entry has a spelling
+-- each entry can be encoded
 abbrev pub PageFits : Page → Type 0
 PageFits page = AllByRecursion EntryFits page.entries.items
 
--- The tests of a current filehandle and of all but the page's size, in their order
+-- The tests of a current filehandle and all others except that of the page's size, in their order
 
 -- whether the lists of all entries after the cookie may be read
 abbrev pub may_read_lists : Tree → Cred → (number cookie : ℕ) → Bool
@@ -72,8 +72,8 @@ list_refusals tree cred number arguments =
       status.Access,
     ) ∷ []))
 
--- Entries, where an unreadable list hides what its node shows, or does not. The definition's are
--- those where it hides it if lists are asked.
+-- Entries, in which an unreadable list hides what its node shows, or does not. In those of the
+-- definition it does if lists are asked for.
 
 abbrev pub shown_attributes : Limits → Cred → (hides : Bool) → (bitmap : List ℕ) → (number : ℕ)
     → Option Node → Attributes
@@ -90,7 +90,7 @@ shown_entry limits tree cred hides bitmap name = record {
   attributes = shown_attributes limits cred hides bitmap name.1.number (at name.1.number tree);
 }
 
--- the page of entries that has room in this count of bytes
+-- the page of the entries that fit in `room` bytes
 abbrev pub page_of : (room : ℕ) → List Entry → ReadDirAnswer
 page_of room all = record {
   entries = fitting room all;

@@ -1,4 +1,4 @@
--- A node and its name more, whichever operation makes them.
+-- One more node and its name, whichever operation makes them.
 use Rattle.std.specs.Prelude.{◌≡◌, ◌≤◌, ◌∷◌, [], ℕ, not, List, None}
 use Rattle.tree_edits.specs.Outlines.{zeros}
 use Rattle.layout.specs.CachedNodes.{CachedNode}
@@ -32,17 +32,17 @@ first_node of size shown = record {
   content = first_content of size;
 }
 
--- the tests of each change of the tree, after all others: room, and a stamp that is left
+-- the tests of each change of the tree, after all others: that there is room, and a stamp left
 abbrev pub room_tests : FileSystem → (after : Tree) → Refusals
 room_tests fs after = (not (fits fs.volume.limits after), status.NoSpc)
     ∷ (not (is_stamp_left fs.changes), status.ServerFault)
     ∷ []
 
--- a tree fits where the other one does
+-- one tree fits exactly if the other one does
 abbrev pub AsRoomy : FileSystem → (after asked : Tree) → Type 0
 AsRoomy fs after asked = fits fs.volume.limits after ≡ fits fs.volume.limits asked
 
--- what the next change leaves, where it makes this node under a name
+-- what the next change leaves if it makes this node under a name
 abbrev pub tree_with : FileSystem → (directory : ℕ) → (name : List ℕ) → Node → (now : ℕ) → Tree
 tree_with fs directory name node now = edited
     (made_edits fs.volume.tree directory name node (next_stamp fs.volume.run fs.changes) now)

@@ -1,4 +1,4 @@
--- OPEN, except for the table of opens, of which a call is given whether it is full.
+-- OPEN, except for the table of opens; a call is given whether that is full.
 use Rattle.std.specs.Prelude.{ℕ, Bool, List, [], ◌∷◌, ◌++◌, ◌+◌, Result, Ok, Err, None, MatchOption, ◌≡◌, ◌<◌, ◌≤◌, ◌^◌, ◌⊎◌, ◌&&◌, ◌||◌, true, false, not, if◌then◌else◌}
 use Rattle.tree_edits.specs.declared.edit.Edit.{Edit}
 use Rattle.layout.specs.Stands.{Kept}
@@ -39,7 +39,7 @@ use Rattle.fs.specs.Renaming.{info_of}
 use Rattle.volume.specs.Edits.{edited_by}
 use Rattle.volume.specs.VolumeState.{with_tree}
 
--- What is asked, as the definition has it
+-- What is asked for, as the definition has it
 
 abbrev pub type_of : How → OpenType
 type_of how.NoCreate = NoCreate
@@ -95,7 +95,7 @@ after_open tree changes state arguments of made =
       was_set = set_by made.effect of;
     }))
 
--- where the device keeps its word it is opened as the definition opens it
+-- if the device keeps its word, it is opened as the definition opens it
 abbrev pub OpensFile : (keeps_word : Type 0) → (old new : FileSystem) → State → (now : ℕ) → Opening
     → OpenArguments → Result Opened FsFault → Type 0
 OpensFile keeps_word old new state now asked arguments (Ok made) = keeps_word
@@ -104,14 +104,14 @@ OpensFile keeps_word old new state now asked arguments (Ok made) = keeps_word
 OpensFile keeps_word old new state now asked arguments (Err reason) =
     IsNotDone old state now (Argument.Open arguments) reason
 
--- what a call by a name does to its file, where nothing refuses it
+-- what a call by a name does to its file if nothing refuses it
 abbrev pub open_effect : Tree → (directory : ℕ) → (name : List ℕ) → OpenType → OpenEffect
 open_effect tree directory name of =
     if is_named tree directory name
     then (if cuts of then effect.Cut else effect.Nothing)
     else effect.Made
 
--- whether the reply has room for what it answers
+-- whether the reply has room for the result
 abbrev pub has_room_for : OpenRoom → OpenEffect → Bool
 has_room_for room effect.Nothing = room.nothing
 has_room_for room effect.Cut = room.cut
@@ -122,7 +122,7 @@ has_open_room fs asked room =
     has_room_for room
     (open_effect fs.volume.tree asked.directory asked.name.now (type_of asked.how))
 
--- where nothing refuses an OPEN by this name, it is of the file of this number
+-- if nothing refuses an OPEN by this name, it opens the file of this number
 abbrev pub IsFileToOpen : FileSystem → Opening → (number : ℕ) → Type 0
 IsFileToOpen fs asked number = (state : State) (cred : Cred) → IsOn fs cred asked.directory state
     → file_opened state (operation.Opens (type_of asked.how) (operation.ByName asked.name.now))
@@ -138,8 +138,8 @@ pub record IsOpened (fs : FileSystem) (asked : Opening) (made : Opened) : Type 0
   pub effect_is :
       made.effect ≡ open_effect fs.volume.tree asked.directory asked.name.now (type_of asked.how)
 
--- what an OPEN of this caller leaves by the definition. One that neither makes a file nor cuts one
--- is no change: nothing of it has to last.
+-- what an OPEN of this caller leaves by the definition. One that neither makes a file nor truncates
+-- one is no change: nothing of it has to last.
 pub record OpensTree (fs : FileSystem) (cred : Cred) (now : ℕ) (asked : Opening) (is_full : Bool)
     (after : Kept) (lasts : Bool) : Type 0 where
   pub state : State
@@ -211,33 +211,33 @@ pub record NameLeadsTo (tree : Tree) (directory : ℕ) (name : List ℕ) (number
   pub is_there : is_named tree directory name ≡ true
   pub number_is : number_named tree directory name ≡ number
 
--- the tree of a file that is cut
+-- the tree after a file is truncated
 abbrev pub tree_cut : FileSystem → (number now : ℕ) → Tree
 tree_cut fs number now = edited
     (SetSize number 0 ∷ touch fs.volume.tree number (next_stamp fs.volume.run fs.changes) now ∷ [])
     fs.volume.tree
 
--- what neither makes a file nor cuts one leaves the tree and the count
+-- an open that neither makes a file nor truncates one leaves the tree and the count
 pub record StaysOpen (fs : FileSystem) (state : State) (now : ℕ) (arguments : OpenArguments)
     (of : OpenType) (opened : Opened) : Type 0 where
   pub quiet : alters state (Argument.Open arguments) ≡ false
   pub step : does_on fs state now (Argument.Open arguments)
       ≡ after_open fs.volume.tree fs.changes state arguments of opened
 
--- anything else comes to these edits
+-- any other has the effect of these edits
 abbrev pub OpensBy : FileSystem → State → (now : ℕ) → OpenArguments → OpenType → List Edit → Opened
     → Type 0
 OpensBy fs state now arguments of edits opened = does_on fs state now (Argument.Open arguments)
     ≡ after_open (edited_by fs.volume edits) (fs.changes + 1) state arguments of opened
 
--- an open that passed its tests comes to its edits, or to none
+-- an open that passed its tests has the effect of its edits, or none if it has no edits
 abbrev pub OpensAsPlanned : FileSystem → State → (now : ℕ) → OpenArguments → OpenType → Planned
     → Type 0
 OpensAsPlanned fs state now arguments of planned = MatchOption planned.edits
     (StaysOpen fs state now arguments of planned.opened)
     (λ edits. OpensBy fs state now arguments of edits.items planned.opened)
 
--- What its rights come to, on the file itself
+-- Its rights, on the file itself
 
 abbrev pub may_use : Fields → Cred → (access : ℕ) → (is_cut : Bool) → Bool
 may_use fields cred access is_cut =

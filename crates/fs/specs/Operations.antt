@@ -27,11 +27,11 @@ pub record IsOn (fs : FileSystem) (cred : Cred) (number : ℕ) (state : State) :
   pub run : state.context.run ≡ fs.volume.run
   pub changes : state.changes ≡ fs.changes
 
--- what an operation comes to by the definition, on this volume
+-- what an operation does by the definition, on this volume
 abbrev pub does_on : FileSystem → State → (now : ℕ) → Argument → Stepped
 does_on fs state now operation = does fs.volume.limits state now operation
 
--- a call that changes nothing is refused as the definition refuses it, or since the device failed
+-- a call that changes nothing is refused as the definition refuses it, or because the device failed
 abbrev pub IsRefused : FileSystem → State → (now : ℕ) → Argument → FsFault → Type 0
 IsRefused fs state now operation (fault.Status reason) =
     does_on fs state now operation ≡ refused state operation reason
@@ -83,8 +83,8 @@ pub record MakesTree (fs : FileSystem) (cred : Cred) (number now : ℕ) (operati
   pub on : IsOn fs cred number state
   pub kept : after ≡ with_tree fs.volume (does_on fs state now operation).state.tree
 
--- a call that was not done: refused as the definition refuses it, done except for the room that its
--- reply lacks, or not known to be done
+-- a call that was not done: refused as the definition refuses it, done by the definition but
+-- without room in its reply, not known to be done, or refused because the file system is down
 abbrev pub IsNotDone : FileSystem → State → (now : ℕ) → Argument → FsFault → Type 0
 IsNotDone fs state now operation (fault.Status reason) =
     does_on fs state now operation ≡ refused state operation reason
@@ -113,13 +113,13 @@ created tree changes state given made = answered
       was_set = trimmed given.bitmap;
     }))
 
--- it comes to these edits, before they are made
+-- by the definition it has the effect of these edits
 abbrev pub MakesDirBy : FileSystem → State → (now : ℕ) → (name : List ℕ) → Attributes → List Edit
     → Created → Type 0
 MakesDirBy fs state now name given edits made = does_on fs state now (new_directory name given)
     ≡ created (edited_by fs.volume edits) (fs.changes + 1) state given made
 
--- where the device keeps its word it is made as the definition makes it
+-- if the device keeps its word, it is made as the definition makes it
 abbrev pub MakesDir : (keeps_word : Type 0) → (old new : FileSystem) → State → (now : ℕ)
     → (name : List ℕ) → Attributes → Result Created FsFault → Type 0
 MakesDir keeps_word old new state now name given (Ok made) = keeps_word

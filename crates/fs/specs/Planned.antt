@@ -24,7 +24,7 @@ pub record IsPlanned (fs : FileSystem) (edits : List Edit) : Type 0 where
   pub formed : IsFormed fs.volume.limits (next_stamp fs.volume.run (fs.changes + 1))
       (edited_by fs.volume edits)
 
--- a node whose content a change alters
+-- what a node shows after a change alters its content
 abbrev pub shown_by : Fields → (stamp now : ℕ) → Shown
 shown_by fields stamp now = record {
   owner = fields.owner;
@@ -34,11 +34,11 @@ shown_by fields stamp now = record {
   time_modify = now;
 }
 
--- the list of a new node of this kind, below a directory of this one
+-- the list of a new node of this kind, in a directory with the list `parent`
 abbrev pub list_by : NodeKind → (parent : List Ace) → Settings → List Ace
 list_by of parent settings = created_list parent of settings.is_empty settings.mode settings.acl
 
--- a new node of this caller with such a list
+-- what a new node of this caller with such a list shows
 abbrev pub child_shown : Cred → (acl : List Ace) → (stamp now : ℕ) → Shown
 child_shown cred acl stamp now = record {
   owner = cred.uid;

@@ -6,7 +6,7 @@ use Rattle.volume.specs.Formed.{IsFormed}
 use Rattle.volume.specs.VolumeState.{VolumeState}
 use Rattle.volume.specs.KnownProps.{IsFormed-prop}
 
--- a tree that may stand after this count of changes of a run
+-- a tree that a run may have after `changes` changes
 abbrev pub MayStand : VolumeState → (changes : ℕ) → Type 0
 MayStand held changes = IsFormed held.limits (next_stamp held.run changes) held.tree
 

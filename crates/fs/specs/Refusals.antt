@@ -1,4 +1,5 @@
--- How a refusal of a layer below is answered, and what each change says of its reply's room.
+-- The fault that is returned for a refusal of a layer below, and what each change says of its
+-- reply's room.
 use Rattle.std.specs.Prelude.{◌≡◌, Bool, true, false, Result, OnOk, IsErrOf}
 use Rattle.fs.specs.declared.fault.FsFault.{FsFault}
 use Rattle.fs.specs.declared.fault.FsFault.TheVariants as fault
@@ -18,8 +19,8 @@ volume_fault volumes.Memory = fault.Memory
 volume_fault volumes.Device = fault.Device
 volume_fault volumes.Down = fault.Down
 
--- A caller says whether the reply to a change has room: only then is it done, or the device asked.
--- A file system that is down answers so.
+-- A caller says whether the reply to a change has room: only if it has is the change made, or the
+-- device used. A file system that is down returns Down.
 pub record MindsRoom {T : Type 0} (has_room is_down : Bool) (result : Result T FsFault)
     : Type 0 where
   pub done : OnOk result (has_room ≡ true)

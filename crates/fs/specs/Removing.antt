@@ -32,13 +32,13 @@ removed tree changes state made = answered
     })
     (Answer.Remove (record { is_atomic = true; before = made.before; after = made.after }))
 
--- it comes to these edits, before they are made
+-- by the definition it has the effect of these edits
 abbrev pub RemovesBy : FileSystem → State → (now : ℕ) → (name : List ℕ) → List Edit → Removed
     → Type 0
 RemovesBy fs state now name edits made = does_on fs state now (Argument.Remove name)
     ≡ removed (edited_by fs.volume edits) (fs.changes + 1) state made
 
--- where the device keeps its word it is removed as the definition removes it
+-- if the device keeps its word, it is removed as the definition removes it
 abbrev pub Removes : (keeps_word : Type 0) → (old new : FileSystem) → State → (now : ℕ)
     → (name : List ℕ) → Result Removed FsFault → Type 0
 Removes keeps_word old new state now name (Ok made) = keeps_word
@@ -49,7 +49,7 @@ Removes keeps_word old new state now name (Err reason) =
 
 -- Its tests
 
--- whether this caller may take a name out of a directory: it may delete the node that the name
+-- whether this caller may remove a name from a directory: it may delete the node that the name
 -- leads to, or any child of the directory
 abbrev pub may_remove : Tree → Cred → (directory : ℕ) → (name : List ℕ) → Bool
 may_remove tree cred directory name =

@@ -44,7 +44,7 @@ moving_refusals limits tree from to arguments =
     ++ (name_refusals limits arguments.new_name
     ++ ((not (is_named tree from arguments.old_name), status.NoEnt) ∷ [])))
 
--- Rights and what comes after them, of a name that is not given to itself
+-- Rights and what comes after them, for a name that is not renamed to itself
 
 abbrev pub may_rename : Tree → Cred → (from to : ℕ) → RenameArguments → Bool
 may_rename tree cred from to arguments =
@@ -84,7 +84,7 @@ pub record FindsMoving (tree : Tree) (asked : Renaming) (moving : Moving) : Type
   pub entry : entry_of asked.old_name.now (names_at tree asked.from)
       ≡ Some (record_from moving.stamp asked.old_name.now moving.number)
 
--- the entry of the new name, where there is one
+-- the entry of the new name, if there is one
 abbrev pub record_under : (name : List ℕ) → Option (ℕ × ℕ) → Option (ℕ × DirEntry)
 record_under name None = None
 record_under name (Some found) = Some (record_from found.0 name found.1)
@@ -105,7 +105,7 @@ may_replace tree cred directory None = true
 may_replace tree cred directory (Some found) = granted_on (at found.1 tree) cred delete
     || granted directory.fields.acl directory.fields.owner directory.fields.group cred delete_child
 
--- Where the name is, and where it is to go
+-- The old place of the name, and the new one
 
 abbrev pub old_place : Renaming → (stamp : ℕ) → Place
 old_place asked stamp = record { directory = asked.from; stamp = stamp; name = asked.old_name }

@@ -31,16 +31,16 @@ pub record IsOnBoth (fs : FileSystem) (cred : Cred) (from to : ℕ) (state : Sta
 abbrev pub arguments_of : Renaming → RenameArguments
 arguments_of asked = record { old_name = asked.old_name.now; new_name = asked.new_name.now }
 
--- whether a name is given to itself
+-- whether a name is renamed to itself
 abbrev pub is_itself : (from to : ℕ) → RenameArguments → Bool
 is_itself from to arguments = from == to && bytes_eq arguments.old_name arguments.new_name
 
--- the number of the node that has a name, where there is one
+-- the number of the node that has a name, if there is one
 abbrev pub number_under : Tree → (directory : ℕ) → (name : List ℕ) → Option ℕ
 number_under tree directory name =
     option_map (λ (entry : ℕ × DirEntry). entry.1.number) (entry_of name (names_at tree directory))
 
--- the number of the node that a rename takes away
+-- the number of the node that a rename removes
 abbrev pub replaced_in : Tree → (from to : ℕ) → RenameArguments → Option ℕ
 replaced_in tree from to arguments =
     if is_itself from to arguments then None else number_under tree to arguments.new_name
@@ -50,12 +50,13 @@ replaced_in tree from to arguments =
 abbrev pub info_of : Change → ChangeInfo
 info_of change = record { is_atomic = true; before = change.before; after = change.after }
 
--- the opens of the node that is gone are too: 0, the number where none is gone, has none
+-- the opens of the node that is gone are gone too; if there is none, the number is 0, which has no
+-- opens
 abbrev pub without_replaced : Option ℕ → Opens → Opens
 without_replaced None opens = without_number 0 opens
 without_replaced (Some number) opens = without_number number opens
 
--- a name that is given to itself leaves all opens
+-- a name that is renamed to itself leaves all opens
 abbrev pub opens_after : Bool → Option ℕ → Opens → Opens
 opens_after true replaced opens = opens
 opens_after false replaced opens = without_replaced replaced opens
@@ -71,7 +72,7 @@ renamed tree changes state arguments made = answered
     })
     (Answer.Rename (record { source = info_of made.source; target = info_of made.target }))
 
--- where the device keeps its word it is renamed as the definition renames it
+-- if the device keeps its word, it is renamed as the definition renames it
 abbrev pub Renames : (keeps_word : Type 0) → (old new : FileSystem) → State → (now : ℕ)
     → RenameArguments → Result Renamed FsFault → Type 0
 Renames keeps_word old new state now arguments (Ok made) = keeps_word
@@ -80,8 +81,8 @@ Renames keeps_word old new state now arguments (Ok made) = keeps_word
 Renames keeps_word old new state now arguments (Err reason) =
     IsNotDone old state now (Argument.Rename arguments) reason
 
--- what a rename leaves by the definition. A name that is given to itself is no change: nothing of
--- it has to last.
+-- what a rename leaves by the definition. Renaming a name to itself is no change: nothing of it has
+-- to last.
 pub record RenamesTree (fs : FileSystem) (cred : Cred) (from to now : ℕ)
     (arguments : RenameArguments) (after : Kept) (lasts : Bool) : Type 0 where
   pub state : State
@@ -92,17 +93,17 @@ pub record RenamesTree (fs : FileSystem) (cred : Cred) (from to now : ℕ)
 
 -- Before it is kept
 
--- a name that is given to itself leaves the tree and the count
+-- a name that is renamed to itself leaves the tree and the count
 abbrev pub StaysNamed : FileSystem → State → (now : ℕ) → RenameArguments → Renamed → Type 0
 StaysNamed fs state now arguments made = does_on fs state now (Argument.Rename arguments)
     ≡ renamed fs.volume.tree fs.changes state arguments made
 
--- other names come to these edits
+-- a rename to another name has the effect of these edits
 abbrev pub IsMoved : FileSystem → State → (now : ℕ) → RenameArguments → List Edit → Renamed → Type 0
 IsMoved fs state now arguments edits made = does_on fs state now (Argument.Rename arguments)
     ≡ renamed (edited_by fs.volume edits) (fs.changes + 1) state arguments made
 
--- a rename that passed its tests comes to its edits, or to none
+-- a rename that passed its tests has the effect of its edits, or none if it has no edits
 abbrev pub RenamesAsPlanned : FileSystem → State → (now : ℕ) → RenameArguments → Planned → Type 0
 RenamesAsPlanned fs state now arguments planned = MatchOption planned.edits
     (StaysNamed fs state now arguments planned.renamed)

@@ -42,7 +42,7 @@ abbrev pub after_setting : Tree → (changes : ℕ) → State → SetAttrArgumen
 after_setting tree changes state arguments =
     answered (record state { tree = tree; changes = changes }) (was_set arguments)
 
--- where the device keeps its word they are set as the definition sets them
+-- if the device keeps its word, they are set as the definition sets them
 abbrev pub SetsAttributes : (keeps_word : Type 0) → (old new : FileSystem) → State → (now : ℕ)
     → SetAttrArguments → Result (Unit {0}) FsFault → Type 0
 SetsAttributes keeps_word old new state now arguments (Ok done) = keeps_word
@@ -70,12 +70,12 @@ abbrev pub StaysSet : FileSystem → State → (now : ℕ) → SetAttrArguments 
 StaysSet fs state now arguments = does_on fs state now (Argument.SetAttr arguments)
     ≡ after_setting fs.volume.tree fs.changes state arguments
 
--- another one comes to these edits
+-- any other has the effect of these edits
 abbrev pub IsSet : FileSystem → State → (now : ℕ) → SetAttrArguments → List Edit → Type 0
 IsSet fs state now arguments edits = does_on fs state now (Argument.SetAttr arguments)
     ≡ after_setting (edited_by fs.volume edits) (fs.changes + 1) state arguments
 
--- a SETATTR that passed its tests comes to its edits, or to none
+-- a SETATTR that passed its tests has the effect of its edits, or none if it has no edits
 abbrev pub SetsAsPlanned : FileSystem → State → (now : ℕ) → SetAttrArguments → Option (Vec Edit)
     → Type 0
 SetsAsPlanned fs state now arguments planned = MatchOption planned
@@ -90,7 +90,7 @@ sized_refusals false is_directory verdict = []
 sized_refusals true is_directory verdict =
     (is_directory, status.IsDir) ∷ verdict_refusals verdict
 
--- whether one who is allowed these masks may set attributes of these numbers
+-- whether a caller who is allowed these masks may set the attributes of these numbers
 abbrev pub may_set : (allows : ℕ → Bool) → (attributes : List ℕ) → Bool
 may_set allows attributes =
     (not (is_among attributes size_number) || allows write_data)
@@ -110,7 +110,7 @@ setting_tests limits tree cred number verdict given =
       status.Access,
     ) ∷ [])))
 
--- what a node shows after it
+-- what a node then shows
 abbrev pub shown_with : Fields → Settings → (stamp now : ℕ) → Shown
 shown_with fields settings stamp now = record {
   owner = unwrap_or settings.owner fields.owner;

@@ -1,4 +1,4 @@
--- The verdicts on a stateid that READ, WRITE and SETATTR may be handed (RFC 8881, sections 8.2.2 to
+-- The verdicts on a stateid that READ, WRITE and SETATTR may be given (RFC 8881, sections 8.2.2 to
 -- 8.2.4): no refusal; or that it names no open, an old seqid of one, or one without this access.
 -- Each is given in some state.
 use Rattle.std.specs.Prelude.{ℕ, Result, Ok, Err, Some, None, [], codes, ◌≡◌, ◌≤◌, ◌<◌, ◌^◌, ◌⊎◌, IsTrue, IsFalse}
@@ -34,14 +34,14 @@ OnlyPossible =
     (state : State) (access : ℕ) (stateid : StateId) (verdict : Result (Unit {0}) Status)
     → IsVerdict state access stateid verdict → IsPossible verdict
 
--- Each of them is got
+-- Each of them occurs
 
 -- the number of a file
 pub record IsFileAt (tree : Tree) (number : ℕ) : Type 0 where
   pub there : IsTrue (is_key number tree)
   pub is_file : IsFalse (is_directory_at tree number)
 
--- a stateid gets it in this state, whose opens are such as a run has, where the node is a file
+-- a stateid gets it in this state, whose opens are such as a run has if the node is a file
 pub record Gets (fs : FileSystem) (cred : Cred) (number access : ℕ)
     (verdict : Result (Unit {0}) Status) (state : State) (stateid : StateId) : Type 0 where
   pub on : IsOn fs cred number state
@@ -73,7 +73,7 @@ EachSettingIsMeant =
     → (state : State) × (arguments : SetAttrArguments)
     × IsOn fs cred asked.number state × IsSetting state asked arguments
 
--- Worked out by hand, where a client's opens of a file are as OPEN makes them
+-- Worked out by hand, with a client's opens of a file as OPEN makes them
 
 abbrev pub asked : (access : ℕ) → Open
 asked access = new_open 7 (codes "A") number access

@@ -20,7 +20,7 @@ fs_of fs = record {
 unfoldable pub fs_failures : {D : _} {g : _} → Fs D g → ℕ
 fs_failures fs = volume_failures fs.volume
 
--- what a call makes of it, and of how often its device has failed
+-- what a call does to it, and to how often its device has failed
 abbrev pub AltersFs : {D : _} {g : _} → (old new : Fs D g) → Given → Ending → Type 0
 AltersFs {D} {g} old new given ending =
     FsChanges g.keeps_word given (fs_of old) (fs_of new) (fs_failures old) (fs_failures new) ending

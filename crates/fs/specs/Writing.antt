@@ -31,11 +31,11 @@ pub record IsWriting (state : State) (verdict : Result (Unit {0}) Status) (asked
   pub bytes_are : arguments.data_bytes ≡ asked.bytes.now
   pub stable_is : (arguments.stable == 0) ≡ not asked.is_stable
 
--- the bytes that it takes
+-- the bytes that one WRITE takes
 abbrev pub bytes_taken : FileSystem → Writing → List ℕ
 bytes_taken fs asked = take fs.volume.limits.transfer_bytes asked.bytes.now
 
--- this count of bytes was taken, the tree and the count of changes after it
+-- `count` bytes were written; the tree and the count of changes after it
 abbrev pub after_write : Tree → (changes : ℕ) → State → WriteArguments → (count : ℕ) → Stepped
 after_write tree changes state arguments count = answered
     (record state { tree = tree; changes = changes })
@@ -45,7 +45,7 @@ after_write tree changes state arguments count = answered
       verifier = write_verifier state;
     }))
 
--- where the device keeps its word it is done as the definition does it
+-- if the device keeps its word, it is done as the definition does it
 abbrev pub Writes : (keeps_word : Type 0) → (old new : FileSystem) → State → (now : ℕ)
     → WriteArguments → Result ℕ FsFault → Type 0
 Writes keeps_word old new state now arguments (Ok count) = keeps_word
@@ -54,7 +54,7 @@ Writes keeps_word old new state now arguments (Ok count) = keeps_word
 Writes keeps_word old new state now arguments (Err reason) =
     IsNotDone old state now (Argument.Write arguments) reason
 
--- it comes to these edits, before they are made
+-- by the definition it has the effect of these edits
 abbrev pub WritesBy : FileSystem → State → (now : ℕ) → WriteArguments → (count : ℕ) → List Edit
     → Type 0
 WritesBy fs state now arguments count edits = does_on fs state now (Argument.Write arguments)
@@ -82,7 +82,7 @@ pub record WritesTree (fs : FileSystem) (cred : Cred) (number now : ℕ)
       ≡ with_tree fs.volume (does_on fs state now (Argument.Write arguments)).state.tree
   pub lasting_is : lasts ≡ is_lasting fs state now (Argument.Write arguments)
 
--- the tree after edits, which has to last only where they are to be stable
+-- the tree after edits, which has to last only if they are to be stable
 abbrev pub IsWrittenTree : VolumeState → List Edit → (is_stable : Bool) → Given
 IsWrittenTree held edits is_stable after lasts =
     (after ≡ with_tree held (edited_by held edits)) × (lasts ≡ true → is_stable ≡ true)

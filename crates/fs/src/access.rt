@@ -33,15 +33,15 @@ const DELETE: u32 = 0x10;
 /// `ACCESS4_EXECUTE`: to execute a file.
 const EXECUTE: u32 = 0x20;
 
-/// What ACCESS answers: of the bits that are asked those that a node of this kind has, and those of
-/// them that the caller is granted.
+/// The result of ACCESS: of the bits that are asked for, those that a node of this kind has, and
+/// those of them that the caller is granted.
 #[derive(Clone, Copy, PartialEq, Eq)]
 pub struct Access {
     pub supported: u32,
     pub granted: u32,
 }
 
-/// A bit where it holds.
+/// `bit` if it holds, and 0 otherwise.
 fn bit_if(holds: bool, bit: u32) -> u32
     ensures value { result ≡ (if holds then bit else 0) }
     ensures small { result ≤ bit }
@@ -49,7 +49,7 @@ fn bit_if(holds: bool, bit: u32) -> u32
     if holds { bit } else { 0 }
 }
 
-/// The bits that are asked, of those that a kind has.
+/// The bits that are asked for, of those that a kind has.
 fn supported_bits(kind: NodeKind, asked: u32) -> u32
     ensures { result ≡ asked_bits asked (access_masks kind) }
 {
@@ -66,7 +66,7 @@ fn supported_bits(kind: NodeKind, asked: u32) -> u32
     }
 }
 
-/// A bit where it is asked and the node grants what it asks for.
+/// `bit` if it is asked for and the node grants the caller `mask`, and 0 otherwise.
 fn granted_bit(cached: &CachedNode, cred: &Cred, asked: u32, bit: u32, mask: Mask) -> u32
     ensures value { result ≡ (if meets asked bit && granted cached.now.fields.acl
         cached.now.fields.owner cached.now.fields.group cred.now mask.0 then bit else 0) }
@@ -75,7 +75,7 @@ fn granted_bit(cached: &CachedNode, cred: &Cred, asked: u32, bit: u32, mask: Mas
     bit_if(asked & bit != 0 && grants(cached, cred, mask), bit)
 }
 
-/// The bits that are asked and granted.
+/// The bits that are asked for and granted.
 fn granted_bits(cached: &CachedNode, cred: &Cred, asked: u32) -> u32
     ensures { result ≡ granted_bits (node_shown cached.now) cred.now asked
         (access_masks cached.now.fields.kind) }
@@ -100,7 +100,7 @@ fn granted_bits(cached: &CachedNode, cred: &Cred, asked: u32) -> u32
     }
 }
 
-/// What a cached node supports and grants, of the bits that are asked.
+/// What a cached node supports and grants, of the bits that are asked for.
 fn access_on(cached: &CachedNode, cred: &Cred, asked: u32) -> Access
     ensures { access_answer result ≡ access_on cached.now cred.now asked }
 {
@@ -118,7 +118,7 @@ impl<D: Device> Fs<D> {
     ghost use Rattle.fs.specs.Views.{fs_of};
     ghost use Rattle.fs.specs.Operations.{IsOn};
 
-    /// ACCESS (RFC 8881, section 18.1) of these bits, on the node of this number. STALE where it is
+    /// ACCESS (RFC 8881, section 18.1) of these bits, on the node of this number. STALE if it is
     /// gone; no right is needed to ask.
     pub fn access(&self, cred: &Cred, number: u64, asked: u32) -> Result<Access, FsFault>
         ensures step { (state : State) (now : ℕ) → IsOn (fs_of self.now) cred.now number state

@@ -20,12 +20,13 @@ impl<D: Device> Fs<D> {
     ghost use Rattle.model_tree.specs.declared.acl.TheConstants.Acl.{MAX_STORED};
     ghost use Rattle.wire_attributes.specs.NodeValues.{HasFewEntries};
 
-    /// GETATTR (RFC 8881, section 18.7) of what a bitmap, of any length, asks of the node of this
-    /// number. The answer borrows the node: it gives its size, and is spelled where it is written.
+    /// GETATTR (RFC 8881, section 18.7) of the attributes in a bitmap, of any length, for the node
+    /// of this number. The result borrows the node: it gives its size, and is encoded when it is
+    /// written.
     ///
     /// # Errors
     ///
-    /// STALE, then ACCESS where the list is asked and the caller may not read it.
+    /// STALE, then ACCESS if the list is asked for and the caller may not read it.
     pub fn attributes<'a>(
         &'a self,
         cred: &Cred,
@@ -45,7 +46,7 @@ impl<D: Device> Fs<D> {
         Ok(self.asked_attributes(cred, number, asked)?)
     }
 
-    /// The attributes that are asked of a node, for a caller who may read them.
+    /// The attributes that are asked for of a node, for a caller who may read them.
     fn asked_attributes<'a>(
         &'a self,
         cred: &Cred,

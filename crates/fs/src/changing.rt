@@ -1,4 +1,4 @@
-//! Changes of the tree: the edits that they are made of, and keeping them.
+//! Changes of the tree: the edits that they consist of, and keeping them.
 
 ghost use Rattle.std.specs.Prelude.{◌≡◌, ◌⊎◌, ◌+◌, ◌<◌, true, false, IfOk, IfErr, OnOk, MatchOption, ◌^◌};
 ghost use Rattle.tree_transaction.specs.Nodes.{shown_of};
@@ -17,7 +17,7 @@ use std::alloc::{AllocError, Global};
 use tree_edits::Edit;
 use tree_transaction::Shown;
 
-/// A node whose content a change alters: what it shows then.
+/// What a node shows after a change alters its content.
 pub(crate) fn metadata_with_change(
     cached: &CachedNode,
     stamp: u64,
@@ -42,11 +42,11 @@ pub(crate) struct NewNode<'a> {
     pub(crate) directory: u64,
     pub(crate) name: &'a [u8],
     pub(crate) kind: NodeKind,
-    /// Of a file, in bytes, which are zeros; 0 of a directory.
+    /// For a file in bytes, which are zeros; 0 for a directory.
     pub(crate) size: u64,
 }
 
-/// A new node of the change's number, its name, and what its directory shows then.
+/// The edits of a new node with the change's number, its name, and what its directory then shows.
 pub(crate) fn made_edits<'a>(
     alloc: Global,
     new: NewNode<'a>,
@@ -83,7 +83,8 @@ pub(crate) fn made_edits<'a>(
     Ok(vec![in alloc; node, size, name, shows]?)
 }
 
-/// A name and the node that it leads to are gone, and what its directory shows then.
+/// The edits that remove a name and the node that it leads to, and set what its directory then
+/// shows.
 pub(crate) fn removed_edits<'a>(
     alloc: Global,
     directory: u64,
@@ -108,7 +109,8 @@ pub(crate) fn removed_edits<'a>(
     Ok(vec![in alloc; name_gone, Edit::DropNode { number }, shows]?)
 }
 
-/// Bytes of a file from a place on, and what the file shows then. Takes no memory.
+/// The edits that write bytes of a file from `offset` on, and set what the file then shows. Needs
+/// no memory.
 pub(crate) fn written_edits<'a>(
     file: u64,
     offset: usize,
@@ -129,7 +131,7 @@ pub(crate) fn written_edits<'a>(
     [put, shows]
 }
 
-/// The size of a file, where one is set, and what the node shows then.
+/// The edits that set the size of a file, if there is one, and what the node then shows.
 pub(crate) fn set_edits<'a>(
     alloc: Global,
     number: u64,
@@ -160,7 +162,7 @@ impl<D: Device> Fs<D> {
     ghost use Rattle.volume.specs.Edits.{IsEdited, edited_by};
     ghost use Rattle.volume.specs.Formed.{ShowsTree};
 
-    /// The stamp of the next change: 0 where it has more than 64 bits, after the last change of the
+    /// The stamp of the next change: 0 if it has more than 64 bits, after the last change of the
     /// last run.
     pub(crate) fn next_stamp(&self) -> u64
         ensures { IsShortNumber
@@ -169,7 +171,7 @@ impl<D: Device> Fs<D> {
         stamp(self.restart_count(), self.changes).wrapping_add(1)
     }
 
-    /// The same: none where the run has no stamp left.
+    /// The same: `None` if the run has no stamp left.
     pub(crate) fn stamp_left(&self) -> Option<u64>
         ensures { MatchOption result (is_stamp_left (fs_of self.now).changes ≡ false) (λ stamp.
             (stamp ≡ next_stamp (fs_of self.now).volume.run (fs_of self.now).changes)
@@ -181,16 +183,16 @@ impl<D: Device> Fs<D> {
         Some(stamp(self.restart_count(), self.changes + 1))
     }
 
-    /// The stamp of a change, if the tree after it has room and a stamp is left: NOSPC, SERVERFAULT.
-    /// The edits are those of the change, or others that need as much room: what a node shows needs
-    /// none, and a new node and its name need the same whichever number they get.
+    /// The stamp of a change, if the tree after it has room and a stamp is left; otherwise NOSPC or
+    /// SERVERFAULT. The edits are those of the change, or others that need the same room: what a
+    /// node shows needs none, and a new node and its name need the same whichever number they get.
     pub(crate) fn stamp_for(&self, edits: &[Edit<'_>]) -> Result<u64, Status>
         requires { AreMeasurable (fs_of self.now).volume.tree edits.now }
         // Its tests, in their order
         ensures tests { (after : Tree)
             → AsRoomy (fs_of self.now) after (edited_by (fs_of self.now).volume edits.now)
             → IsChecked (room_tests (fs_of self.now) after) result }
-        // Where none holds
+        // If none holds
         ensures stamp { IfOk result (λ stamp.
             stamp ≡ next_stamp (fs_of self.now).volume.run (fs_of self.now).changes) }
         ensures left { OnOk result ((fs_of self.now).changes + 1 < 2 ^ 32) }
@@ -204,13 +206,13 @@ impl<D: Device> Fs<D> {
         }
     }
 
-    /// The same, of a change that sets a node's size, or of one that sets none.
+    /// The same, for a change that sets a node's size, or for one that sets none.
     pub(crate) fn stamp_to_resize(&self, number: u64, size: Option<u64>) -> Result<u64, Status>
         // Its tests, in their order
         ensures tests { (after : Tree) → AsRoomy (fs_of self.now) after
             (edited_by (fs_of self.now).volume (resizing number size))
             → IsChecked (room_tests (fs_of self.now) after) result }
-        // Where none holds
+        // If none holds
         ensures stamp { IfOk result (λ stamp.
             stamp ≡ next_stamp (fs_of self.now).volume.run (fs_of self.now).changes) }
         ensures left { OnOk result ((fs_of self.now).changes + 1 < 2 ^ 32) }

@@ -1,4 +1,4 @@
-//! Why a file system does not do what it is asked.
+//! Why a file system does not do what it is asked to do.
 
 ghost use Rattle.std.specs.Prelude.{◌≡◌};
 

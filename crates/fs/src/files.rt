@@ -18,7 +18,7 @@ impl<D: Device> Fs<D> {
     ghost use Rattle.fs.specs.Views.{fs_of};
     ghost use Rattle.volume.specs.Nodes.{IsNodeOf};
 
-    /// The file of this number. STALE where no node has it, ISDIR where it is a directory's.
+    /// The file of this number. STALE if no node has it, ISDIR if it is a directory's.
     pub(crate) fn file(&self, number: u64) -> Result<&CachedNode, Status>
         ensures tests { IsChecked (file_refusals (fs_of self.entry.now).volume.tree number) result }
         ensures node { IfOk result (λ cached.

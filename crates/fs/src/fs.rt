@@ -48,12 +48,12 @@ impl<D: Device> Fs<D> {
     ghost use Rattle.volume.specs.MountAnswers.{FindsSeats, MountGivesBack};
     ghost use Rattle.volume.specs.Rooms.{IsLeftOf};
 
-    /// Makes the device a new volume of this many nodes, with an empty root: `volume::format`.
+    /// Makes the device a new volume of `nodes` nodes, with an empty root: `volume::format`.
     ///
     /// # Errors
     ///
-    /// Size where no volume has this many sectors and nodes, and Memory: nothing was written.
-    /// Device where the device failed.
+    /// Size if no volume has this many sectors and nodes, and Memory: nothing was written. Device
+    /// if the device failed.
     pub fn format(alloc: Global, device: &mut D, nodes: u32) -> Result<(), FormatFault>
         ensures { Formats D.keeps_word D.size D.failed D.history nodes
             device.old device.new result }
@@ -61,7 +61,7 @@ impl<D: Device> Fs<D> {
         volume::format(alloc, device, nodes)
     }
 
-    /// Mounts the volume: `Volume::mount`. Every map that a crash leaves from then on has the new
+    /// Mounts the volume: `Volume::mount`. Every image that a crash leaves from then on has the new
     /// restart count, which is this file system's run. Its journal keeps 64 sectors in memory.
     ///
     /// # Errors
@@ -79,8 +79,7 @@ impl<D: Device> Fs<D> {
         Ok(fs)
     }
 
-    /// The same, with a journal that keeps this count of sectors in memory:
-    /// `Volume::mount_cached`.
+    /// The same, with a journal that keeps `cached` sectors in memory: `Volume::mount_cached`.
     ///
     /// # Errors
     ///
@@ -101,13 +100,13 @@ impl<D: Device> Fs<D> {
         Ok(fs)
     }
 
-    /// The same, and the seats that the volume keeps: `Volume::mount_seated`. They were read before
-    /// its count was raised.
+    /// The same, with the seats that the volume keeps: `Volume::mount_seated`. They were read
+    /// before its count was raised.
     ///
     /// # Errors
     ///
-    /// The device comes back with the reason. NotVolume, then Worn, by the first sector, and then
-    /// nothing was written; then Damaged exactly where there is no tree; Device where the device
+    /// The device comes back with the reason. NotVolume, then Worn, because of the first sector,
+    /// and then nothing was written; then Damaged exactly if there is no tree; Device if the device
     /// failed, and Memory.
     pub fn mount_seated(
         alloc: Global,
@@ -136,13 +135,13 @@ impl<D: Device> Fs<D> {
         })
     }
 
-    /// Whether there is a tree on the volume of a device, which nothing is written to:
+    /// Whether the volume on a device holds a tree, found out without writing to it:
     /// `volume::check`.
     ///
     /// # Errors
     ///
-    /// NotVolume, by the first sector, as a mount; then Damaged exactly where there is no tree;
-    /// Device where the device failed, and Memory; never Worn.
+    /// NotVolume, because of the first sector, as for a mount; then Damaged exactly if there is no
+    /// tree; Device if the device failed, and Memory; never Worn.
     pub fn check(alloc: Global, device: &mut D) -> Result<Checked, MountFault>
         ensures { Checks D.keeps_word D.size D.failed D.history
             device.old device.new result }
@@ -157,7 +156,7 @@ impl<D: Device> Fs<D> {
         self.volume.restart_count()
     }
 
-    /// What its volume may have.
+    /// The limits of its volume.
     pub fn limits(&self) -> &Limits
         ensures { result.now ≡ (fs_of self.now).volume.limits }
     {
@@ -178,7 +177,7 @@ impl<D: Device> Fs<D> {
         self.changes
     }
 
-    /// The device, as it is now. What is on it is the next mount's.
+    /// The device, as it is now. What is on it is for the next mount.
     pub fn into_device(self) -> D
         ensures history { D.history result ≡ (fs_of self).volume.history }
         ensures size { D.size result ≡ (fs_of self).volume.sectors }
@@ -203,8 +202,8 @@ impl<D: Device> Fs<D> {
         self.volume.is_down()
     }
 
-    /// Whether from now on what has to last waits for [`Fs::flush`], and a crash before that may
-    /// take it away. Otherwise, as after a mount, it is on the device before the call returns.
+    /// Sets whether from now on what has to last waits for [`Fs::flush`], so that a crash before
+    /// that may lose it. Otherwise, as after a mount, it is on the device before the call returns.
     pub fn set_deferring(&mut self, later: bool)
         ensures fs { fs_of self.new ≡ record (fs_of self.old) { defers = later } }
         ensures failures { fs_failures self.new ≡ fs_failures self.old }
@@ -224,7 +223,7 @@ impl<D: Device> Fs<D> {
     ///
     /// # Errors
     ///
-    /// Device where the device failed, and Down from then on.
+    /// Device if the device failed, and Down from then on.
     pub fn flush(&mut self) -> Result<(), FsFault>
         ensures flushes { FsFlushes D.keeps_word (fs_of self.old) (fs_of self.new)
             (fs_failures self.old) (fs_failures self.new) result }
@@ -246,7 +245,7 @@ impl<D: Device> Fs<D> {
     ///
     /// # Errors
     ///
-    /// Device where the device failed, and Down from then on.
+    /// Device if the device failed, and Down from then on.
     pub fn checkpoint(&mut self) -> Result<(), FsFault>
         ensures volume { AltersFs self.old self.new
             (Stays (fs_of self.old).volume) (fs_ending result) }
@@ -267,12 +266,12 @@ impl<D: Device> Fs<D> {
         Ok(())
     }
 
-    /// Edits the seats of persistent sessions: `Volume::put_seats`. It is no change of the tree,
-    /// and keeps each one so far, also of those that wait.
+    /// Edits the seats of persistent sessions: `Volume::put_seats`. It does not change the tree,
+    /// and keeps every change so far, even those that wait.
     ///
     /// # Errors
     ///
-    /// Memory, and nothing changed; Device where the device failed, and Down from then on.
+    /// Memory, and nothing changed; Device if the device failed, and Down from then on.
     pub fn put_seats(&mut self, edits: &SeatEdits) -> Result<(), FsFault>
         requires { D.keeps_word → AreEdits (fs_of self.old).volume.run (edits_view edits.now)
             (fs_of self.old).volume.seats }

@@ -1,4 +1,4 @@
-//! Operations that move the current filehandle or answer it.
+//! Operations that move the current filehandle or return it.
 
 ghost use Rattle.std.specs.Prelude.{◌≡◌, MatchResult, IsTrue, IsFalse};
 ghost use Rattle.model_tree.specs.Trees.Stamp.{filehandle_of, is_filehandle, handle_number};
@@ -36,7 +36,7 @@ impl<D: Device> Fs<D> {
     ghost use Rattle.fs.specs.Operations.{IsOn, PutsHandle, GetsHandle, TestsCurrent};
 
     /// PUTFH (RFC 8881, section 18.19): the number of the node that a filehandle names. BADHANDLE
-    /// where it is none of this server's, STALE where the node is gone.
+    /// if it is none of this server's, STALE if the node is gone.
     pub fn put_handle(&self, handle: &[u8]) -> Result<u64, FsFault>
         ensures step { (state : State) (now : ℕ) → state.tree ≡ (fs_of self.now).volume.tree
             → PutsHandle (fs_of self.now) state now handle.now result }
@@ -52,7 +52,7 @@ impl<D: Device> Fs<D> {
         Ok(number)
     }
 
-    /// GETFH (RFC 8881, section 18.8): the filehandle of the node of this number. STALE where it is
+    /// GETFH (RFC 8881, section 18.8): the filehandle of the node of this number. STALE if it is
     /// gone.
     pub fn handle(&self, number: u64) -> Result<[u8; 8], FsFault>
         ensures step { (cred : Cred) (state : State) (now : ℕ)
@@ -70,7 +70,7 @@ impl<D: Device> Fs<D> {
     }
 
     /// Tests the current filehandle, that of the node of this number (RFC 8881, section
-    /// 16.2.3.1.1). STALE where it is gone.
+    /// 16.2.3.1.1). STALE if it is gone.
     pub fn check_node(&self, number: u64) -> Result<(), FsFault>
         ensures step { (cred : Cred) (state : State) → IsOn (fs_of self.now) cred number state
             → TestsCurrent (fs_of self.now) state result }

@@ -2,9 +2,9 @@
 
 ghost use Rattle.fs.specs.Verdicts.{OnlyPossible, EachIsGot, EachSettingIsMeant, EachWriteIsMeant, VerdictExamples};
 
-/// What opens answer to a stateid is no refusal, or BAD_STATEID, OLD_STATEID or OPENMODE, and each
-/// of these in some state. So a READ, WRITE or SETATTR that is handed one is an operation of some
-/// state, and what is promised of it is promised of some.
+/// The verdict of the opens on a stateid is no refusal, or BAD_STATEID, OLD_STATEID or OPENMODE,
+/// and each of these in some state. So a READ, WRITE or SETATTR that is given one is an operation
+/// of some state, and what is promised of the call is promised of such an operation.
 pub fn verdicts()
     ensures only { OnlyPossible }
     ensures each { EachIsGot }

@@ -16,11 +16,11 @@ use node_table::CachedNode;
 use std::alloc::AllocError;
 use wire_attributes::{Attribute, AttributesAnswer, ListedAttributes, ListedEntry, is_asked};
 
-/// What a page takes beside its entries: the verifier, the bool that ends them, and the one that
+/// What a page takes besides its entries: the verifier, the bool that ends them, and the one that
 /// says whether this is the end.
 const EMPTY_PAGE: usize = 16;
 
-/// What READDIR asks (RFC 8881, section 18.23). Its dircount is not looked at.
+/// What READDIR asks for (RFC 8881, section 18.23). Its dircount is ignored.
 #[derive(Clone, Copy)]
 pub struct Listing<'a> {
     /// The directory's number.
@@ -31,7 +31,7 @@ pub struct Listing<'a> {
     pub verifier: [u8; 8],
     /// How many bytes the result may take, after its status.
     pub max_count: u32,
-    /// The bitmap of the attributes that are asked of each entry, of any length.
+    /// The bitmap of the attributes that are asked for of each entry, of any length.
     pub asked: &'a [u32],
 }
 
@@ -49,7 +49,7 @@ fn asks_lists(asked: &[u32]) -> bool
     is_asked(asked, Attribute::Acl.number())
 }
 
-/// Whether the call is refused where the ACL of an entry after the cookie may not be read: ACLs are
+/// Whether the call is refused if the ACL of an entry after the cookie may not be read: ACLs are
 /// asked for, and rdattr_error, by which an entry would say so itself, is not.
 fn must_read_lists(asked: &[u32]) -> bool
     ensures { result ≡ (asks_lists asked.now && not (asks_errors asked.now)) }
@@ -57,8 +57,8 @@ fn must_read_lists(asked: &[u32]) -> bool
     asks_lists(asked) && !is_asked(asked, Attribute::RdattrError.number())
 }
 
-/// Whether an entry whose ACL may not be read shows only rdattr_error: both are asked for. Where
-/// ACLs are and rdattr_error is not, there is no such entry, since `permit_list` refused the call.
+/// Whether an entry whose ACL may not be read shows only rdattr_error: both are asked for. If only
+/// ACLs are, there is no such entry, since `permit_list` refused the call.
 fn hides_unreadable(asked: &[u32]) -> bool
     ensures { result ≡ (asks_lists asked.now && asks_errors asked.now) }
 {
@@ -66,7 +66,7 @@ fn hides_unreadable(asked: &[u32]) -> bool
 }
 
 impl Listing<'_> {
-    /// Whether a cookie comes with a verifier that goes with none.
+    /// Whether a cookie comes with a verifier that is not 0.
     fn has_other_verifier(&self) -> bool
         ensures { result ≡ (not (self.now.cookie == 0)
             && not (bytes_eq self.now.verifier (replicate 8 0))) }
@@ -93,15 +93,15 @@ impl<D: Device> Fs<D> {
     ghost use Rattle.wire_attributes.specs.Given.{IsChecked};
     ghost use Rattle.wire_attributes.specs.Listed.{EntryFits, ListedFits, entry_view, listed_view};
 
-    /// READDIR (RFC 8881, section 18.23): a page of a directory, as many entries after the cookie
-    /// as the result has room for. The entries borrow the names and the nodes.
+    /// READDIR (RFC 8881, section 18.23): a page of a directory, with the entries after the cookie
+    /// that the result has room for. The entries borrow the names and the nodes.
     ///
     /// # Errors
     ///
     /// Refused by the first of these that holds: STALE, NOTDIR, ACCESS without the right to list
-    /// the directory, NOT_SAME where a cookie comes with a verifier that is not 0, ACCESS where
-    /// ACLs are asked for without rdattr_error and that of an entry after the cookie may not be
-    /// read, and TOOSMALL where there is no room for the first entry, or for a page of none.
+    /// the directory, NOT_SAME if a cookie comes with a verifier that is not 0, ACCESS if ACLs are
+    /// asked for without rdattr_error and that of an entry after the cookie may not be read, and
+    /// TOOSMALL if there is no room for the first entry, or for an empty page.
     pub fn list<'a>(&'a self, cred: &Cred, listing: Listing<'a>) -> Result<Page<'a>, FsFault>
         ensures step { (state : State) (now dir_count : ℕ)
             → IsOn (fs_of self.entry.now) cred.now listing.entry.directory state
@@ -156,7 +156,7 @@ impl<D: Device> Fs<D> {
         Ok(cached)
     }
 
-    /// Whether a caller may read the ACL of a node: where it is gone he may not.
+    /// Whether a caller may read the ACL of a node: not if it is gone.
     fn may_read_list(&self, cred: &Cred, number: u64) -> bool
         ensures { result ≡ may_read_list cred.now (at number (fs_of self.now).volume.tree) }
     {
@@ -179,8 +179,8 @@ impl<D: Device> Fs<D> {
         true
     }
 
-    /// The page of these names that has room in `room` bytes. `hides_unreadable` says whether an
-    /// entry whose ACL may not be read shows only rdattr_error.
+    /// The page of these names, up to `room` bytes. `hides_unreadable` says whether an entry whose
+    /// ACL may not be read shows only rdattr_error.
     fn fill<'a>(
         &'a self,
         cred: &Cred,

@@ -10,8 +10,8 @@ use acl_set::{AclFault, Given, MAX_MODE, at_creation, with_mode};
 use std::alloc::{AllocError, Global};
 use wire_attributes::Settings;
 
-/// The list of a new node below a directory of this list (RFC 8881, section 6.4.3): the one that is
-/// given, which passed its tests, else that of the mode.
+/// The list of a new node in a directory with the list `parent` (RFC 8881, section 6.4.3): the one
+/// that is given, which passed its tests, or else that of the mode.
 pub(crate) fn list_created(
     alloc: Global,
     parent: &[Ace],
@@ -39,7 +39,7 @@ pub(crate) fn list_created(
 }
 
 /// The list of a node of this kind and list after a SETATTR (RFC 8881, section 6.4.1): the one that
-/// is set, which passed its tests, else that of the mode that is set.
+/// is set, which passed its tests, or else that of the mode that is set.
 pub(crate) fn list_set(
     alloc: Global,
     kind: NodeKind,

@@ -37,7 +37,7 @@ struct Planned<'a> {
     created: Created,
 }
 
-/// What a node shows of which only the room matters. Takes no memory.
+/// What a node shows if only its room matters. Needs no memory.
 fn blank_shown(alloc: Global) -> Shown {
     Shown {
         owner: 0,
@@ -72,14 +72,14 @@ impl<D: Device> Fs<D> {
 
     /// CREATE of a directory (RFC 8881, section 18.4), by this caller at this moment, in
     /// nanoseconds since 1970. It is kept or waits ([`Fs::set_deferring`]); `has_room` says whether
-    /// the reply has room for that.
+    /// the reply has room for the result.
     ///
     /// # Errors
     ///
-    /// Refused by the first of these that holds: STALE, NOTDIR, a name that is none, attributes
-    /// that may not be set, ACCESS without the right to add a directory, EXIST, NOSPC, and
-    /// SERVERFAULT where the run has used up its stamps; then `NoRoom`. Memory may run out before
-    /// or after any of them.
+    /// Refused by the first of these that holds: STALE, NOTDIR, an invalid name, attributes that
+    /// may not be set, ACCESS without the right to add a directory, EXIST, NOSPC, and SERVERFAULT
+    /// if the run has used up its stamps; then `NoRoom`. Memory may run out before or after any of
+    /// them.
     pub fn make_dir(
         &mut self,
         cred: &Cred,
@@ -109,7 +109,7 @@ impl<D: Device> Fs<D> {
         Ok(planned.created)
     }
 
-    /// The change that makes a directory, where nothing refuses it but that its reply has no room.
+    /// The change that makes a directory, if nothing refuses it except that its reply has no room.
     fn plan_dir<'a>(
         &self,
         cred: &Cred,
@@ -161,7 +161,7 @@ impl<D: Device> Fs<D> {
             (new_directory_refusals (fs_of self.entry.now).volume.limits
             (fs_of self.entry.now).volume.tree cred.now asked.entry.parent asked.entry.name.now
             (given_of asked.entry.attributes)) result }
-        // Where none holds
+        // If none holds
         ensures parent { IfOk result (λ permitted.
             IsNodeOf (fs_of self.entry.now).volume.tree asked.entry.parent permitted.0.now) }
         ensures fit { IfOk result (λ permitted. IsCard permitted.0.now) }
@@ -194,8 +194,9 @@ impl<D: Device> Fs<D> {
         Ok((parent, settings))
     }
 
-    /// The stamp of the change that makes a node below a directory, if the tree has room for it and
-    /// a stamp is left: NOSPC, SERVERFAULT. It is asked for a node of the number 0.
+    /// The stamp of the change that makes a node in a directory, if the tree has room for it and a
+    /// stamp is left; otherwise NOSPC or SERVERFAULT. The room is that for a node with the number
+    /// 0.
     pub(crate) fn stamp_for_node(
         &self,
         parent: &CachedNode,
@@ -209,7 +210,7 @@ impl<D: Device> Fs<D> {
             → node.content ≡ first_content new.entry.kind new.entry.size
             → IsChecked (room_tests (fs_of self.now) (tree_with (fs_of self.now)
             new.entry.directory new.entry.name.now node now)) result }
-        // Where none holds
+        // If none holds
         ensures stamp { IfOk result (λ stamp.
             stamp ≡ next_stamp (fs_of self.now).volume.run (fs_of self.now).changes) }
         ensures left { OnOk result ((fs_of self.now).changes + 1 < 2 ^ 32) }
@@ -237,8 +238,7 @@ impl<D: Device> Fs<D> {
         }
     }
 
-    /// The change that makes a node below a directory, where none of the tests of room and stamps
-    /// holds.
+    /// The change that makes a node in a directory, if none of the tests of room and stamps holds.
     pub(crate) fn plan_node<'a>(
         &self,
         parent: &CachedNode,

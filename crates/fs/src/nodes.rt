@@ -39,7 +39,7 @@ impl<D: Device> Fs<D> {
         }
     }
 
-    /// The stamp and the number of the entry of a name in the directory of this number: none where
+    /// The stamp and the number of the entry of a name in the directory of this number: `None` if
     /// there is no such directory, or the name is not there.
     pub(crate) fn named_in(&self, directory: u64, name: &[u8]) -> Option<(u64, u64)>
         ensures { option_map (λ found. record_from found.0 name.now found.1) result

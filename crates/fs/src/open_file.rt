@@ -19,7 +19,7 @@ use wire_attributes::{GivenAttributes, SETTABLE_AT_OPEN, Settings, check_attribu
 /// An open that passed its tests.
 #[derive(Drop)]
 struct Planned<'a> {
-    /// The change that makes its file or cuts it.
+    /// The change that makes its file or truncates it.
     edits: Option<Vec<Edit<'a>>>,
     opened: Opened,
 }
@@ -52,20 +52,19 @@ impl<D: Device> Fs<D> {
     ghost use Rattle.volume.specs.Nodes.{IsNodeOf};
 
     /// OPEN of a file by its name (RFC 8881, section 18.16, `CLAIM_NULL`), by this caller at this
-    /// moment, in nanoseconds since 1970. A file that it makes or cuts is kept on the device before
-    /// the answer; anything else changes nothing but the table of opens. `is_full` says whether
-    /// that has no room for it, `room` whether the reply has room.
+    /// moment, in nanoseconds since 1970. A file that it makes or truncates is kept or waits
+    /// ([`Fs::set_deferring`]); otherwise it changes only the table of opens. `is_full` says
+    /// whether that has no room for it, `room` whether the reply has room.
     ///
     /// # Errors
     ///
-    /// Refused by the first of these that holds: STALE; INVAL for an access that there is not,
-    /// SHAREDENIED, INVAL for a denial that there is not; NOTDIR, a name that is none, ACCESS
-    /// without the right to look it up. Of a name that is there: EXIST where it may not be, else
-    /// ISDIR; of one that is not, NOENT where it has to be. Then attributes that may not be set,
-    /// where some are given; ACCESS without the rights to read or to write the file, as it asks and
-    /// as a cut does, or to add a file; DELAY where the table is full; and of a file that is made
-    /// or cut NOSPC, and SERVERFAULT where the run has used up its stamps. Then `NoRoom`. Memory
-    /// may run out before or after any of them.
+    /// Refused by the first of these that holds: STALE; INVAL for an invalid access, SHAREDENIED,
+    /// INVAL for an invalid denial; NOTDIR, an invalid name, ACCESS without the right to look it
+    /// up. If the name is there: EXIST if it may not be, else ISDIR; if it is not, NOENT if it has
+    /// to be. Then attributes that may not be set, if some are given; ACCESS without the rights to
+    /// read or to write the file, as it asks and as a truncation requires, or to add a file; DELAY
+    /// if the table is full; and for a file that is made or truncated NOSPC, and SERVERFAULT if the
+    /// run has used up its stamps. Then `NoRoom`. Memory may run out before or after any of them.
     pub fn open_file(
         &mut self,
         cred: &Cred,
@@ -104,7 +103,7 @@ impl<D: Device> Fs<D> {
         Ok(opened)
     }
 
-    /// The change of an open, where nothing refuses it but that its reply has no room.
+    /// The change of an open, if nothing refuses it except that its reply has no room.
     fn plan_open<'a>(
         &self,
         cred: &Cred,
@@ -226,7 +225,7 @@ impl<D: Device> Fs<D> {
         })
     }
 
-    /// The tests of the file that the name leads to, and whether it is to be cut.
+    /// The tests of the file that the name leads to, and whether it is to be truncated.
     fn permit_known(
         &self,
         cred: &Cred,
@@ -241,14 +240,14 @@ impl<D: Device> Fs<D> {
             → IsState (fs_of self.entry.now).volume.tree cred.now asked.entry.directory state
             → IsCheckedInMemory (file_tests (fs_of self.entry.now).volume.limits state
             asked.entry.share.access (type_of asked.entry.how) asked.entry.name.now) result }
-        // Where none holds
+        // If none holds
         ensures node { IfOk result (λ found.
             IsNodeOf (fs_of self.entry.now).volume.tree number found.0.now) }
         ensures file { IfOk result (λ found. found.0.now.fields.kind ≡ kind.File) }
         ensures fit { IfOk result (λ found. IsCard found.0.now) }
         ensures cut { IfOk result (λ found. found.1 ≡ cuts (type_of asked.entry.how)) }
     {
-        // a name leads to a node always
+        // a name always leads to a node
         let Some(cached) = self.volume.node(number) else {
             unreachable!();
         };
@@ -259,8 +258,8 @@ impl<D: Device> Fs<D> {
         Ok((cached, is_cut))
     }
 
-    /// The tests of a node that is there, before those of rights, and whether it is to be cut: it
-    /// is a file, and may be there.
+    /// The tests of a node that is there, before those of rights, and whether it is to be
+    /// truncated: it is a file, and may be there.
     fn check_known(&self, cached: &CachedNode, how: How<'_>) -> Result<bool, NotDone>
         requires few { length (given_by (type_of how)).bitmap ≤ 8 }
         ensures tests { (state : State) (number : _) → state.tree ≡ (fs_of self.now).volume.tree
@@ -277,7 +276,8 @@ impl<D: Device> Fs<D> {
         }
     }
 
-    /// The tests of attributes that an open gives of a file that is there, and whether they cut it.
+    /// The tests of attributes that an open gives for a file that is there, and whether they
+    /// truncate it.
     fn check_cut(&self, given: GivenAttributes<'_>) -> Result<bool, NotDone>
         requires { length given.bitmap.now ≤ 8 }
         ensures tests { IsCheckedInMemory (attribute_refusals (fs_of self.now).volume.limits
@@ -307,8 +307,8 @@ impl<D: Device> Fs<D> {
         )
     }
 
-    /// The change that cuts a file, where the tree has room for it and a stamp is left. NOSPC,
-    /// SERVERFAULT.
+    /// The change that truncates a file, if the tree has room for it and a stamp is left; otherwise
+    /// NOSPC or SERVERFAULT.
     fn plan_cut<'a>(
         &self,
         cached: &CachedNode,
@@ -324,7 +324,7 @@ impl<D: Device> Fs<D> {
             (tree_cut (fs_of self.now) number now)) result }
         ensures memory { is_stamp_left (fs_of self.now).changes ≡ false
             → ¬ IsErrOf result NotDone.Memory }
-        // Where none holds
+        // If none holds
         ensures planned { IfOk result (λ edits. IsPlanned (fs_of self.now) edits.items) }
         ensures after { IfOk result (λ edits. edited_by (fs_of self.now).volume edits.items
             ≡ tree_cut (fs_of self.now) number now) }
@@ -392,7 +392,7 @@ impl<D: Device> Fs<D> {
         })
     }
 
-    /// The tests of a file that is to be made, and what is set of it.
+    /// The tests of a file that is to be made, and what is set for it.
     fn permit_new(
         &self,
         cred: &Cred,
@@ -409,7 +409,7 @@ impl<D: Device> Fs<D> {
             → IsState (fs_of self.now).volume.tree cred.now asked.entry.directory state
             → IsCheckedInMemory (file_tests (fs_of self.now).volume.limits state
             asked.entry.share.access (type_of asked.entry.how) asked.entry.name.now) result }
-        // Where none holds
+        // If none holds
         ensures settings { IfOk result (λ settings.
             AreSettings settings (given_by (type_of asked.entry.how))) }
         ensures within { IfOk result (λ settings.
@@ -422,7 +422,7 @@ impl<D: Device> Fs<D> {
         Ok(settings)
     }
 
-    /// The tests of a file that is to be made, before that of rights, and what is set of it.
+    /// The tests of a file that is to be made, before that of rights, and what is set for it.
     fn check_new(&self, how: How<'_>) -> Result<Settings, NotDone>
         requires few { length (given_by (type_of how)).bitmap ≤ 8 }
         ensures tests { IsCheckedInMemory (new_refusals (fs_of self.now).volume.limits

@@ -25,16 +25,16 @@ const WRITE: u32 = 2;
 /// How a file is opened by its name (RFC 8881, section 18.16.1, `openflag4`).
 #[derive(Clone, Copy)]
 pub enum How<'a> {
-    /// It has to be there.
+    /// The file has to be there.
     NoCreate,
-    /// Where it is not there it is made with these attributes; where it is, it is cut if they give
-    /// the size 0.
+    /// If the file is not there it is made with these attributes; if it is, it is truncated if they
+    /// give the size 0.
     Unchecked(GivenAttributes<'a>),
-    /// It may not be there, and is made with these attributes.
+    /// The file may not be there, and is made with these attributes.
     Guarded(GivenAttributes<'a>),
 }
 
-/// What an open asks to do, and to deny to others, as it was sent (RFC 8881, section 18.16.1,
+/// What an open asks for, and what it denies to others, as it was sent (RFC 8881, section 18.16.1,
 /// `share_access` and `share_deny`).
 #[derive(Clone, Copy)]
 pub struct Share {
@@ -56,13 +56,13 @@ pub struct Opening<'a> {
 #[derive(Clone, Copy, PartialEq, Eq)]
 pub enum OpenEffect {
     Nothing,
-    /// It has no bytes then.
+    /// The file then has no bytes.
     Cut,
     Made,
 }
 
 /// Whether the reply has room for the result of an OPEN by a name, which names the attributes that
-/// were set: by what it does to its file.
+/// were set: for each effect on its file.
 #[derive(Clone, Copy)]
 pub struct OpenRoom {
     pub nothing: bool,
@@ -86,7 +86,7 @@ impl OpenRoom {
 #[derive(Clone, Copy, PartialEq, Eq)]
 pub struct Opened {
     pub number: u64,
-    /// The directory that has its name; 0 and 0 where it was opened without one.
+    /// The directory that has its name; 0 and 0 if it was opened without one.
     pub directory: Change,
     pub effect: OpenEffect,
 }
@@ -96,8 +96,8 @@ pub struct Opened {
 ///
 /// # Errors
 ///
-/// `Inval` for another access, then `ShareDenied` to deny something, and `Inval` to deny what there
-/// is not.
+/// `Inval` for another access, then `ShareDenied` for a valid denial, and `Inval` for an invalid
+/// one.
 pub(crate) fn check_share(share: Share) -> Result<(), Status>
     ensures { (arguments : OpenArguments) → arguments.access ≡ share.access
         → arguments.deny ≡ share.deny → IsChecked (share_refusals arguments) result }
@@ -114,8 +114,8 @@ pub(crate) fn check_share(share: Share) -> Result<(), Status>
     Ok(())
 }
 
-/// Whether a caller has the rights that an open asks for on its file: to read it, and to write it,
-/// which a cut asks for too.
+/// Whether a caller has the rights that an open needs on its file: to read it, and to write it,
+/// which a truncation needs too.
 pub(crate) fn may_open(cached: &CachedNode, cred: &Cred, access: u32, is_cut: bool) -> bool
     ensures { result ≡ may_use cached.now.fields cred.now access is_cut }
 {
@@ -136,10 +136,10 @@ impl<D: Device> Fs<D> {
     ghost use Rattle.fs.specs.Opening.{IsFileToOpen, IsOpeningCurrent, IsShortNumber, OpensCurrent, handle_tests};
     ghost use Rattle.fs.specs.Operations.{IsOn};
 
-    /// The number of the file that an OPEN by a name opens where nothing refuses it, by which a
-    /// caller sees whether the table of opens has room: that which the name leads to, or that of
-    /// the file which is made. 0, which no file has, where that has more than 64 bits, after the
-    /// last change of the last run.
+    /// The number of the file that an OPEN by a name opens if nothing refuses it, with which a
+    /// caller checks whether the table of opens has room: that which the name leads to, or that of
+    /// the file which is made. 0, which no file has, if that has more than 64 bits, after the last
+    /// change of the last run.
     pub fn file_to_open(&self, asked: Opening<'_>) -> u64
         ensures { (number : ℕ) × IsFileToOpen (fs_of self.now) asked.entry number
             × IsShortNumber number result }
@@ -151,14 +151,14 @@ impl<D: Device> Fs<D> {
     }
 
     /// OPEN of the current file (RFC 8881, section 18.16, `CLAIM_FH`), which has this number, by
-    /// this caller: nothing changes but the table of opens. `is_create` says whether it may create
-    /// a file, and `is_full` whether the table has no room for it.
+    /// this caller: it changes only the table of opens. `is_create` says whether it may create a
+    /// file, and `is_full` whether the table has no room for it.
     ///
     /// # Errors
     ///
-    /// Refused by the first of these that holds: STALE; INVAL for an access that there is not,
-    /// SHAREDENIED, INVAL for a denial that there is not; INVAL where it may create a file; ISDIR;
-    /// ACCESS without the rights to read or to write, as it asks; DELAY where the table is full.
+    /// Refused by the first of these that holds: STALE; INVAL for an invalid access, SHAREDENIED,
+    /// INVAL for an invalid denial; INVAL if it may create a file; ISDIR; ACCESS without the rights
+    /// to read or to write, as it asks; DELAY if the table is full.
     pub fn open_current(
         &self,
         cred: &Cred,
@@ -185,7 +185,7 @@ impl<D: Device> Fs<D> {
         Ok(())
     }
 
-    /// The tests of the current file, but that of the table of opens.
+    /// The tests of the current file, except that of the table of opens.
     fn permit_current(
         &self,
         cred: &Cred,

@@ -6,7 +6,7 @@ use acl_eval::{Cred, Mask};
 use disk::Device;
 use model_tree::status::Status;
 
-/// The part of a file that a READ gives.
+/// The part of a file that a READ returns.
 #[derive(Clone, Copy)]
 struct Part {
     /// How many bytes.
@@ -33,14 +33,14 @@ impl<D: Device> Fs<D> {
     ghost use Rattle.volume.specs.Reading.{HasFile};
 
     /// READ (RFC 8881, section 18.22) of the file of this number, by this caller: appends to `out`
-    /// `count` of its bytes from `offset` on, or as many as one READ gives, or as there are up to
-    /// its end. Answers whether the end was reached. `verdict` is that on the stateid, for an open
+    /// `count` of its bytes from `offset` on, or fewer if one READ returns no more or the file ends
+    /// before. Returns whether the end was reached. `verdict` is that on the stateid, for an open
     /// with read access.
     ///
     /// # Errors
     ///
     /// Refused by the first of these that holds: STALE, ISDIR, the verdict's refusal, ACCESS
-    /// without the right to read. Memory and Device only where bytes were to be read. `out` is as
+    /// without the right to read. Memory and Device only if there were bytes to read. `out` is as
     /// it was.
     pub fn read(
         &mut self,
@@ -60,7 +60,7 @@ impl<D: Device> Fs<D> {
         ensures bytes { D.keeps_word → OnOk result (out.new.items
             ≡ out.old.items ++ part_at (fs_of self.old) number offset count) }
         ensures err { OnErr result (out.new.items ≡ out.old.items) }
-        // It only reads, and that where there is something to read
+        // It only reads, and only if there is something to read
         ensures volume { AltersFs self.old self.new
             (IsTree (fs_of self.old).volume (fs_of self.old).volume.tree) (reading_ending result) }
         ensures nothing { (IsErrOf result FsFault.Memory ⊎ IsErrOf result FsFault.Device)
@@ -77,7 +77,7 @@ impl<D: Device> Fs<D> {
         Ok(part.is_end)
     }
 
-    /// The tests of a READ, and the part that it gives.
+    /// The tests of a READ, and the part that it returns.
     fn permit_read(
         &self,
         cred: &Cred,

@@ -62,14 +62,15 @@ impl<D: Device> Fs<D> {
 
     /// REMOVE of a name in the directory of this number (RFC 8881, section 18.25), by this caller
     /// at this moment, in nanoseconds since 1970: the name is gone, and the node that it led to. It
-    /// is kept or waits ([`Fs::set_deferring`]); `has_room` says whether the reply has room for it.
+    /// is kept or waits ([`Fs::set_deferring`]); `has_room` says whether the reply has room for the
+    /// result.
     ///
     /// # Errors
     ///
-    /// Refused by the first of these that holds: STALE, NOTDIR, a name that is none, NOENT, ACCESS
-    /// with neither the right to delete the node nor that to delete a child of the directory,
-    /// NOTEMPTY, and SERVERFAULT where the run has used up its stamps; then `NoRoom`. It is never
-    /// NOSPC. Memory may run out before or after any of them, but not where no stamp is left.
+    /// Refused by the first of these that holds: STALE, NOTDIR, an invalid name, NOENT, ACCESS with
+    /// neither the right to delete the node nor that to delete a child of the directory, NOTEMPTY,
+    /// and SERVERFAULT if the run has used up its stamps; then `NoRoom`. It is never NOSPC. Memory
+    /// may run out before or after any of them, but not if no stamp is left.
     pub fn remove(
         &mut self,
         cred: &Cred,
@@ -101,7 +102,7 @@ impl<D: Device> Fs<D> {
         Ok(planned.removed)
     }
 
-    /// The change that removes a name, where nothing refuses it but that its reply has no room.
+    /// The change that removes a name, if nothing refuses it except that its reply has no room.
     fn plan_removal<'a>(
         &self,
         cred: &Cred,

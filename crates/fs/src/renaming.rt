@@ -46,7 +46,7 @@ pub struct Renamed {
     pub source: Change,
     /// The directory that has it.
     pub target: Change,
-    /// The number of the node that stood under the new name, and is gone.
+    /// The number of the node that had the new name, and is gone.
     pub replaced: Option<u64>,
 }
 
@@ -61,21 +61,21 @@ struct Moving<'a> {
     number: u64,
 }
 
-/// The change of a rename: none where a name is given to itself.
+/// The change of a rename: `None` if a name is renamed to itself.
 #[derive(Drop)]
 struct Planned<'a> {
     edits: Option<Vec<Edit<'a>>>,
     renamed: Renamed,
 }
 
-/// Whether a name is given to itself.
+/// Whether a name is renamed to itself.
 fn is_itself(asked: Renaming<'_>) -> bool
     ensures { result ≡ is_itself asked.entry.from asked.entry.to (arguments_of asked.entry) }
 {
     asked.from == asked.to && asked.old_name == asked.new_name
 }
 
-/// The number that an entry leads to, where there is one.
+/// The number that an entry leads to, if there is one.
 fn number_of(entry: Option<(u64, u64)>) -> Option<u64>
     ensures { result ≡ option_map (λ found. found.1) entry }
 {
@@ -85,8 +85,8 @@ fn number_of(entry: Option<(u64, u64)>) -> Option<u64>
     }
 }
 
-/// What has the new name is gone, where something has it; what had the old one has the new one;
-/// and what both directories show then.
+/// The edits of a rename: what has the new name is gone, if something has it; what had the old one
+/// has the new one; and what both directories then show.
 fn renamed_edits<'a>(
     alloc: Global,
     asked: Renaming<'a>,
@@ -154,20 +154,20 @@ impl<D: Device> Fs<D> {
 
     /// RENAME of what a name in one directory leads to (RFC 8881, section 18.26), by this caller at
     /// this moment, in nanoseconds since 1970: it has the new name, in the other directory or the
-    /// same. What stood under that name is gone. It is kept or waits ([`Fs::set_deferring`]);
-    /// `has_room` says whether the reply has room for that.
+    /// same. What had that name is gone. It is kept or waits ([`Fs::set_deferring`]); `has_room`
+    /// says whether the reply has room for the result.
     ///
-    /// A name that is given to itself is no change, and uses up no stamp.
+    /// Renaming a name to itself is no change, and uses up no stamp.
     ///
     /// # Errors
     ///
-    /// Refused by the first of these that holds: STALE of `to`, then of `from`; NOTDIR; an old name
-    /// that is none, then a new one; NOENT. Where the name is not given to itself, further by
-    /// ACCESS without the rights to remove the old name, to remove the new one where it is there,
-    /// and to add a file or a directory to `to`; INVAL, where a directory would go below itself;
-    /// EXIST, where one of both is a directory and not the other, or what is there has names;
-    /// NOSPC, and SERVERFAULT where the run has used up its stamps. Then `NoRoom`. Memory may run
-    /// out before or after any of them.
+    /// Refused by the first of these that holds: STALE for `to`, then for `from`; NOTDIR; an
+    /// invalid old name, then an invalid new one; NOENT. If the name is not renamed to itself, also
+    /// by ACCESS without the rights to remove the old name, to remove the new one if it is there,
+    /// and to add a file or a directory to `to`; INVAL if a directory would go below itself; EXIST
+    /// if only one of the two is a directory, or what is there has names; NOSPC, and SERVERFAULT if
+    /// the run has used up its stamps. Then `NoRoom`. Memory may run out before or after any of
+    /// them.
     pub fn rename(
         &mut self,
         cred: &Cred,
@@ -202,7 +202,7 @@ impl<D: Device> Fs<D> {
         Ok(renamed)
     }
 
-    /// The change of a rename, where nothing refuses it but that its reply has no room.
+    /// The change of a rename, if nothing refuses it except that its reply has no room.
     fn plan_rename<'a>(
         &self,
         cred: &Cred,
@@ -292,7 +292,7 @@ impl<D: Device> Fs<D> {
         }
     }
 
-    /// The change of a name that is not given to itself, after the tests of both directories and
+    /// The change of a name that is not renamed to itself, after the tests of both directories and
     /// of the old name.
     fn plan_move<'a>(
         &self,
@@ -322,7 +322,7 @@ impl<D: Device> Fs<D> {
         let (from, to) = (moving.from, moving.to);
         let target = to.names.get(asked.new_name);
         self.permit_rename(cred, asked, moving, target)?;
-        // which stamp the new name gets does not matter to the room: 0 where none is left
+        // which stamp the new name gets does not matter to the room: 0 if none is left
         let stamp = self.stamp_left().unwrap_or(0);
         let from_shown = metadata_with_change(from, stamp, now)?;
         let to_shown = metadata_with_change(to, stamp, now)?;
@@ -346,7 +346,7 @@ impl<D: Device> Fs<D> {
         })
     }
 
-    /// The tests of a name that is not given to itself, before those of room and of stamps.
+    /// The tests of a name that is not renamed to itself, before those of room and of stamps.
     fn permit_rename(
         &self,
         cred: &Cred,
@@ -372,8 +372,8 @@ impl<D: Device> Fs<D> {
         Ok(())
     }
 
-    /// Whether something is in the way of what moves: one of both is a directory and not the
-    /// other, or it has names.
+    /// Whether something is in the way of what moves: only one of the two is a directory, or it has
+    /// names.
     fn cannot_replace(&self, target: Option<(u64, u64)>, moves_directory: bool) -> bool
         ensures { result ≡ is_in_the_way (fs_of self.now).volume.tree moves_directory target }
     {
@@ -389,8 +389,8 @@ impl<D: Device> Fs<D> {
         is_other || self.has_names(number)
     }
 
-    /// Whether a caller may remove the old name, and the new one where it is there, and add what
-    /// moves to its directory.
+    /// Whether a caller may remove the old name, and the new one if it is there, and add what moves
+    /// to its directory.
     fn has_rename_rights(
         &self,
         cred: &Cred,
@@ -417,7 +417,7 @@ impl<D: Device> Fs<D> {
             && grants(to, cred, adding)
     }
 
-    /// Whether a caller may remove what has the new name, where something has it.
+    /// Whether a caller may remove what has the new name, if something has it.
     fn may_replace(&self, cred: &Cred, directory: &CachedNode, target: Option<(u64, u64)>) -> bool
         ensures { result ≡ may_replace (fs_of self.now).volume.tree cred.now directory.now target }
     {

@@ -22,8 +22,8 @@ pub(crate) fn grants(cached: &CachedNode, cred: &Cred, mask: Mask) -> bool
 
 #[tactic(auto, unfolding(crate::specs::Views::fs_of))]
 impl<D: Device> Fs<D> {
-    /// Whether a caller may take away a name that leads to a node: where he may delete the node, or
-    /// any child of its directory.
+    /// Whether a caller may remove a name that leads to a node: it may delete the node, or any
+    /// child of its directory.
     pub(crate) fn may_remove(&self, cred: &Cred, directory: &CachedNode, number: u64) -> bool
         ensures { result ≡ (granted_on (at number (fs_of self.now).volume.tree) cred.now delete
             || granted directory.now.fields.acl directory.now.fields.owner

@@ -29,7 +29,7 @@ use wire_attributes::{
 pub struct Setting<'a> {
     /// The node's number.
     pub number: u64,
-    /// On the stateid, for an open with write access; it is looked at where a size is set.
+    /// On the stateid, for an open with write access; it matters only if a size is set.
     pub verdict: Result<(), Status>,
     pub attributes: GivenAttributes<'a>,
 }
@@ -48,7 +48,7 @@ fn may_set(cached: &CachedNode, cred: &Cred, attributes: &[u32]) -> bool
         && (!owners || grants(cached, cred, Mask::WRITE_OWNER))
 }
 
-/// The tests of a size that is set, where one is: ISDIR of a directory, and the verdict's refusal.
+/// The tests of a size, if one is set: ISDIR for a directory, and the verdict's refusal.
 fn check_sized(
     is_sized: bool,
     is_directory: bool,
@@ -89,17 +89,17 @@ impl<D: Device> Fs<D> {
 
     /// SETATTR (RFC 8881, section 18.30) of a node, by this caller at this moment, in nanoseconds
     /// since 1970. It is kept or waits ([`Fs::set_deferring`]); `has_room` says whether the reply
-    /// has room for that. A list that is set stays, also where a mode is set beside it.
+    /// has room for the result. A list that is set stays, even if a mode is set with it.
     ///
     /// An empty bitmap is no change, and uses up no stamp.
     ///
     /// # Errors
     ///
-    /// Refused by the first of these that holds: STALE; attributes that may not be set; where a
-    /// size is set, ISDIR of a directory and then the verdict's refusal; ACCESS without the right
-    /// to write for a size, to write the list for a mode or a list, and to write the owner for an
-    /// owner or a group; NOSPC, and SERVERFAULT where the run has used up its stamps; then
-    /// `NoRoom`. Memory may run out before or after any of them.
+    /// Refused by the first of these that holds: STALE; attributes that may not be set; if a size
+    /// is set, ISDIR for a directory and then the verdict's refusal; ACCESS without the right to
+    /// write for a size, to write the list for a mode or a list, and to write the owner for an
+    /// owner or a group; NOSPC, and SERVERFAULT if the run has used up its stamps; then `NoRoom`.
+    /// Memory may run out before or after any of them.
     pub fn set_attributes(
         &mut self,
         cred: &Cred,
@@ -132,8 +132,8 @@ impl<D: Device> Fs<D> {
         self.change_stable(&edits)
     }
 
-    /// The change that sets attributes, where nothing refuses it but that its reply has no room:
-    /// none where no attribute is given.
+    /// The change that sets attributes, if nothing refuses it except that its reply has no room:
+    /// `None` if no attribute is given.
     fn plan_setting<'a>(
         &self,
         cred: &Cred,
@@ -178,7 +178,7 @@ impl<D: Device> Fs<D> {
         ensures tests { IsCheckedInMemory (setting_tests (fs_of self.entry.now).volume.limits
             (fs_of self.entry.now).volume.tree cred.now asked.entry.number asked.entry.verdict
             (given_of asked.entry.attributes)) result }
-        // Where none holds
+        // If none holds
         ensures node { IfOk result (λ permitted.
             IsNodeOf (fs_of self.entry.now).volume.tree asked.entry.number permitted.0.now) }
         ensures fit { IfOk result (λ permitted. IsCard permitted.0.now) }

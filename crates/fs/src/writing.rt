@@ -12,7 +12,7 @@ use tree_edits::Edit;
 /// The bytes that a caller writes to a file.
 #[derive(Clone, Copy)]
 pub struct Writing<'a> {
-    /// Where the first of them is to go.
+    /// The offset of the first of them.
     pub offset: u64,
     pub bytes: &'a [u8],
     /// Whether they are to last (not `UNSTABLE4`).
@@ -38,17 +38,17 @@ impl<D: Device> Fs<D> {
     ghost use Rattle.volume.specs.Formed.{ShowsTree};
 
     /// WRITE (RFC 8881, section 18.32) to the file of this number, by this caller at this moment,
-    /// in nanoseconds since 1970: the first bytes, as many as one WRITE takes; answers how many.
-    /// What is to be stable is kept or waits ([`Fs::set_deferring`]); a crash may lose anything
-    /// else until the next flush. No bytes are no change. `verdict` is that on the stateid, for an
-    /// open with write access; `has_room` says whether the reply has room.
+    /// in nanoseconds since 1970: writes the first bytes, up to what one WRITE takes, and returns
+    /// how many. What is to be stable is kept or waits ([`Fs::set_deferring`]); a crash may lose
+    /// anything else until the next flush. Writing no bytes is no change. `verdict` is that on the
+    /// stateid, for an open with write access; `has_room` says whether the reply has room.
     ///
     /// # Errors
     ///
     /// Refused by the first of these that holds: STALE, ISDIR, the verdict's refusal, ACCESS
-    /// without the right to write, FBIG where the bytes pass the limit of a file, NOSPC, and
-    /// SERVERFAULT where the run has used up its stamps; then `NoRoom`. Memory may run out before
-    /// or after any of the last three, but not where no stamp is left.
+    /// without the right to write, FBIG if the bytes exceed the limit of a file, NOSPC, and
+    /// SERVERFAULT if the run has used up its stamps; then `NoRoom`. Memory may run out before or
+    /// after any of the last three, but not if no stamp is left.
     pub fn write(
         &mut self,
         cred: &Cred,
@@ -70,7 +70,7 @@ impl<D: Device> Fs<D> {
             (fs_ending result) }
         // Room, and refusals
         ensures room { MindsRoom has_room (fs_of self.old).volume.is_down result }
-        // Without a stamp no memory is taken: it is refused with SERVERFAULT or NOSPC
+        // Without a stamp no memory is needed: it is refused with SERVERFAULT or NOSPC
         ensures memory { is_stamp_left (fs_of self.old).changes ≡ false
             → ¬ IsErrOf result FsFault.Memory }
     {
@@ -92,7 +92,7 @@ impl<D: Device> Fs<D> {
         Ok(self.taken(asked.bytes).len() as u32)
     }
 
-    /// The change that writes bytes, where nothing refuses it but that its reply has no room.
+    /// The change that writes bytes, if nothing refuses it except that its reply has no room.
     fn plan_write<'a>(
         &self,
         cred: &Cred,
@@ -143,7 +143,7 @@ impl<D: Device> Fs<D> {
         &bytes[..bytes.len().min(self.volume.limits().transfer_bytes)]
     }
 
-    /// Where this count of bytes is to start in a file: none where they pass the limit of one.
+    /// The offset of `len` bytes in a file: `None` if they exceed the limit of one.
     fn place_in_file(&self, offset: u64, len: usize) -> Option<usize>
         ensures some { IfSome result (λ place. (place ≡ offset)
             × (offset + len ≤ (fs_of self.now).volume.limits.file_bytes)) }
@@ -185,12 +185,12 @@ impl<D: Device> Fs<D> {
     }
 
     /// COMMIT (RFC 8881, section 18.3) of the file of this number, by this caller: keeps all
-    /// changes so far, of every file, or lets them wait for [`Fs::flush`]. Whichever part it asks
-    /// for. `has_room` says whether the reply has room.
+    /// changes so far, of every file, or lets them wait for [`Fs::flush`], whichever part of the
+    /// file it asks for. `has_room` says whether the reply has room.
     ///
     /// # Errors
     ///
-    /// STALE, ISDIR; then `NoRoom`, and nothing is kept; Device where the device failed.
+    /// STALE, ISDIR; then `NoRoom`, and nothing is kept; Device if the device failed.
     pub fn commit(&mut self, cred: &Cred, number: u64, has_room: bool) -> Result<(), FsFault>
         ensures step { (state : State) (now : ℕ) (arguments : CommitArguments)
             → IsOn (fs_of self.old) cred.now number state

@@ -91,27 +91,26 @@ module _ (limits : Limits) (run : ℕ) (cards : List (Option CachedNode)) (old n
     newest = subst (IsAmong recent) (sym moved_kept) is.newest;
   }
 
--- with one transaction more after the list
+-- with one more transaction after the list
 abbrev pub listed_with : Log → List Update → Log
 listed_with log updates = record log { list = list_with log updates }
 
--- what stands after a transaction in the journal: these cached nodes, a tree and seats
+-- what the sectors hold after a transaction in the journal: these cached nodes, a tree and seats
 pub record StandsWith (nodes run : ℕ) (old : Log) (updates : List Update) (is : List (Option CachedNode)) (after : Kept) : Type 0 where
   pub read : is ≡ cards_in nodes (applied updates (contents old))
   pub tree : tree_of (applied updates (contents old)) is ≡ after.tree
   pub stands : ∥ StandsNow old.size nodes (applied updates (contents old)) run after ∥₁
 
--- so a volume stands after it
+-- so the volume holds it then
 pub stands_after : (nodes run : ℕ) (old : Log) (updates : List Update) (is : List (Option CachedNode)) (after : Kept) → StandsWith nodes run old updates is after
     → ∥ VolumeStands old.size nodes (applied updates (contents old)) run after ∥₁
 stands_after nodes run old updates is after behind = ∥∥₁_map behind.stands (stands_now old.size nodes (applied updates (contents old)) run after)
 
--- the same seats beside another tree
+-- the same seats with another tree
 abbrev pub seated : Log → Tree → Kept
 seated log tree = record { tree = tree; seats = seats_at (contents log) }
 
--- What serves after a transaction, which may make other cached nodes of those that stand, or other
--- seats
+-- What serves after a transaction, which may change the cached nodes or the seats
 module _ (limits : Limits) (run : ℕ) (cards is : List (Option CachedNode)) (old : Log) (updates : List Update) (after : Kept)
     (behind : StandsWith limits.nodes run old updates is after) (serving : ∥ IsServing old limits.nodes run cards ∥₁) where
   abbrev then_log : Log

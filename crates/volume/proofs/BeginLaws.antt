@@ -93,8 +93,7 @@ raised_from found old mid new only adds =
     subst (λ (image : Image). AddsRaised found image old.history new) (ap (λ (log : Log). log.base) only)
     (subst (λ (history : History). AddsRaised found mid.base history new) (ap (λ (log : Log). log.history) only) adds)
 
--- where the nodes were not read, nothing was written
--- where nothing is marked, the base has no mark
+-- if the base has no mark, none was read, so the run begins with few writes
 pub begun_brief : (found : Superblock) (base : Image) (mark : Option ℕ) (old mid new : History) → IsTrue (is_size found.sectors found.nodes) → IsMark found.version found.nodes mark
     → base 147 ≡ mark_held mark → mid ≡ old → (found.version ≡ Two → mark ≡ None → moment new ≤ moment mid + 4) → BeginsBriefly found base old new
 begun_brief found base mark old mid new size is marked same few (two, unmarked) =
@@ -102,10 +101,11 @@ begun_brief found base mark old mid new size is marked same few (two, unmarked) 
     let least = few two (one_mark found.version found.nodes mark None (omega (arith, parts.few)) is tt (sym marked ∙ unmarked)) in
     omega (arith, least, ap moment same)
 
--- where nothing was done, little was
+-- if nothing was done, little was
 pub stays_brief : (found : Superblock) (base : Image) (old new : History) → new ≡ old → BeginsBriefly found base old new
 stays_brief found base old new same needs = omega (arith, ap moment same)
 
+-- if the nodes were not read, nothing was written
 pub not_loaded : (found : Superblock) (old mid : Log) (new : History) (fault : MountFault) → mid ≡ record old { is_down = mid.is_down } → new ≡ mid.history
     → (fault ≡ mounts.Damaged → (kept : Kept) → StandsOn found old.base kept → ⊥)
     → (fault ≡ mounts.Device) ⊎ ((fault ≡ mounts.Damaged) ⊎ (fault ≡ mounts.Memory)) → IsNotBegun found old.base old.history new fault
@@ -125,7 +125,7 @@ not_damaged fault reasons damaged = ⊎_elim
     (λ (memory : fault ≡ mounts.Memory). let both : mounts.Damaged ≡ mounts.Memory = sym damaged ∙ memory in let never : ⊥ = cc in never)
     reasons
 
--- where the run did not begin, the device failed in it, or no memory was there for it
+-- if the run did not begin, the device failed in it, or there was no memory for it
 pub not_started : (found : Superblock) (old mid after : Log) (new : History) (fault : MountFault) → mid ≡ record old { is_down = mid.is_down } → new ≡ after.history
     → AddsRaised found mid.base mid.history after.history → (fault ≡ mounts.Device) ⊎ (fault ≡ mounts.Memory)
     → (fault ≡ mounts.Memory → after ≡ mid) → BeginsBriefly found old.base old.history after.history → IsNotBegun found old.base old.history new fault

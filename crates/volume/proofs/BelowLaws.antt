@@ -4,7 +4,7 @@ use Rattle.std.specs.List.{list_any}
 use Rattle.model_tree.specs.Trees.Ancestors.{ancestors_in, parent_of}
 use Rattle.model_tree.specs.Trees.Tree.{Tree, root}
 
--- whether one of so many nodes upwards is this one
+-- whether one of the `steps` nodes upwards from a number is this one
 abbrev pub is_met : (steps : ℕ) → Tree → (upper number : ℕ) → Bool
 is_met steps tree upper number = list_any (λ of. eqb of upper) (ancestors_in steps tree number)
 

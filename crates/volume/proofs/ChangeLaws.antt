@@ -79,7 +79,7 @@ journal_targets size updates are =
 not_first : (size : ℕ) (updates : List Update) → AreTreeUpdates size updates → HasNoUpdate 0 updates
 not_first size updates are = λ i within same. (let above = (are.between i within).0 in omega (arith, above, same))
 
--- The tree after the edits stands
+-- The sectors hold the tree after the edits
 
 pub StandsWith-prop : (nodes run : ℕ) (old : Log) (updates : List Update) (is : List (Option CachedNode)) (after : Kept) → IsProp (StandsWith nodes run old updates is after)
 StandsWith-prop nodes run old updates is after = Prim.hlevel (props, ∥∥₁_prop)
@@ -145,7 +145,7 @@ own_places cards apart place other number here there = elim (cases_eq place othe
       absurd (apart place other one.cached two.cached off one.there two.there (one.number_is ∙ sym two.number_is))
 ]
 
--- what reads left of a journal, where they did not fail
+-- what reads leave of a journal, if they did not fail
 pub log_same : (old mid : Log) → (let up : Log → Log = λ log. record log { is_down = false } in up mid ≡ up old) → mid.is_down ≡ old.is_down → mid ≡ old
 log_same old mid kept down = ap₂ (λ (log : Log) (is_down : Bool). record log { is_down = is_down }) kept down
 

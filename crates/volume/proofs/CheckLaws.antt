@@ -1,4 +1,4 @@
--- How a check answers, by what its parts find.
+-- The result of a check, by what its parts find.
 use Rattle.std.proofs.Common.{◌≡◌, ◌≢◌, ◌<◌, ◌≤◌, ◌⊎◌, ◌^◌, ℕ, Bool, List, Option, Err, ⊎_elim, ap, refl, sym, ◌∙◌, subst}
 use Rattle.std.proofs.Math.Logic.{∥∥₁_map}
 use Rattle.disk.specs.Cause.{IsCounted}
@@ -52,7 +52,7 @@ first_seen sectors sector fault few only = ⊎_elim
     (λ (failed : fault ≡ mounts.Device). subst (λ (f : MountFault). IsSeen sectors sector (Err f)) (sym failed) tt)
     only
 
--- refused by the first sector
+-- refused because of the first sector
 pub look_fails : (sectors : ℕ) (old : History) (fault : MountFault) → IsSeen sectors (seen old.now 0) (Err fault) → FailsCheck sectors old fault
 look_fails sectors old mounts.NotVolume is = (is, λ nodes run kept base. is_volume_there sectors nodes run kept (seen old.now) base is)
 look_fails sectors old mounts.Damaged is = (is.0, λ nodes run kept base. is.1 (spelled sectors nodes run kept (seen old.now) base))
@@ -80,7 +80,7 @@ view_holds sectors old log found some viewed size first = record {
 module _ (sectors : ℕ) (old : History) (found : Superblock) (base : Image) (sectors_is : found.sectors ≡ sectors) (few : found.nodes < 2 ^ 32) (counted : found.run < 2 ^ 32)
     (volume : first_verdict sectors old ≢ verdicts.NotVolume) (first : seen old.now 0 ≡ superblock found.version found.sectors found.nodes found.run)
     (settles : Settles (in_front sectors) (seen old.now) base) where
-  -- refused by its nodes
+  -- refused because of its nodes
   pub nodes_fail : (fault : MountFault) → (fault ≡ mounts.Damaged → (kept : Kept) → StandsOn found base kept → ⊥)
       → (fault ≡ mounts.Device) ⊎ ((fault ≡ mounts.Damaged) ⊎ (fault ≡ mounts.Memory)) → FailsCheck sectors old fault
   nodes_fail fault none only = ⊎_elim
@@ -95,7 +95,7 @@ module _ (sectors : ℕ) (old : History) (found : Superblock) (base : Image) (se
       rest)
       only
 
-  -- the tree of its nodes stands
+  -- the volume holds the tree of its nodes
   pub has_checked : (keeps_word : Type 0) → keeps_word → (mark : Option ℕ) (cards : List (Option CachedNode)) (seats : Seats) (places : List Bool) → AreLoaded keeps_word found base mark cards seats places
       → (checked : Checked) → checked.sectors ≡ found.sectors → checked.nodes ≡ found.nodes → checked.count ≡ found.run → HasChecked sectors old checked
   has_checked keeps_word k mark cards seats places loaded checked same_sectors same_nodes same_run = record {

@@ -23,7 +23,7 @@ use Rattle.volume.proofs.OneTree.{Seats-set, Tree-set}
 use Rattle.volume.proofs.ServeLaws.{among_one, few_for_call, few_in_front, flush_adds, seats_stay, tree_stays}
 use Rattle.volume.proofs.StandLaws.{placed_on, same_placed, settles_placed, stands_same}
 
--- each front of the one has the sectors of a front of the other
+-- each of the moved base's fronts has the sectors of one of the old base's
 front_same : (size : ℕ) (base moved : Image) (list : List (List Update)) (front : Image) → AreSame size base moved → IsAmong (fronts_from moved list) front
     → (other : Image) × IsAmong (fronts_from base list) other × AreSame size other front
 front_same size base moved [] front same among =
@@ -50,7 +50,7 @@ module _ (keeps_word : Type 0) (limits : Limits) (run : ℕ) (cards : List (Opti
   pub checkpoint_seats : keeps_word → is.seats ≡ was.seats
   checkpoint_seats k = ∥∥₁_elim (serves k) (Seats-set is.seats was.seats) (seats_stay limits.nodes run cards old new (same_placed old.area old.size _ _ placed (done.contents k)))
 
-  -- where the old base stands for a tree, so does the new one
+  -- if the old base holds a tree, so does the new one
   stands_on : (a b : Image) (kept : Kept) → AreSame old.size a b → VolumeStands old.size limits.nodes a run kept → VolumeStands new.size limits.nodes b run kept
   stands_on a b kept same stands =
       subst (λ (size : ℕ). VolumeStands size limits.nodes b run kept) (sym safe.size) (stands_same old.size limits.nodes a b run kept same stands)

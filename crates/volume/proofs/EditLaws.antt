@@ -43,7 +43,7 @@ fits_alike limits tree other alike = sym (fits-without_data limits other) ∙ ap
 pub outline_alike : (image : Image) (cards : List (Option CachedNode)) → without_data (tree_without_data cards) ≡ without_data (tree_of image cards)
 outline_alike image cards = outline_fixed cards ∙ sym (each_outline image cards)
 
--- whether the tree after edits fits is told by the cached nodes
+-- the cached nodes determine whether the tree after edits fits
 pub fits_outline : (limits : Limits) (edits : List model.Edit) (image : Image) (cards : List (Option CachedNode))
     → fits limits (edited edits (tree_without_data cards)) ≡ fits limits (edited edits (tree_of image cards))
 fits_outline limits edits image cards = fits_alike limits (edited edits (tree_of image cards)) (edited edits (tree_without_data cards))
@@ -122,7 +122,7 @@ one_number (first ∷ rest) one number other among too =
 
 module _ (held : VolumeState) (edits : List Edit) (change : IsChange held edits) (image : Image) (old new : List (Option CachedNode)) (tree_is : held.tree ≡ tree_of image old)
     (are_made : AreMade old new (made_by edits)) where
-  -- one node is made at most
+  -- at most one node is made
   few_made : length (made_by edits) ≤ 1
   few_made = ⊎_elim (λ (none : made_by edits ≡ []). (let count : length (made_by edits) ≡ 0 = ap (λ (numbers : List ℕ). length numbers) none in omega (arith, count)))
       (λ (is : made_by edits ≡ named_by edits). (let count : length (made_by edits) ≡ length (named_by edits) = ap (λ (numbers : List ℕ). length numbers) is in omega (arith, count, change.named)))

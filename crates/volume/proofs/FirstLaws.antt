@@ -47,7 +47,7 @@ starts_with_magic : (version : VersionNumber) (sectors nodes run : ℕ) → star
 unfolding layout.superblock
 starts_with_magic version sectors nodes run = refl
 
--- the first sector of a volume tells that it is one
+-- the first sector of a volume says that it is one
 pub volume_first : (version : VersionNumber) (sectors nodes run : ℕ) → sectors < 2 ^ 32 → nodes < 2 ^ 32 → IsTrue (is_size sectors nodes)
     → is_volume sectors (superblock version sectors nodes run) ≡ true
 unfolding is_volume

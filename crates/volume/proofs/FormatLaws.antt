@@ -30,7 +30,7 @@ use Rattle.volume.proofs.StandLaws.{sized}
 abbrev new_volume : (sectors nodes : ℕ) → Image
 new_volume sectors nodes = formatted (superblock Two sectors nodes 0) (root_update ∷ [])
 
--- but for the first sector and the root's all are zeros
+-- all sectors except the first one and the root's are zeros
 zeros_at : (sectors nodes n : ℕ) → 0 < n → n ≢ 148 → new_volume sectors nodes n ≡ zero_sector
 zeros_at sectors nodes n some other =
     put_other (λ m. if eqb m 0 then superblock Two sectors nodes 0 else zero_sector) root_update n (λ e. other (sym e))
@@ -73,7 +73,7 @@ pub on_ok : {T E : Type 0} (r : Result T E) (P : Type 0) → is_err r ≡ false 
 on_ok (Ok x) P fine is = is
 on_ok (Err e) P fine is = absurd (cc)
 
--- it stands for the tree of one empty directory
+-- it represents the tree of one empty directory
 pub fresh_stands_for : (sectors nodes : ℕ) (image : Image) → formats.IsFresh sectors nodes image → StandsFor sectors nodes 0 (bare fresh_tree) image
 fresh_stands_for sectors nodes image fresh = ∥∥₁_map fresh (λ is. record {
   base = is.0;

@@ -1,4 +1,4 @@
--- What a mount finds is the tree that stood there.
+-- What a mount finds is the tree that the device held.
 use Rattle.std.proofs.Common.{ℕ, Bool, true, false, ◌≡◌, ◌+◌, ◌<◌, ◌≤◌, ◌⊎◌, ◌^◌, inl, refl, sym, ap, ◌∙◌, subst, arith, not, cond, true≢false, eqb}
 use Rattle.std.proofs.Math.Logic.{∥∥₁_map}
 use Rattle.std.proofs.lemmas.Bool.{eqb-true}
@@ -27,7 +27,7 @@ use Rattle.volume.proofs.StandLaws.{is_front, sized, large, stands_same}
 
 -- Results
 
--- several facts of one result, the last of them where the word is kept
+-- several facts of one result, one of them if the word is kept
 pub if_ok_all : {T E : Type 0} (r : Result T E) (keeps_word : Type 0) (P Q R S : T → Type 0) → ((x : T) → P x → Q x → (keeps_word → R x) → S x)
     → IfOk r P → IfOk r Q → (keeps_word → IfOk r R) → IfOk r S
 if_ok_all (Ok x) keeps_word P Q R S so first second kept = so x first second kept
@@ -81,7 +81,7 @@ module _ (size nodes run : ℕ) (kept : Kept) (seen : Image) (base : IsBase size
   never_damaged true true same is h = cc
   never_damaged false worn same is h = cc
 
-  -- where one stands, the first sector is not damaged
+  -- if there is a tree, the first sector is not damaged
   pub not_damaged : mount_verdict size (seen 0) ≡ Damaged → ⊥
   unfolding mount_verdict
   not_damaged is = never_damaged (is_volume size (seen 0)) (eqb (word 20 (seen 0)) last_run) (bytes_eq (seen 0) (superblock (version_in (seen 0)) size (word 16 (seen 0)) (word 20 (seen 0))))
@@ -93,7 +93,7 @@ module _ (size nodes run : ℕ) (kept : Kept) (seen : Image) (base : IsBase size
   never_none true false false is h = cc
   never_none false worn same is h = true≢false (sym is)
 
-  -- and tells of a volume
+  -- and is that of a volume
   pub is_volume_there : mount_verdict size (seen 0) ≡ NotVolume → ⊥
   unfolding mount_verdict
   is_volume_there is = never_none (is_volume size (seen 0)) (eqb (word 20 (seen 0)) last_run) (bytes_eq (seen 0) (superblock (version_in (seen 0)) size (word 16 (seen 0)) (word 20 (seen 0))))
@@ -105,7 +105,7 @@ module _ (size nodes run : ℕ) (kept : Kept) (seen : Image) (base : IsBase size
   worn_alone true false false h = absurd (cc)
   worn_alone false worn same h = absurd (cc)
 
-  -- it is worn where the count is full alone
+  -- it is worn only if the count is full
   pub count_full : mount_verdict size (seen 0) ≡ Worn → run + 1 ≡ 2 ^ 32
   unfolding mount_verdict
   count_full is =
@@ -134,7 +134,7 @@ module _ (size nodes run : ℕ) (kept : Kept) (seen : Image) (base : IsBase size
     same_run : found_run ≡ run
     same_run = sym (word_run told size found_nodes found_run counts) ∙ (ap (word 20) found_first ∙ run_is)
 
-    -- it stands on the base that the journal found
+    -- the base that the journal found holds it
     pub found_stands : VolumeStands sectors found_nodes at found_run kept
     found_stands = subst (λ (s : ℕ). VolumeStands s found_nodes at found_run kept) (sym sectors_is)
         (subst (λ (n : ℕ). VolumeStands size n at found_run kept) (sym same_nodes)
@@ -156,7 +156,7 @@ module _ (size nodes run : ℕ) (kept : Kept) (seen : Image) (base : IsBase size
         (subst (λ (r : ℕ). AddsOnly (λ image. StandsForIn (number_of_version told) sectors found_nodes r kept image ⊎ StandsForIn served_version sectors found_nodes (r + 1) kept image) mid new) same_run
         (after found_stands)))))
 
--- what stands on the base that was found stood in what was seen
+-- what the base that was found holds, the image that was seen represented
 pub seen_stands : (size nodes run sectors found_nodes found_run fs_run : ℕ) (kept : Kept) (seen at : Image) → Settles (in_front size) seen at → sectors ≡ size → fs_run ≡ found_run + 1
     → nodes ≡ found_nodes → fs_run ≡ run + 1 → ∥ VolumeStands sectors found_nodes at found_run kept ∥₁ → StandsFor size nodes run kept seen
 seen_stands size nodes run sectors found_nodes found_run fs_run kept seen at settles sectors_is run_is nodes_is counted stands =

@@ -28,7 +28,7 @@ among_more {A = A} first rest one among = by_place among.0 among.1.0 among.1.1
     by_place zero less e = inl e
     by_place (suc place) less e = inr (place, (omega (arith, less), e))
 
--- a front of the list is among the fronts
+-- the base with a prefix of the list applied is among the fronts
 pub front_among : (base : Image) (list : List (List Update)) (count : ℕ) → count ≤ length list → IsAmong (fronts_from base list) (applied_all (take count list) base)
 front_among base [] zero few = (0, (omega arith, refl))
 front_among base [] (suc count) few = absurd (omega (arith, few))

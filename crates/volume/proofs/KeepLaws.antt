@@ -27,7 +27,7 @@ counted_later before between after later counted = elim counted [
   ]
 ]
 
--- two parts of a call, of 198 writes and syncs at most each
+-- two parts of a call, of at most 198 writes and syncs each
 pub few_with_flush : (first middle last : ℕ) → middle ≤ first + 198 → last ≤ middle + 198 → last ≤ first + 396
 few_with_flush first middle last few then_few = omega (arith, few, then_few)
 
@@ -43,7 +43,8 @@ module _ (keeps_word : Type 0) (was between now : VolumeState) (after : Kept)
   abbrev Keeps : Given
   Keeps kept lasts = kept ≡ after
 
-  -- what stands for what is kept in between stands for what may be kept of the volume before
+  -- what represents something that may be kept in between represents what may be kept of the volume
+  -- before
   one_before : (recent left : List Kept) → ((one : Kept) → IsAmong left one → IsAmong recent one ⊎ (one ≡ after)) → kept_of between ≡ after
       → (image : Image) → StandsForOne between (MayAdd left (kept_of between)) image → StandsForOne was (MayAdd recent after) image
   one_before recent left no_others same image one =
@@ -132,7 +133,7 @@ module _ (keeps_word : Type 0) (was between now : VolumeState) (after : Kept)
     };
   }
 
-  -- a flush is refused for the device alone, where the change answered
+  -- if the change succeeded, a flush is refused only because of the device
   pub keep_flushed : (result : Result (Unit {0}) VolumeFault) → Flushes (ending_of result) → (IsErrOf result faults.Down ↔ (between.is_down ≡ true))
       → IfErr result (λ fault. (fault ≡ faults.Device) ⊎ (fault ≡ faults.Down)) → VolumeChanges keeps_word Keeps was now first last (ending_of result)
   keep_flushed (Ok done) flush down refuses = keep_done flush
@@ -141,7 +142,8 @@ module _ (keeps_word : Type 0) (was between now : VolumeState) (after : Kept)
   keep_flushed (Err faults.NoSpace) flush down refuses = absurd (⊎_elim (λ (is : faults.NoSpace ≡ faults.Device). cc) (λ (is : faults.NoSpace ≡ faults.Down). cc) refuses)
   keep_flushed (Err faults.Memory) flush down refuses = absurd (⊎_elim (λ (is : faults.Memory ≡ faults.Device). cc) (λ (is : faults.Memory ≡ faults.Down). cc) refuses)
 
--- where the change did not answer, what is said of a change that may be lost holds of one that is kept
+-- if the change did not succeed, what holds of a change that may be lost also holds of one that is
+-- kept
 pub unchanged : (keeps_word : Type 0) (was now : VolumeState) (after : Kept) (first last : ℕ) (ending : Ending) → (ending ≡ Done → ⊥)
     → VolumeChanges keeps_word (λ kept lasts. (kept ≡ after) × (lasts ≡ false)) was now first last ending
     → VolumeChanges keeps_word (λ kept lasts. kept ≡ after) was now first last ending
@@ -170,7 +172,7 @@ unchanged keeps_word was now after first last Broken never change = record {
   };
 }
 
--- which is where it was refused
+-- which is so if it was refused
 pub refused_unchanged : (keeps_word : Type 0) (was now : VolumeState) (after : Kept) (first last : ℕ) (fault : VolumeFault)
     → VolumeChanges keeps_word (λ kept lasts. (kept ≡ after) × (lasts ≡ false)) was now first last (ending_of {T = Unit {0}} (Err fault))
     → VolumeChanges keeps_word (λ kept lasts. kept ≡ after) was now first last (ending_of {T = Unit {0}} (Err fault))

@@ -60,7 +60,7 @@ any_limits nodes _ _ (By number mark seats is may) = version_limits number mark 
 abbrev HoldsSectors : (size : ℕ) → Image → Type 0
 HoldsSectors size image = (n : ℕ) → n < size → IsSector (image n)
 
--- bytes are where a place of the data region is marked
+-- there are bytes in each marked place of the data region
 marked_bytes : (version : Version) (size nodes : ℕ) (image : Image) (cards : List (Option CachedNode)) → IsLaid version size nodes image cards
     → (bytes : (n : ℕ) → 148 + nodes ≤ n → n < size → IsSector (image n)) → HoldBytes image (marked_by version.marking nodes image cards)
 marked_bytes version size nodes image cards laid bytes n marked = elim (cases_lt n size) [
@@ -92,7 +92,7 @@ module _ (number : VersionNumber) (mark : Option ℕ) (seats : Seats) (size node
       ↔ (IsWellFormed (limits_of size nodes) (tree_of (second_image nodes image) second) × IsBefore (stamp (run + 1) 0) (tree_of (second_image nodes image) second))
   each = each_tree nodes (second_image nodes image) (mark_in nodes (second_image nodes image)) second as_second.laid.laid second_bytes (limits_of size nodes) (omega arith) (stamp (run + 1) 0)
 
-  -- where they are well formed, their tree stands
+  -- if they are well formed, the volume holds their tree
   pub found_stands : run < 2 ^ 32 → image 0 ≡ superblock number size nodes run → AreWellFormed (limits_of size nodes) (stamp (run + 1) 0) second
       → layout.TreeStands (version_by number mark seats) size nodes image run (tree_of image second)
   found_stands counted first well_formed =
@@ -107,14 +107,14 @@ module _ (number : VersionNumber) (mark : Option ℕ) (seats : Seats) (size node
         before = subst (IsBefore (stamp (run + 1) 0)) same_tree both.1;
       }
 
-  -- and where they are not, none does
+  -- and if they are not, it holds none
   pub none_stands : (kept : Kept) → (AreWellFormed (limits_of size nodes) (stamp (run + 1) 0) second → ⊥) → VolumeStands size nodes image run kept → ⊥
   none_stands kept never stands = ∥∥₁_elim stands.stands.well_formed (Prim.hlevel props) (λ well_formed.
       let same : kept.tree ≡ tree_of (second_image nodes image) second = stands.stands.tree_is ∙ (ap (tree_of image) (sym read) ∙ sym as_second.tree) in
       let well = subst (λ (f : ℕ → ℕ → Limits). IsWellFormed (f size nodes) kept.tree) (any_limits nodes stands.version kept.seats stands.is_version) well_formed in
       never (each.1 (subst (IsWellFormed (limits_of size nodes)) same well, subst (IsBefore (stamp (run + 1) 0)) same stands.stands.before)))
 
--- what stands is laid in the version that the first sector tells
+-- what a volume holds is laid out in the version that the first sector gives
 pub laid_told : (number : VersionNumber) (size nodes run : ℕ) (image : Image) (kept : Kept) → image 0 ≡ superblock number size nodes run → VolumeStands size nodes image run kept
     → (mark : Option ℕ) × IsMark number nodes mark × MayHaveSeats number mark kept.seats × IsLaid (version_by number mark kept.seats) size nodes image (cards_in nodes image)
 laid_told number size nodes run image kept first stands =
@@ -153,7 +153,7 @@ second_numbered nodes mark cards known place number there =
     let is = card_at nodes mark (all_second cards) place it.cached (known_as_second nodes mark cards known) it.there in
     omega (arith, is.number, it.number_is)
 
--- what is asked of the table is asked of the cached nodes
+-- what holds of the table holds of the cached nodes
 pub asked : (limits told : Limits) (at by : ℕ) (table cards : List (Option CachedNode)) → limits ≡ told → at ≡ by → table ≡ cards
     → AreWellFormed limits at table → AreWellFormed told by cards
 asked limits told at by table cards a b c are =
@@ -184,7 +184,7 @@ allowed_few size nodes image mark cards laid allowed place card there = elim (ca
     none_some : (x : CachedNode) → (let none : Option CachedNode = None in none ≡ Some x) → ⊥
     none_some x e = cc
 
--- so where a tree stands, few blocks do
+-- so in a volume that holds a tree, each node has few blocks
 pub stands_few : (size nodes run : ℕ) (image : Image) (kept : Kept) → HoldsSectors size image → VolumeStands size nodes image run kept
     → (AreFew (cards_in nodes image) → ⊥) → ⊥
 stands_few size nodes run image kept sectors stands never = ∥∥₁_elim stands.stands.well_formed (Prim.hlevel props) (λ well_formed.
@@ -195,7 +195,7 @@ stands_few size nodes run image kept sectors stands never = ∥∥₁_elim stand
     (subst (IsWellFormed (limits_of size nodes)) stands.stands.tree_is well, subst (IsBefore (stamp (run + 1) 0)) stands.stands.tree_is stands.stands.before) in
     never (allowed_few size nodes image (marked_by stands.version.marking nodes image cards) cards stands.stands.laid.laid are.nodes))
 
--- how a refusal that is handed on was named below
+-- which fault of the layer below a fault that is passed on comes from
 pub only_damaged : (fault : ScanFault) → mount_fault fault ≡ mounts.Damaged → fault ≡ scans.Damaged
 only_damaged scans.Damaged is = refl
 only_damaged scans.Device is = absurd (cc)

@@ -47,7 +47,7 @@ mark_moved : (version : VersionNumber) (nodes : ℕ) (mark : Option ℕ) → All
 mark_moved One nodes mark moved = subst (IsMark Two nodes) (sym moved) refl
 mark_moved Two nodes mark moved = moved
 
--- a mark of version 1 that tells all places, or one of version 2
+-- a mark of version 1 that counts all places, or one of version 2
 mark_before : (version : VersionNumber) (sectors nodes : ℕ) (mark : Option ℕ) → 0 < nodes → AllHaveMoved version nodes mark → IsMark version nodes mark
 mark_before One sectors nodes mark some moved = subst (IsMark One nodes) (sym moved) (some, omega arith)
 mark_before Two sectors nodes mark some moved = moved

@@ -1,4 +1,4 @@
--- How a mount answers, by what its parts find.
+-- The result of a mount, by what its parts find.
 use Rattle.std.proofs.Common.{◌≡◌, ◌≤◌, ◌<◌, ◌+◌, ◌⊎◌, ◌^◌, ◌∙◌, ℕ, List, [], ◌∷◌, length, inl, inr, ⊎_elim, refl, sym, ap, subst, arith}
 use Rattle.disk.specs.Cause.{IsCounted}
 use Rattle.disk.specs.Moments.{Image, History, AddsOnly, moment, seen, synced}
@@ -57,7 +57,7 @@ refused_untouched sectors old new fault same reason = record {
   reason = reason;
 }
 
--- refused by the first sector
+-- refused because of the first sector
 module _ (sectors : ℕ) (old new : History) (same : new ≡ old) where
   pub first_reason : (fault : MountFault) → (fault ≡ mounts.NotVolume → first_verdict sectors old ≡ verdicts.NotVolume) → (fault ≡ mounts.Worn → first_verdict sectors old ≡ verdicts.Worn)
       → (fault ≡ mounts.Damaged → first_verdict sectors old ≡ verdicts.Damaged) → HasReason sectors old new fault
@@ -78,7 +78,8 @@ module _ (sectors : ℕ) (old new : History) (same : new ≡ old) where
   first_reason mounts.Memory none worn damaged = tt
   first_reason mounts.Device none worn damaged = tt
 
--- the device comes back that was handed on, of the same size and of no fewer failures
+-- the device that comes back is that which was passed on, of the same size and with no fewer
+-- failures
 pub back_since : {D : Type 0} (size failed : D → ℕ) (was failures sectors between : ℕ) (unmounted : Unmounted D) → sectors ≡ was → between ≡ failures
     → ComesBack size failed sectors between unmounted → ComesBack size failed was failures unmounted
 back_since size failed was failures sectors between unmounted same stays back = record {

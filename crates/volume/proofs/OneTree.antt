@@ -1,4 +1,4 @@
--- A map stands for one tree with its seats.
+-- An image represents one tree with its seats.
 use Rattle.std.proofs.Common.{ℕ, ◌<◌, ◌^◌, arith}
 use Rattle.std.proofs.Math.Logic.{∥∥₁_elim}
 use Rattle.std.proofs.Props.{props}

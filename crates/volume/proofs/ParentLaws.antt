@@ -1,4 +1,4 @@
--- Over a change each node's parent stays, but for that of the node whose name is put.
+-- Over a change each node keeps its parent, except the node whose name is put.
 use Rattle.std.proofs.Common.{◌≡◌, ◌≢◌, ◌≤◌, ◌<◌, ◌+◌, ℕ, Bool, true, false, List, [], ◌∷◌, Option, Some, None, length, set, eqb, ltb, refl, sym, ap, ◌∙◌, arith, inl, inr, ⊎_elim, subst, eq-eqb, ne_eqb}
 use Rattle.std.proofs.lemmas.Bool.{cases_eq}
 use Rattle.std.proofs.Math.Logic.{∥∥₁_elim}
@@ -105,7 +105,7 @@ links_altered change tree key of number less = by_node (at key tree) refl
     by_node None is = omega arith
     by_node (Some node) is = links_with tree key (change node) of number (omega (arith, less node, links_node key number tree node is))
 
--- no edit but that which puts its name makes a name of a number
+-- no edit except that which puts its name makes a name of a number
 
 one_off : (a b : ℕ) → once_if (eqb b a) ≡ 0 → one_if (eqb a b) ≡ 0
 one_off a b none = elim (cases_eq a b) [
@@ -229,7 +229,7 @@ module _ (held : VolumeState) (edits : List Edit) (change : IsChange held edits)
   count_is : length new ≡ length old
   count_is = new_known.count ∙ sym known.count
 
-  -- each other node stood there
+  -- each other node was there
   node_was : (place number : ℕ) → node_number_at new place ≡ Some number → (IsAmong (named_by edits) number → ⊥) → node_number_at old place ≡ Some number
   node_was place number there off = ⊎_elim (λ (stood : node_number_at old place ≡ Some number). stood)
       (λ (among : IsAmong (made_by edits) number). absurd (⊎_elim

@@ -1,4 +1,4 @@
--- Of one tree each number has one name at most, and the root has none.
+-- In one tree each number has at most one name, and the root has none.
 use Rattle.std.proofs.Common.{◌≡◌, ◌≢◌, ◌≤◌, ◌<◌, ◌+◌, ℕ, zero, suc, List, [], ◌∷◌, Option, Some, None, get_or, refl, sym, ap, ◌∙◌, arith, inl, inr, eq-eqb, ne_eqb}
 use Rattle.std.proofs.lemmas.Bool.{cases_eq}
 use Rattle.std.proofs.lemmas.Option.{same_Some}
@@ -34,7 +34,7 @@ led-two n (Some card ∷ cards) (suc p) zero off = omega (arith, times-append n 
 led-two n (None ∷ cards) (suc p) (suc q) off = led-two n cards p q (omega arith)
 led-two n (Some card ∷ cards) (suc p) (suc q) off = omega (arith, times-append n (numbers_of card.names) (entry_numbers cards), led-two n cards p q (omega arith))
 
--- where a name leads to a number
+-- the place of a name that leads to a number
 led-where : (n : ℕ) (cards : List (Option CachedNode)) → 0 < times n (entry_numbers cards) → (p : ℕ) × PlaceLeadsTo cards p n
 led-where n [] some = absurd (omega arith)
 led-where n (None ∷ cards) some = let found = led-where n cards some in (suc found.0, found.1)
@@ -45,7 +45,7 @@ led-where n (Some card ∷ cards) some = elim (cases_eq (times n (numbers_of car
   | inr has ↦ (0, omega arith)
 ]
 
--- The numbers of the nodes but the root
+-- The numbers of the nodes except the root
 
 others-lack : (n : ℕ) (cards : List (Option CachedNode)) → HasNoNode cards n → times n (other_numbers cards) ≡ 0
 others-lack n [] lack = refl
@@ -90,7 +90,7 @@ others-have n (Some card ∷ cards) (suc p) off there =
       | inr other ↦ rw (ne_eqb card.fields.number root other) (omega (arith, rest))
     ]
 
--- a name stands in a directory that has a number
+-- a name is in a directory that has a number
 pub led-number : (cards : List (Option CachedNode)) (p n : ℕ) → PlaceLeadsTo cards p n → (directory : ℕ) × (node_number_at cards p ≡ Some directory)
 led-number cards p n leads = from (get_or cards p None) leads
   where

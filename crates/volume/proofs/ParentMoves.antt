@@ -11,26 +11,26 @@ use Rattle.tree_check.specs.Trees.{IsOneTree}
 use Rattle.volume.specs.ParentIndex.{PlaceLeadsTo, HasChild, AreParents}
 use Rattle.volume.proofs.ParentLinks.{no_root, one_name}
 
--- One node's name comes to stand in a directory: the node was made, or was moved there. Other nodes
--- may go with their names.
+-- One node's name is put in a directory: the node was made, or was moved there. Other nodes may go
+-- with their names.
 pub record MovesName (old new : List (Option CachedNode)) (moved place directory : ℕ) : Type 0 where
   pub count : length new ≡ length old
   -- the node is there, and the directory has its name
   pub node : node_number_at new place ≡ Some moved
   pub name : HasChild new directory moved
-  -- each other node was where it is, and each other name in the directory in which it is
+  -- each other node was at its place, and each other name in its directory
   pub nodes : (other number : ℕ) → number ≢ moved → node_number_at new other ≡ Some number
       → node_number_at old other ≡ Some number
   pub names : (of number : ℕ) → number ≢ moved → HasChild new of number → HasChild old of number
 
--- No name comes to stand in a directory, and no node is made. Nodes may go with their names.
+-- No name is put in a directory, and no node is made. Nodes may go with their names.
 pub record KeepsNames (old new : List (Option CachedNode)) : Type 0 where
   pub count : length new ≡ length old
   pub nodes : (place number : ℕ) → node_number_at new place ≡ Some number
       → node_number_at old place ≡ Some number
   pub names : (of number : ℕ) → HasChild new of number → HasChild old of number
 
--- so the parents stay, but for that node's
+-- so the parents stay, except that node's
 abbrev pub EachMove : Type 0
 EachMove = (old new : List (Option CachedNode)) (parents : List ℕ) (moved place directory : ℕ)
     → AreParents old parents → HaveOwnPlaces new → IsOneTree new

@@ -84,7 +84,7 @@ module _ (cards : List (Option CachedNode)) (old now : List ℕ) (directory i : 
       (subst (λ list. IsNoted cards old list (take i (numbers_of names) ++ one.1.number ∷ []) directory) (sym same)
       (note-none cards old now (take i (numbers_of names)) directory one.1.number noted lack))
 
--- One directory after the other: those in front of a place
+-- One directory after another: those before a place
 
 pub record AreNoted (cards : List (Option CachedNode)) (parents : List ℕ) (front : ℕ) : Type 0 where
   pub count : length parents ≡ length cards

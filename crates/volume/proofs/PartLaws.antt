@@ -61,7 +61,7 @@ part_on word image blocks offset done at more old mid new at_is first second = r
   ];
 }
 
--- what stands in front, and how many bytes come after it
+-- the old bytes come first, and how many come after them
 
 pub front_is : (old part new : List ℕ) → new ≡ old ++ part → IsBytesFront old new
 front_is old part new is = ap (take (length old)) is ∙ take-append-le (length old) old part (omega arith) ∙ take_all (length old) old (omega arith)

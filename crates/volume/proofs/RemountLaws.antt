@@ -15,14 +15,14 @@ use Rattle.volume.proofs.OneTree.{one_stands}
 pub seen_left : (m : Moment) → Left m (seen m)
 seen_left m n = seen-may_hold m.unsynced m.fixed n
 
--- of a device at rest a crash leaves what it holds
+-- a crash of a device at rest leaves what it holds
 pub rests_left : (first image : Image) → LeftSince (at_rest first) 0 image → image ≡ first
 rests_left first image left = ⊎_elim
     (λ (now : Left (at_rest first).now image). fun_ext (λ n. ⊎_elim (λ (same : image n ≡ first n). same) (λ (never : ⊥). absurd never) (now n)))
     (λ (never : LeftWithin [] 0 image). absurd never)
     left
 
--- what a crash of a device may leave that was let go, it may have left of the device before
+-- what a crash may leave of a device as it was at one of its moments, it may leave of the device
 front_left : (device earlier : History) (t : ℕ) (image : Image) → IsMomentOf device earlier → t ≤ moment earlier → LeftSince earlier t image → LeftSince device t image
 front_left device earlier t image Now late left = left
 front_left device earlier t image (Before {now = now} {before = before} {past = past} front) late left =
@@ -31,7 +31,7 @@ front_left device earlier t image (Before {now = now} {before = before} {past = 
     (λ (was : LeftWithin past t image). inr (inr was))
     left)
 
--- what stands in a version stands
+-- what is represented in a version is represented
 in_version : (number sectors nodes run : ℕ) (kept : Kept) (image : Image) → StandsForIn number sectors nodes run kept image → StandsFor sectors nodes run kept image
 in_version number sectors nodes run kept image stands = ∥∥₁_map stands (λ is. is.0)
 

@@ -118,7 +118,7 @@ all_there place (edit ∷ edits) (old ∷ seats) image are can lays (suc j) k lo
     ∙ ap image (let q : 100 + 9 * (suc place + i) + m ≡ 100 + 9 * (place + suc i) + m = omega arith in q) ∙ lays (suc i) m (omega arith) few)
     j k (omega arith) small
 
--- Whatever the code holds can be spelled
+-- Whatever the code holds can be encoded
 
 abbrev pub IsEdit : SeatEdit → Type 0
 IsEdit Stays = Unit {0}

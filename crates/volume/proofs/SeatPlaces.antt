@@ -76,7 +76,7 @@ other_slot slot k some other = ⊎_elim
 
 module _ (place slot : ℕ) (held : HeldReply) (seat : Seat) (image : Image) (k : ℕ) (has : slot < length seat.slots)
     (there : image (100 + 9 * place + k) ≡ seat_sector k (Some seat)) where
-  -- a sector beside the row
+  -- a sector outside the row
   beside : (k < 1 + 4 * slot) ⊎ (5 + 4 * slot ≤ k) → (1 ≤ k → (k - 1) / 4 ≡ slot → ⊥)
       → applied (held_row place slot held) image (100 + 9 * place + k) ≡ seat_sector k (Some (with_held slot held seat))
   beside far other =

@@ -73,7 +73,7 @@ unfolding row
 row_more first count content target bytes there is =
     rw (there, is) (map-range_with_len_more (update first content) 0 count count (omega arith))
 
--- a row that is put behind other updates, sector by sector
+-- a row that is appended to other updates, sector by sector
 pub pushed_none : (old : List Update) (first : ℕ) (content : ℕ → List ℕ) → old ≡ old ++ row first 0 content
 pushed_none old first content = sym (ap (λ (us : List Update). old ++ us) (row_none first content) ∙ append-nil old)
 

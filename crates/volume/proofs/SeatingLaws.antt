@@ -25,7 +25,8 @@ use Rattle.volume.proofs.ApplyLaws.{StandsWith}
 use Rattle.volume.proofs.ChangeLaws.{StandsWith-prop}
 use Rattle.volume.proofs.ServeLaws.{up_answered}
 
--- What stands after the transaction: the same cached nodes and tree, with the edited seats
+-- What the sectors hold after the transaction: the same cached nodes and tree, with the edited
+-- seats
 
 -- the two sectors behind the seats are those of no seat
 behind_seats : (seats : Seats) (n : ℕ) → length seats ≡ 5 → 45 ≤ n → n < 47 → seats_sector n seats ≡ seat_sector (n % 9) None
@@ -110,7 +111,7 @@ module _ (nodes run : ℕ) (log : Log) (cards : List (Option CachedNode)) (edits
     stands = ∣ record { keeps = record { places = places; of_runs = can.of_runs }; stands = now_stands } ∣₁;
   }
 
--- where a volume serves
+-- if a volume serves
 pub seats_behind : (nodes run : ℕ) (log : Log) (cards : List (Option CachedNode)) (edits : List SeatEdit) (updates : List Update) → AreUpdates edits updates
     → AreEdits run edits (seats_at (contents log)) → ∥ IsServing log nodes run cards ∥₁
     → StandsWith nodes run log updates cards (record { tree = tree_of (contents log) cards; seats = edited_all edits (seats_at (contents log)) })
@@ -118,7 +119,7 @@ seats_behind nodes run log cards edits updates are can serving =
     ∥∥₁_elim serving (StandsWith-prop nodes run log updates cards _) (λ served.
     ∥∥₁_elim served.stands (StandsWith-prop nodes run log updates cards _) (λ stood. seated_with nodes run log cards edits updates are served.read stood can))
 
--- a transaction that is small enough is refused for the device alone
+-- a transaction that is small enough is refused only because of the device
 either_fault : (fault : JournalFault) → (fault ≡ faults.TooMany → ⊥) → (fault ≡ faults.TooMany) ⊎ ((fault ≡ faults.Fault) ⊎ (fault ≡ faults.Down))
     → (fault ≡ faults.Fault) ⊎ (fault ≡ faults.Down)
 either_fault fault few refuses = ⊎_elim (λ (many : fault ≡ faults.TooMany). absurd (few many)) (λ (rest : (fault ≡ faults.Fault) ⊎ (fault ≡ faults.Down)). rest) refuses

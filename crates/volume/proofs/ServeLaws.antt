@@ -32,7 +32,7 @@ use Rattle.volume.proofs.FrontLaws.{front_among}
 use Rattle.volume.proofs.OneTree.{Seats-set, Tree-set}
 use Rattle.volume.proofs.StandLaws.{now_same, placed_on, same_placed, seats_same, settles_placed, sized}
 
--- what serves stands with its seats
+-- a volume that serves holds its tree with the seats
 pub served_stands : (nodes run : ℕ) (cards : List (Option CachedNode)) (log : Log) → IsServing log nodes run cards
     → ∥ VolumeStands log.size nodes (contents log) run (kept_in_image (contents log) cards) ∥₁
 served_stands nodes run cards log serving = ∥∥₁_map serving.stands (stands_now log.size nodes (contents log) run (kept_in_image (contents log) cards))
@@ -101,7 +101,8 @@ among_one only other among = by_place among.0 among.1.0 among.1.1
     by_place zero less e = e
     by_place (suc place) less e = absurd (omega arith)
 
--- where nothing is left to flush, each map left stands for what the base does, and so does its only front
+-- if nothing is left to flush, each image left represents what the base does, and so does its only
+-- front
 pub holds_base : (limits : Limits) (run : ℕ) (cards : List (Option CachedNode)) (log : Log) → log.list ≡ []
     → ∥ VolumeStands log.size limits.nodes (contents log) run (kept_in_image (contents log) cards) ∥₁ → log.area ≡ in_front log.size → IsSettled log → Holds (volume_state_by limits run cards log)
 holds_base limits run cards log listed stands placed settled =
@@ -127,15 +128,15 @@ pub if_some_so : {T : Type 0} (o : Option T) (P Q : T → Type 0) → ((x : T) �
 if_some_so (Some x) P Q so is = so x is
 if_some_so None P Q so is = tt
 
--- the way, and the flush behind it, of a log of 96 sectors
+-- a flush of a log of 96 sectors, with the copying home before it
 pub few_in_front : (area : LogArea) (size before after : ℕ) → area ≡ in_front size → after ≤ before + 2 * (area.sectors + 3) → after ≤ before + 198
 few_in_front area size before after placed few = subst (λ (l : LogArea). after ≤ before + 2 * (l.sectors + 3)) placed few
 
--- what takes 198 writes and syncs at most takes no more than a call may
+-- what takes at most 198 writes and syncs takes no more than a call may
 pub few_for_call : (before after : ℕ) → after ≤ before + 198 → after ≤ before + 396
 few_for_call before after few = omega (arith, few)
 
--- A flush of the journal, as the volume tells it
+-- A flush of the journal, as the volume sees it
 module _ (keeps_word : Type 0) (limits : Limits) (run : ℕ) (cards : List (Option CachedNode)) (old new : Log) (before after : ℕ) where
   abbrev was : VolumeState
   was = volume_state_by limits run cards old
@@ -214,13 +215,13 @@ module _ (keeps_word : Type 0) (limits : Limits) (run : ℕ) (cards : List (Opti
 down_up : (b : Bool) → b ≡ true → b ≡ false → ⊥
 down_up b down is_up = cc
 
--- a call that answered found the journal up and left it up
+-- a call that succeeded found the journal up and left it up
 pub found_up : (old new : Log) (before after : ℕ) (done : Unit {0}) → AnswersByDevice old new before after (Ok done) → (old.is_down ≡ false) × (new.is_down ≡ false)
 found_up old new before after done answers =
     let found : old.is_down ≡ false = false_from_ne_true old.is_down (λ down. let told = answers.down.1 down in cc) in
     (found, answers.stays_up found (λ fault. cc))
 
--- a call that leaves it up has answered
+-- a call that leaves it up has succeeded
 pub up_answered : (keeps_word : Type 0) (old new : Log) (before after : ℕ) (P : Type 0) (result : Result (Unit {0}) JournalFault) → OnOk result P
     → AnswersByDevice old new before after result → IfErr result (λ fault. (fault ≡ faults.Fault) ⊎ (fault ≡ faults.Down)) → new.is_down ≡ false
     → P × (old.is_down ≡ false)
@@ -241,7 +242,7 @@ flush_refused keeps_word given limits run cards old new before after faults.Memo
 flush_refused keeps_word given limits run cards old new before after faults.Damaged safe placed answers refuses = absurd (⊎_elim (λ (is : faults.Damaged ≡ faults.Fault). cc) (λ (is : faults.Damaged ≡ faults.Down). cc) refuses)
 flush_refused keeps_word given limits run cards old new before after faults.TooMany safe placed answers refuses = absurd (⊎_elim (λ (is : faults.TooMany ≡ faults.Fault). cc) (λ (is : faults.TooMany ≡ faults.Down). cc) refuses)
 
--- what a `?` hands on
+-- what a `?` passes on
 pub told_err : {T E : Type 0} (result : Result T E) (reason : E) → IsErrAnd result (λ told. told ≡ reason) → result ≡ Err reason
 told_err (Ok done) reason is = absurd is
 told_err (Err told) reason is = ap Err is

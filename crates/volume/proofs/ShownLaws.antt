@@ -1,4 +1,4 @@
--- What is answered of a tree without the bytes of its files does not depend on them.
+-- What is returned about a tree without the bytes of its files does not depend on them.
 use Rattle.std.proofs.Common.{◌≡◌, ℕ, zero, suc, List, [], ◌∷◌, Option, Some, None, length, refl, sym, ap, ap₂, ◌∙◌}
 use Rattle.std.specs.Prelude.{if◌then◌else◌, nat_lt, ◌==◌, option_map}
 use Rattle.std.specs.List.{list_any}

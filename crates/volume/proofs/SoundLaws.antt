@@ -1,4 +1,5 @@
--- A tree whose files hold bytes is well formed where it is so with zeros for them; and which edits keep bytes.
+-- A tree whose files hold bytes is well formed if it is so with zeros for them; and which edits
+-- keep bytes.
 use Rattle.std.proofs.Common.{◌≡◌, ◌+◌, ◌<◌, ◌&&◌, not, ℕ, Bool, List, [], ◌∷◌, Option, Some, None, All, length, refl, sym, ap, ap₂, ◌∙◌, arith, inl, inr, subst}
 use Rattle.std.specs.Prelude.{option_map, ◌==◌, IsTrue}
 use Rattle.std.proofs.Math.Logic.{∥∥₁_map}
@@ -97,7 +98,7 @@ fresh_bytes : (of : NodeKind) (shown : model.Shown) → HasBytes (fresh_node of 
 fresh_bytes kind.File shown = no_bytes
 fresh_bytes kind.Directory shown = no_bytes
 
--- after edits of the code that put bytes, as all of them do
+-- also after edits of the code, all of which put bytes
 pub edited_bytes : (edits : List Edit) → PartsAreBytes edits → (tree : Tree) → AreBytes tree → AreBytes (edited (edits_of edits) tree)
 edited_bytes [] parts tree are = are
 edited_bytes (declared.PutNode number of shown ∷ edits) parts tree are =
@@ -121,7 +122,7 @@ total_blanked : (worth : Node → ℕ) → ((node : Node) → worth (blank_node 
 total_blanked worth same [] = refl
 total_blanked worth same (entry ∷ rest) = ap₂ (λ (n m : ℕ). n + m) (same entry.1) (total_blanked worth same rest)
 
--- the tree of this node alone tells it
+-- as the tree of only this node shows
 node_names : (node : Node) → names_of (blank_node node).content ≡ names_of node.content
 node_names node = names-without_data ((0, node) ∷ []) 0
 

@@ -1,4 +1,5 @@
--- What a crash leaves of a volume, by its base alone: no sector of the journal's own is looked at.
+-- What a crash leaves of a volume depends only on its base: no sector of the journal's own is
+-- looked at.
 use Rattle.std.proofs.Common.{ℕ, ◌≡◌, ◌≤◌, inl, inr, refl, rules, arith, ap, subst, sym, ◌∙◌}
 use Rattle.std.specs.Prelude.{IsTrue}
 use Rattle.disk.specs.Moments.{Image}
@@ -21,7 +22,7 @@ sized = sized_parts
 pub large : (sectors nodes : ℕ) → IsTrue (is_size sectors nodes) → 256 ≤ sectors
 large sectors nodes size = search rules
 
--- the log is in front of what transactions write
+-- the log is before the sectors that transactions write
 
 pub placed_on : (area was : LogArea) (size old : ℕ) → area ≡ was → size ≡ old → was ≡ in_front old → area ≡ in_front size
 placed_on area was size old same sizes placed = same ∙ (placed ∙ ap in_front (sym sizes))
@@ -36,7 +37,7 @@ same_placed area size a b placed same = subst (λ (l : LogArea). AreSame l.end a
 pub settles_placed : (area : LogArea) (size : ℕ) (image base : Image) → area ≡ in_front size → Settles area image base → Settles (in_front size) image base
 settles_placed area size image base placed settles = subst (λ (l : LogArea). Settles l image base) placed settles
 
--- the volume is the same where the kept sectors are
+-- the volume is the same if the kept sectors are
 pub stands_same : (sectors nodes : ℕ) (a b : Image) (run : ℕ) (kept : Kept) → AreSame sectors a b
     → VolumeStands sectors nodes a run kept → VolumeStands sectors nodes b run kept
 stands_same sectors nodes a b run kept same stands =
@@ -49,7 +50,7 @@ stands_same sectors nodes a b run kept same stands =
           (λ n above below. sym (same n (inr above, below)));
     }
 
--- so it is in one version
+-- the same holds of one version
 pub tree_same : (version : layout.Version) (sectors nodes : ℕ) (a b : Image) (run : ℕ) (tree : Tree) → AreSame sectors a b
     → layout.TreeStands version sectors nodes a run tree → layout.TreeStands version sectors nodes b run tree
 tree_same version sectors nodes a b run tree same stands =
@@ -57,7 +58,7 @@ tree_same version sectors nodes a b run tree same stands =
     stands_alone version sectors nodes a b run tree stands (sym (same 0 (inl refl, omega (arith, enough))))
     (λ n above below. sym (same n (inr above, below)))
 
--- in the current one too, with the seats that its sectors tell
+-- and of the current one, with the seats that its sectors hold
 pub now_same : (sectors nodes : ℕ) (a b : Image) (run : ℕ) (kept : Kept) → AreSame sectors a b → StandsNow sectors nodes a run kept → StandsNow sectors nodes b run kept
 now_same sectors nodes a b run kept same now = record {
   keeps = now.keeps;

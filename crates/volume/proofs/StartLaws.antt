@@ -31,7 +31,7 @@ use Rattle.volume.specs.Starts.{HasMovedTo, IsCleared, ServesFrom, StandsInSecon
 use Rattle.volume.specs.declared.mount.Superblock.{Superblock}
 use Rattle.volume.proofs.StandLaws.{placed_on, settles_placed, sized}
 
--- what stands still stands for the tree
+-- an image that still holds the tree, as a migration sees it, represents it
 still_is : (number : ℕ) (area : LogArea) (size nodes run : ℕ) (tree : Tree) (image : Image) → area ≡ in_front size → StandsStill number area size nodes run tree image → StandsForIn number size nodes run (bare tree) image
 still_is number area size nodes run tree image placed still =
     ∥∥₁_map still (λ is. (record { base = is.base; settles = settles_placed area size image is.base placed is.settles; stands = is.stands }, is.number_is))
@@ -72,7 +72,7 @@ module _ (keeps_word : Type 0) (found : Superblock) (mark : Option ℕ) (cards :
       (subst (λ (n : ℕ). layout.TreeStands (version_1 mark) found.sectors n old.base found.run kept.tree) (sym count)
       (subst (λ (v : VersionNumber). layout.TreeStands (version_by v mark kept.seats) found.sectors found.nodes old.base found.run kept.tree) one stands.stands))
 
-  -- what stands in version 1 keeps no seat
+  -- what is held in version 1 has no seat
   is_bare : (kept : Kept) → StandsIn found mark old.base kept → kept.seats ≡ no_seats
   is_bare kept stands = subst (λ (v : VersionNumber). MayHaveSeats v mark kept.seats) one stands.may
 
@@ -122,7 +122,7 @@ stay_moved found mark kept base two stands = record {
   cards = refl;
 }
 
--- The commit record was written again, and what stands does so still
+-- The commit record was written again, and the volume still holds what it held
 module _ (keeps_word : Type 0) (found : Superblock) (mark : Option ℕ) (old new : Log) (size : found.sectors ≡ old.size) (marked : IsMark found.version found.nodes mark)
     (listed : old.list ≡ []) (placed : old.area ≡ in_front old.size) (safe : IsSafe keeps_word old new) where
   pub rewritten_moments : keeps_word → (kept : Kept) → StandsIn found mark old.base kept
@@ -160,7 +160,7 @@ still_marked One nodes mark = refl
 still_marked Two nodes None = refl
 still_marked Two nodes (Some moved) = refl
 
--- The run begins: the nodes are moved, the count is raised, the mark is taken away
+-- The run begins: the nodes are moved, the count is raised, the mark is removed
 module _ (found : Superblock) (mark : Option ℕ) (old : Log) (marked : IsMark found.version found.nodes mark) (marks : old.base 147 ≡ mark_held mark)
     (holds : HoldsVolume found old.size old.base) where
   abbrev then_mark : Option ℕ
@@ -169,7 +169,7 @@ module _ (found : Superblock) (mark : Option ℕ) (old : Log) (marked : IsMark f
   few : IsTrue (is_size found.sectors found.nodes) → found.nodes < 2 ^ 32
   few size = let parts = sized found.sectors found.nodes size in omega (arith, parts.few)
 
-  -- what stands does so in the version and with the mark that were found
+  -- what the base holds, it holds in the version and with the mark that were found
   told : (kept : Kept) → StandsOn found old.base kept → StandsIn found mark old.base kept
   told kept stands =
       let is = stands_told found.version mark found.sectors found.nodes old.base found.run kept found.sectors found.nodes found.run
@@ -254,7 +254,7 @@ module _ (found : Superblock) (mark : Option ℕ) (old : Log) (marked : IsMark f
 pub then_marked : (version : VersionNumber) (nodes : ℕ) (mark : Option ℕ) (told : Bool) → told ≡ is_marked version mark → is_some (moved_mark version nodes mark) ≡ told
 then_marked version nodes mark told is = still_marked version nodes mark ∙ sym is
 
--- where the volume has version 2 and no mark, a run begins by two writes and two syncs at most
+-- if the volume has version 2 and no mark, a run begins with at most two writes and two syncs
 pub start_brief : (version : VersionNumber) (mark : Option ℕ) (old moved raised new : Log) → version ≡ Two → mark ≡ None
     → moment moved.history ≤ moment old.history + 2 → moment raised.history ≤ moment moved.history + 2 → (is_marked version mark ≡ false → new ≡ raised)
     → moment new.history ≤ moment old.history + 4
@@ -264,9 +264,9 @@ start_brief Two None old moved raised new two none few more same =
     let is : moment new.history ≡ moment raised.history = ap (λ (log : Log). moment log.history) (same refl) in
     omega (arith, few, more, is)
 
--- Taking the mark away
+-- Removing the mark
 
--- where there is one no seat is kept
+-- if there is one, no seat is kept
 marked_bare : (mark : Option ℕ) (seats : Seats) → is_some mark ≡ true → MayHaveSeats Two mark seats → seats ≡ no_seats
 marked_bare None seats some may = absurd (cc)
 marked_bare (Some moved) seats some may = may

@@ -1,4 +1,4 @@
--- What a call does to a volume: said once, for each call of this crate and of those above it that
+-- What a call does to a volume, stated once for each call of this crate and of those above it that
 -- may change the tree.
 use Rattle.std.specs.Prelude.{ℕ, Bool, true, false, List, Result, Ok, Err, ◌≡◌, ◌≤◌, ◌⊎◌}
 use Rattle.std.specs.List.{IsAmong}
@@ -12,7 +12,7 @@ use Rattle.volume.specs.VolumeState.{VolumeState, IsSameVolume, IsRecent, AddsKe
 use Rattle.volume.specs.VolumeState.{kept_of, with_tree}
 use Rattle.volume.specs.Shown.{ShowsAs}
 
--- how a call ends: it answered, it left all as it was, or the device failed in it
+-- how a call ends: it succeeded, it left all as it was, or the device failed in it
 pub data Ending : Type 0 where
   Done : Ending
   Nothing : Ending
@@ -26,8 +26,8 @@ ending_of (Err fault.Device) = Broken
 ending_of (Err fault.Down) = Nothing
 
 -- What the definition says of a call: what is kept after it, a tree and the seats, and whether that
--- has to last. A change that may be lost until a later one, as an unstable write, is one that does
--- not.
+-- has to last. A change that may be lost until a later one, such as an unstable write, does not
+-- have to.
 abbrev pub Given : Type 1
 Given = (after : Kept) → (lasts : Bool) → Type 0
 
@@ -83,12 +83,12 @@ EndsAs keeps_word given old new before after Done = HasAnswered keeps_word given
 EndsAs keeps_word given old new before after Nothing = new ≡ old
 EndsAs keeps_word given old new before after Broken = HasBroken given old new before after
 
--- how often the device has failed stands before and after
+-- `failed_before` and `failed_after` are how often the device had failed before and after the call
 pub record VolumeChanges (keeps_word : Type 0) (given : Given) (old new : VolumeState)
     (failed_before failed_after : ℕ) (ending : Ending) : Type 0 where
   pub same : IsSameVolume old new
   pub later : failed_before ≤ failed_after
-  -- whatever failed in it is told
+  -- every failure in it is reported
   pub none : (ending ≡ Broken → ⊥) → failed_after ≡ failed_before
   -- at each moment of it a crash leaves something from before, or what is kept after it
   pub moments : keeps_word → (after : Kept) (lasts : Bool) → given after lasts

@@ -1,4 +1,4 @@
--- What a check of a volume says by its answer: what a mount finds, and nothing is written.
+-- What the result of a check of a volume says: what a mount would find, with nothing written.
 use Rattle.std.specs.Prelude.{ℕ, ⊤, List, Result, Ok, Err, ◌≡◌, ◌≢◌, ◌≤◌, IfOk, IfErr, IsErrOf}
 use Rattle.disk.specs.Cause.{IsCounted}
 use Rattle.disk.specs.Moments.{History, seen}
@@ -25,7 +25,7 @@ IsSeen sectors sector (Err mounts.Worn) = ⊥
 IsSeen sectors sector (Err mounts.Memory) = ⊥
 IsSeen sectors sector (Err mounts.Device) = ⊤
 
--- A tree and seats stand for what the device settles to, of these numbers of sectors and nodes, and
+-- What the device settles to holds a tree and seats, with these numbers of sectors and nodes and
 -- under this restart count, which may be full.
 pub record HasChecked (sectors : ℕ) (old : History) (checked : Checked) : Type 0 where
   pub first : first_verdict sectors old ≢ verdicts.NotVolume
@@ -33,8 +33,8 @@ pub record HasChecked (sectors : ℕ) (old : History) (checked : Checked) : Type
   pub kept : Kept
   pub stands : StandsFor sectors checked.nodes checked.count kept (seen old.now)
 
--- A check that is refused: no count is too full for it. Damaged comes after NotVolume, by the first
--- sector or by what follows it.
+-- A check that is refused: a full count does not matter to it. Damaged comes after NotVolume,
+-- because of the first sector or of what follows it.
 abbrev pub FailsCheck : (sectors : ℕ) → (old : History) → MountFault → Type 0
 FailsCheck sectors old mounts.NotVolume =
     (first_verdict sectors old ≡ verdicts.NotVolume) × NoTree sectors old
@@ -44,8 +44,8 @@ FailsCheck sectors old mounts.Worn = ⊥
 FailsCheck sectors old mounts.Memory = ⊤
 FailsCheck sectors old mounts.Device = ⊤
 
--- A check writes nothing, on any device. It never answers Worn, and Device exactly where a failure
--- was counted.
+-- A check writes nothing, on any device. It never returns Worn, and returns Device exactly if a
+-- failure was counted.
 pub record Checks {D : Type 0} (keeps_word : Type 0) (size failed : D → ℕ) (history : D → History)
     (old new : D) (result : Result Checked MountFault) : Type 0 where
   pub ok : keeps_word → IfOk result (HasChecked (size old) (history old))

@@ -19,11 +19,11 @@ use Rattle.volume.specs.VolumeState.{VolumeState, with_tree}
 abbrev pub edited_by : VolumeState → List Edit → Tree
 edited_by held edits = edited (edits_of edits) held.tree
 
--- the tree after the first of them, this many
+-- the tree after the first `count` of them
 abbrev pub front_of : VolumeState → List Edit → (count : ℕ) → Tree
 front_of held edits count = edited (take count (edits_of edits)) held.tree
 
--- the numbers that names are put for
+-- the node numbers of the names that edits put
 abbrev pub named_by : List Edit → List ℕ
 named_by [] = []
 named_by (edit.PutNode number kind shown ∷ edits) = named_by edits
@@ -34,7 +34,7 @@ named_by (edit.DropName directory stamp name ∷ edits) = named_by edits
 named_by (edit.PutBytes file offset bytes ∷ edits) = named_by edits
 named_by (edit.SetSize file size ∷ edits) = named_by edits
 
--- the number and the directory of the name that an edit puts, and of the first that edits do
+-- the number and the directory of the name that an edit puts, and of the first that edits put
 
 abbrev pub put_of : Edit → Option (ℕ × ℕ)
 put_of (edit.PutNode number kind shown) = None
@@ -70,13 +70,13 @@ HasPut tree (edit.SetSize file size ∷ edits) = HasPut tree edits
 abbrev pub IsAboveAll : VolumeState → (number : ℕ) → Type 0
 IsAboveAll held number = (other : ℕ) → IsTrue (is_key other held.tree) → other < number
 
--- What a change asks of its edits: there are few, each can be done in the tree that those before it
--- give, and the tree after all of them is well formed where it fits
+-- What a change requires of its edits: there are few, each can be done in the tree that those
+-- before it give, and the tree after all of them is well formed if it fits
 pub record IsChange (held : VolumeState) (edits : List Edit) : Type 0 where
   -- any eight are few, of which one puts 8,192 bytes or sets a size
   pub few : updates_of_all edits ≤ 46
   pub doable : AreDoable held.tree edits
-  -- one name is put at most; a node that is made has it, and a number above all others
+  -- at most one name is put; a node that is made has it, and a number above all others
   pub named : length (named_by edits) ≤ 1
   pub made : (made_by edits ≡ []) ⊎ (made_by edits ≡ named_by edits)
   pub fresh : (number : ℕ) → IsAmong (made_by edits) number → IsAboveAll held number

@@ -3,12 +3,12 @@ use Rattle.std.specs.Prelude.{◌≡◌, ◌<◌, ◌+◌, ◌++◌, ℕ, List, 
 use Rattle.disk.specs.Moments.{Image}
 use Rattle.layout.specs.CachedNodes.{byte_at}
 
--- the old bytes stand in front
+-- the new bytes begin with the old ones
 abbrev pub IsBytesFront : (old new : List ℕ) → Type 0
 IsBytesFront old new = take (length old) new ≡ old
 
--- After the old bytes stand so many more. Where the device keeps its word, which is `word` here,
--- they are the bytes of these blocks from a place on.
+-- `count` bytes follow the old ones. If the device keeps its word, which is `word` here, they are
+-- the bytes of these blocks from `offset` on.
 pub record Appends (word : Type 0) (image : Image) (blocks : List (Option ℕ)) (offset count : ℕ)
     (old new : List ℕ) : Type 0 where
   pub part : List ℕ

@@ -13,11 +13,11 @@ use Rattle.layout.specs.Stands.{TreeStands, current_version}
 use Rattle.model_tree.specs.Seats.Seats.{no_seats}
 use Rattle.model_tree.specs.Trees.Fresh.{fresh_tree}
 
--- the root at place 0, which alone of a new volume is not zero
+-- the root at place 0, the only place of a new volume that is not zero
 abbrev pub root_update : Update
 root_update = record { target = node_sector 0; content = inode_sector Two root_fields }
 
--- the new volume, of the current version: an empty root, which was never mounted
+-- the new volume, of the current version: it has an empty root and was never mounted
 abbrev pub IsFresh : (sectors nodes : ℕ) → Image → Type 0
 IsFresh sectors nodes image = ∥ ((base : Image) × Settles (in_front sectors) image base
     × TreeStands (current_version no_seats) sectors nodes base 0 fresh_tree) ∥₁

@@ -13,7 +13,7 @@ pub record IsOver (held : VolumeState) (log : Log) : Type 0 where
   pub history : held.history ≡ log.history
   pub fronts : held.fronts ≡ fronts_from log.base log.list
 
--- with these updates after its list the journal gives sectors that stand for this
+-- with these updates after its list, the journal gives sectors that hold this
 abbrev pub StandsUpdated : VolumeState → Log → List Update → (after : Kept) → Type 0
 StandsUpdated held log updates after = ∥ VolumeStands held.sectors held.limits.nodes
     (applied updates (applied_all log.list log.base)) held.run after ∥₁

@@ -19,7 +19,7 @@ pub record AreKnownNodes (sectors nodes : ℕ) (cards : List (Option CachedNode)
 abbrev pub kept_in_image : Image → List (Option CachedNode) → Kept
 kept_in_image image cards = record { tree = tree_of image cards; seats = seats_at image }
 
--- on a device that keeps its word, as long as it did not fail: the cached nodes are those of the
+-- on a device that keeps its word, while it has not failed: the cached nodes are those of the
 -- sectors, flushed or not, and what a crash leaves settles to the journal's base
 pub record IsServing (log : Log) (nodes run : ℕ) (cards : List (Option CachedNode)) : Type 0 where
   pub read : cards ≡ cards_in nodes (contents log)

@@ -15,7 +15,7 @@ use Rattle.volume.specs.Mounts.{StandsIn}
 use Rattle.volume.specs.Superblock.{superblock}
 use Rattle.volume.specs.declared.mount.Superblock.{Superblock}
 
--- the sectors begin with the first one that was found, and are bytes
+-- sector 0 is the first sector that was found, and all sectors are of bytes
 pub record HoldsVolume (found : Superblock) (size : ℕ) (image : Image) : Type 0 where
   pub first : image 0 ≡ superblock found.version found.sectors found.nodes found.run
   pub sectors : (n : ℕ) → n < size → IsSector (image n)
@@ -23,12 +23,12 @@ pub record HoldsVolume (found : Superblock) (size : ℕ) (image : Image) : Type 
 abbrev pub HoldsBase : Superblock → Log → Type 0
 HoldsBase found log = HoldsVolume found log.size log.base
 
--- what was read of an image
+-- what was read from an image
 abbrev pub read_as : Image → List (Option CachedNode) → Seats → Kept
 read_as image cards seats = record { tree = tree_of image cards; seats = seats }
 
--- The cached nodes are those of the sectors, as they are once each has form two, and their tree
--- stands there with the seats, in the version that was found and with this mark
+-- The cached nodes are those of the sectors, as they are once each has form two, and the sectors
+-- hold their tree with the seats, in the version that was found and with this mark
 pub record AreLoaded (keeps_word : Type 0) (found : Superblock) (image : Image)
     (mark : Option ℕ) (cards : List (Option CachedNode)) (seats : Seats) (places : List Bool)
     : Type 0 where
@@ -47,7 +47,7 @@ abbrev pub IsLoaded : (keeps_word : Type 0) → Superblock → Log → (mark : O
 IsLoaded keeps_word found log mark cards seats places =
     AreLoaded keeps_word found log.base mark cards seats places
 
--- the journal is as it was, but where the device failed it is down and counted that
+-- the journal is as it was, except that it is down if the device failed, and that was counted
 abbrev health : Log → (failures : ℕ) → Health
 health log failures = record { failed = failures; is_down = log.is_down }
 

@@ -1,4 +1,4 @@
--- What a mount says by its answer.
+-- What the result of a mount says.
 use Rattle.std.specs.Prelude.{ℕ, ⊤, ◌≡◌, ◌≤◌, ◌+◌, ◌^◌, ◌⊎◌}
 use Rattle.disk.specs.Calls.{zero_sector}
 use Rattle.disk.specs.Cause.{IsCounted}
@@ -26,21 +26,21 @@ abbrev pub NoTree : (sectors : ℕ) → History → Type 0
 NoTree sectors old =
     (nodes run : ℕ) (kept : Kept) → IsBase sectors nodes run kept (seen old.now) → ⊥
 
--- A volume of version 2 with no mark of a migration, through the commit record that stands: a mount
+-- A volume of version 2 that has no mark of a migration once its commit record is replayed: a mount
 -- of it moves no node
 pub record NeedsNoMigration (sectors : ℕ) (old : History) : Type 0 where
   pub version : version_in (seen old.now 0) ≡ numbers.Two
   pub unmarked : (base : Image) → Settles (in_front sectors) (seen old.now) base
       → base 147 ≡ zero_sector
 
--- A mount of such a volume makes at most 106 writes and syncs: the journal copies home what its
--- commit record names, up to 96 sectors, by at most 102, and the commit record and sector 0 are
--- written, with a sync after each.
+-- A mount of such a volume makes at most 106 writes and syncs: at most 102 by the journal, which
+-- copies home what its commit record names, up to 96 sectors; and the commit record and sector 0
+-- are written, with a sync after each.
 abbrev pub MountsBriefly : (sectors : ℕ) → (old new : History) → Type 0
 MountsBriefly sectors old new = NeedsNoMigration sectors old → moment new ≤ moment old + 106
 
--- A mount that serves: the first sector is sound, the tree that stood is served, and a crash leaves
--- it in the current version, under the new count
+-- A mount that serves: the first sector is sound, the tree that was there is served, and a crash
+-- leaves it in the current version, under the new count
 pub record HasMounted (sectors : ℕ) (old : History) (held : VolumeState) : Type 0 where
   pub first : first_verdict sectors old ≡ verdicts.Sound
   pub found : IsFound sectors old held
@@ -53,23 +53,23 @@ pub record HasMounted (sectors : ℕ) (old : History) (held : VolumeState) : Typ
   pub current : LeavesCurrent held
   pub holds : Holds held
 
--- The seats that a mount hands over: of sessions of the runs before this one, on any device; and
--- those of the volume where the device keeps its word
+-- The seats that a mount returns: on any device they are of sessions of the runs before this one,
+-- and they are those of the volume if the device keeps its word
 pub record FindsSeats (keeps_word : Type 0) (held : VolumeState) (seats : Seats) : Type 0 where
   pub count : ℕ
   pub counted : held.run ≡ count + 1
   pub of_runs : AreOfRuns count seats
   pub are : keeps_word → seats ≡ held.seats
 
--- Nothing but what a commit record that is set asks for: what it names is copied home, so that each
--- map left settles as the device did. Where the record has no form nothing is written.
+-- Nothing but the replay of a commit record that is set: what it names is copied home, so that each
+-- image left settles as the device did. If the record is not well formed, nothing is written.
 pub record OnlyReplays (sectors : ℕ) (old new : History) : Type 0 where
   pub moments : AddsOnly (SettlesAs (in_front sectors) (seen old.now)) old new
   pub formless : ((settled : Image) → Settles (in_front sectors) (seen old.now) settled → ⊥)
       → (new ≡ old) ⊎ (new ≡ synced old)
 
--- NotVolume and Worn come by the first sector alone, before Damaged; and where a tree stands, Worn
--- at a full count alone
+-- NotVolume and Worn depend only on the first sector, and come before Damaged. If there is a tree,
+-- Worn is returned only for a full count
 pub record IsNoVolume (sectors : ℕ) (old new : History) : Type 0 where
   pub first : first_verdict sectors old ≡ verdicts.NotVolume
   pub no_tree : NoTree sectors old
@@ -93,7 +93,7 @@ HasReason sectors old new mounts.Damaged = IsDamaged sectors old new
 HasReason sectors old new mounts.Memory = ⊤
 HasReason sectors old new mounts.Device = ⊤
 
--- A mount that is refused: what is kept stands as it stood, and its count is raised only where the
+-- A mount that is refused: what is kept remains as it was, and its count is raised only if the
 -- device failed
 pub record IsMountRefused (sectors : ℕ) (old new : History) (fault : MountFault) : Type 0 where
   pub moments : AddsMount sectors old new
@@ -101,8 +101,8 @@ pub record IsMountRefused (sectors : ℕ) (old new : History) (fault : MountFaul
   pub writes : (fault ≡ mounts.Device → ⊥) → OnlyReplays sectors old new
   pub reason : HasReason sectors old new fault
 
--- the device that comes back, of so many sectors and failures before: Device is answered exactly
--- where it counted one more
+-- the device that comes back, which had `sectors` sectors and `failures` failures before: the fault
+-- is Device exactly if it counted one
 pub record ComesBack {D : Type 0} (size failed : D → ℕ) (sectors failures : ℕ)
     (refused : Unmounted D) : Type 0 where
   pub same_size : size refused.device ≡ sectors
@@ -110,7 +110,7 @@ pub record ComesBack {D : Type 0} (size failed : D → ℕ) (sectors failures : 
   pub cause : refused.fault ≡ mounts.Device → IsCounted failures (failed refused.device)
   pub none : (refused.fault ≡ mounts.Device → ⊥) → failed refused.device ≡ failures
 
--- What a mount says after an `Ok`, and each layer above hands on: what it serves, and that its
+-- What a mount says after an `Ok`, and each layer above passes on: what it serves, and that its
 -- device has not failed
 pub record MountServes {D : Type 0} (keeps_word : Type 0) (size failed : D → ℕ)
     (history : D → History) (device : D) (held : VolumeState) (failures : ℕ) : Type 0 where

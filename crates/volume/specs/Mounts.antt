@@ -19,25 +19,25 @@ use Rattle.volume.specs.declared.fault.MountFault.TheVariants as mounts
 use Rattle.volume.specs.declared.mount.Superblock.{Superblock}
 use Rattle.volume.specs.declared.superblock.Verdict.TheVariants as verdicts
 
--- a volume by its first sector, whose count may be full
+-- a volume as its first sector describes it; its count may be full
 pub record HasSize (sectors : ℕ) (found : Superblock) : Type 0 where
   pub size : found.sectors ≡ sectors
   pub sized : IsTrue (is_size found.sectors found.nodes)
   pub counted : found.run < 2 ^ 32
 
--- a volume by its first sector: one more mount of it can be counted
+-- a volume as its first sector describes it, of which one more mount can be counted
 pub record IsVolumeOf (sectors : ℕ) (found : Superblock) : Type 0 where
   pub size : found.sectors ≡ sectors
   pub sized : IsTrue (is_size found.sectors found.nodes)
   pub counted : found.run + 1 < 2 ^ 32
 
--- a journal in which nothing waits, whose log is in front of what transactions write
+-- a journal with nothing left to flush, whose log is before the sectors that transactions write
 pub record IsAtRest (log : Log) : Type 0 where
   pub up : log.is_down ≡ false
   pub listed : log.list ≡ []
   pub placed : log.area ≡ in_front log.size
 
--- what the first sector says, by what a look at it answers
+-- what the first sector says, by the result of reading it
 abbrev pub IsTold : (sectors : ℕ) → (sector : List ℕ) → Result Superblock MountFault → Type 0
 IsTold sectors sector (Ok found) =
     (mount_verdict sectors sector ≡ verdicts.Sound)
@@ -48,28 +48,28 @@ IsTold sectors sector (Err mounts.Damaged) = mount_verdict sectors sector ≡ ve
 IsTold sectors sector (Err mounts.Memory) = ⊥
 IsTold sectors sector (Err mounts.Device) = ⊤
 
--- a tree and seats stand on this base, under the count that was found
+-- this base holds the tree and the seats, under the count that was found
 abbrev pub StandsOn : Superblock → (base : Image) → Kept → Type 0
 StandsOn found base kept = VolumeStands found.sectors found.nodes base found.run kept
 
--- a map stands for them, in the version and under the count that were found, or in the current
+-- an image represents them, in the version and under the count that were found, or in the current
 -- version and under the next count
 abbrev pub StandsForEither : Superblock → Kept → Image → Type 0
 StandsForEither found kept image =
     StandsForIn (number_of_version found.version) found.sectors found.nodes found.run kept image
     ⊎ StandsForIn served_version found.sectors found.nodes (found.run + 1) kept image
 
--- what a run that begins adds to what a crash may leave: what stands, under either count
+-- what a run that begins adds to what a crash may leave: what the base holds, under either count
 abbrev pub AddsRaised : Superblock → (base : Image) → (old new : History) → Type 0
 AddsRaised found base old new =
     (kept : Kept) → StandsOn found base kept → AddsOnly (StandsForEither found kept) old new
 
--- The nodes have form two: the version is 2, or the mark tells all places
+-- The nodes have form two: the version is 2, or the mark counts all places
 abbrev pub AllHaveMoved : VersionNumber → (nodes : ℕ) → (mark : Option ℕ) → Type 0
 AllHaveMoved numbers.One nodes mark = mark ≡ Some nodes
 AllHaveMoved numbers.Two nodes mark = IsMark numbers.Two nodes mark
 
--- a tree and seats stand on this base, in the version that was found, with this mark
+-- this base holds the tree and the seats, in the version that was found, with this mark
 pub record StandsIn (found : Superblock) (mark : Option ℕ) (base : Image) (kept : Kept)
     : Type 0 where
   pub may : MayHaveSeats found.version mark kept.seats
@@ -77,7 +77,7 @@ pub record StandsIn (found : Superblock) (mark : Option ℕ) (base : Image) (kep
   pub stands : layout.TreeStands (version_by found.version mark kept.seats)
       found.sectors found.nodes base found.run kept.tree
 
--- They stand in version 2, under the next count, with the cached nodes that there were but for
+-- The new base holds them in version 2, under the next count, with the same cached nodes except for
 -- their forms
 pub record IsRaisedTo (mark : Option ℕ) (found : Superblock) (kept : Kept) (old new : Image)
     : Type 0 where
@@ -106,7 +106,7 @@ pub record IsRaised (keeps_word : Type 0) (found : Superblock) (old new : Log) :
 abbrev pub NeedsNoMove : Superblock → (base : Image) → Type 0
 NeedsNoMove found base = (found.version ≡ numbers.Two) × (base 147 ≡ zero_sector)
 
--- then a run begins by two writes and two syncs at most
+-- then a run begins with at most two writes and two syncs
 abbrev pub BeginsBriefly : Superblock → (base : Image) → (old new : History) → Type 0
 BeginsBriefly found base old new = NeedsNoMove found base → moment new ≤ moment old + 4
 

@@ -1,4 +1,4 @@
--- What the cached node of a node shows of it: all but a file's bytes, of which it has the count.
+-- What the cached node of a node shows of it: all but a file's bytes, of which it has the number.
 use Rattle.std.specs.Prelude.{◌≡◌, ℕ, List, Some, length}
 use Rattle.directory.specs.Listing.{by_stamp}
 use Rattle.layout.specs.CachedNodes.{CachedNode}
@@ -7,7 +7,7 @@ use Rattle.model_tree.specs.declared.node.NodeKind.TheVariants as kind
 use Rattle.model_tree.specs.Trees.Keyed.{at}
 use Rattle.model_tree.specs.Trees.Tree.{Tree, Node, Content, File, Directory}
 
--- so many bytes
+-- a file of `size` bytes
 pub record IsFile (size : ℕ) (content : Content) : Type 0 where
   pub bytes : List ℕ
   pub file : content ≡ File bytes

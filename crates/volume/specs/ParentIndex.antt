@@ -1,4 +1,4 @@
--- In which directory the name of each node of a table stands.
+-- Which directory has the name of each node of a table.
 use Rattle.std.specs.Prelude.{◌≡◌, ◌<◌, ℕ, List, Option, Some, length, slice_index_or}
 use Rattle.model_tree.specs.Trees.Tree.{root}
 use Rattle.node_table.specs.Tables.{node_number_at}
@@ -10,14 +10,14 @@ use Rattle.tree_check.specs.Trees.{led_at}
 abbrev pub PlaceLeadsTo : List (Option CachedNode) → (place number : ℕ) → Type 0
 PlaceLeadsTo cards place number = 0 < times number (led_at cards place)
 
--- a name of the directory of one number leads to another one: it stands at this place
+-- a name in the directory of one number, which is at this place, leads to the other number
 pub record HasChild (cards : List (Option CachedNode)) (directory number : ℕ) : Type 0 where
   pub place : ℕ
   pub there : node_number_at cards place ≡ Some directory
   pub leads : PlaceLeadsTo cards place number
 
--- Numbers by place: at the place of a node that of the directory which has its name, and at the
--- root's 0, since no directory has a name of the root. At a free place it may be any.
+-- Numbers by place: at the place of a node, the number of the directory that has its name; and 0 at
+-- the place of the root, since no directory has a name of it. At a free place it may be any number.
 pub record AreParents (cards : List (Option CachedNode)) (parents : List ℕ) : Type 0 where
   pub count : length parents ≡ length cards
   pub named : (place number directory : ℕ) → node_number_at cards place ≡ Some number

@@ -1,11 +1,11 @@
--- Names of one directory after the other are noted at the places of what they lead to.
+-- The names of one directory after another are noted at the places of the nodes that they lead to.
 use Rattle.std.specs.Prelude.{◌≡◌, ◌<◌, ℕ, List, Option, Some, length, slice_index_or}
 use Rattle.node_table.specs.Tables.{node_number_at}
 use Rattle.layout.specs.CachedNodes.{CachedNode}
 use Rattle.layout.specs.Marks.{times}
 
--- the directory's number stands at the place of each node of one of these numbers, and at the
--- places of the others what stood there
+-- at the place of each node of one of these numbers is the directory's number, and at the places of
+-- the other nodes is what was there
 pub record IsNoted (cards : List (Option CachedNode)) (old new numbers : List ℕ) (directory : ℕ)
     : Type 0 where
   pub count : length new ≡ length old

@@ -3,7 +3,7 @@ use Rattle.std.specs.Prelude.{◌≡◌, ℕ, List, Option, Some, None, set}
 use Rattle.node_table.specs.Tables.{node_number_at}
 use Rattle.layout.specs.CachedNodes.{CachedNode}
 
--- the directory of a name that was put stands at the place of the name's number
+-- at the place of the number of a name that was put is the name's directory
 pub record PutsParent (cards : List (Option CachedNode)) (old new : List ℕ) (put : Option (ℕ × ℕ))
     : Type 0 where
   pub none : put ≡ None → new ≡ old

@@ -1,4 +1,4 @@
--- What a call does to a volume that only reads its sectors.
+-- What a call that only reads the sectors of a volume does to it.
 use Rattle.std.specs.Prelude.{◌≡◌, ℕ, Result, Ok, Err, Some}
 use Rattle.model_tree.specs.declared.node.NodeKind.TheVariants as kind
 use Rattle.model_tree.specs.Trees.Keyed.{at}
@@ -15,8 +15,8 @@ pub record HasFile (tree : Tree) (number : ℕ) : Type 0 where
   pub there : at number tree ≡ Some node
   pub file : kind_of node.content ≡ kind.File
 
--- It leaves all as it was, also where it answers: what waits for a flush waits still. Only a device
--- that fails in it is another one.
+-- It leaves all as it was, even if it succeeds: what waits for a flush still waits. Only a failure
+-- of the device changes the volume.
 abbrev pub ending_of_reading : {T : Type 0} → Result T VolumeFault → Ending
 ending_of_reading (Ok done) = Nothing
 ending_of_reading (Err fault.NoSpace) = Nothing

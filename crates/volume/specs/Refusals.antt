@@ -1,4 +1,4 @@
--- How a refusal of a layer below is answered.
+-- The fault that is returned for a refusal of a layer below.
 use Rattle.node_table.specs.declared.fault.TableFault.{TableFault}
 use Rattle.node_table.specs.declared.fault.TableFault.TheVariants as tables
 use Rattle.tree_transaction.specs.declared.fault.TransactionFault.{TransactionFault}
@@ -43,7 +43,7 @@ abbrev pub table_fault : TableFault → MountFault
 table_fault tables.SameNumber = mounts.Damaged
 table_fault tables.Memory = mounts.Memory
 
--- Full never comes where each front of a change has room
+-- Full never comes if each prefix of a change has room
 abbrev pub transaction_fault : TransactionFault → VolumeFault
 transaction_fault transactions.Device = faults.Device
 transaction_fault transactions.Memory = faults.Memory

@@ -5,7 +5,7 @@ use Rattle.model_tree.specs.Trees.Keyed.{total}
 use Rattle.volume.specs.VolumeState.{VolumeState}
 use Rattle.volume.specs.declared.room.Room.{Room}
 
--- with what its nodes are charged, and with their count, it comes to what `fits` compares these to
+-- added to what its nodes are charged, and to their count, it gives what `fits` compares these to
 pub record IsLeftOf (held : VolumeState) (room : Room) : Type 0 where
   pub sectors : room.sectors + total charge held.tree ≡ held.limits.data_sectors
   pub nodes : room.nodes + length held.tree ≡ held.limits.nodes

@@ -8,13 +8,13 @@ use Rattle.model_tree.specs.Seats.SeatEdits.{SeatEdit, CanEditAll, edited_all}
 use Rattle.model_tree.specs.Seats.Seats.{Seats}
 use Rattle.seats.specs.Spelling.{ArePlaces}
 
--- where seats stood that can be edited so, the edited ones stand, and they can be spelled
+-- an image that held the seats holds the edited ones after the updates, and those can be encoded
 pub record LaysEditedSeats (edits : List SeatEdit) (updates : List Update) (seats : Seats)
     (image : Image) : Type 0 where
   pub places : ArePlaces (edited_all edits seats)
   pub lays : HoldSeats image seats → HoldSeats (applied updates image) (edited_all edits seats)
 
--- A transaction of the seats' sectors alone
+-- A transaction of only the seats' sectors
 pub record AreUpdates (edits : List SeatEdit) (updates : List Update) : Type 0 where
   pub few : length updates ≤ 45
   pub targets_are : (size : ℕ) → 148 ≤ size → AreTargets size (targets updates)

@@ -6,7 +6,7 @@ use Rattle.model_tree.specs.Seats.SeatEdits.{SeatEdit, Stays, Frees, Takes, Hold
 use Rattle.model_tree.specs.Seats.Seats.{HeldReply, Seat}
 use Rattle.seats.specs.Spelling.{part_of, seat_sector, slot_text}
 
--- so many sectors, from the first one on
+-- `count` sectors, from the first one on
 unfoldable pub row : (first count : ℕ) → (ℕ → List ℕ) → List Update
 row first count content =
     map (λ k. record { target = first + k; content = content k }) (range_with_len 0 count)

@@ -1,5 +1,5 @@
--- What a volume shows of its tree: all but the bytes of its files. What is asked of it without its
--- device is answered by that.
+-- What a volume shows of its tree: all but the bytes of its files. What it returns without its
+-- device depends only on that.
 use Rattle.std.specs.Prelude.{◌≡◌, ℕ, List, None}
 use Rattle.tree_edits.specs.Outlines.{without_data}
 use Rattle.layout.specs.CachedNodes.{CachedNode}
@@ -15,7 +15,7 @@ use Rattle.volume.specs.Nodes.{IsNodeOf}
 abbrev pub ShowsAs : Tree → Tree → Type 0
 ShowsAs tree shown = without_data shown ≡ without_data tree
 
--- the calls of a volume answer the same of both
+-- the calls of a volume return the same for both
 pub record AnswerAlike (tree shown : Tree) : Type 0 where
   pub node : (number : ℕ) (card : CachedNode) → IsNodeOf tree number card
       → IsNodeOf shown number card

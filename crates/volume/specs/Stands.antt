@@ -1,4 +1,4 @@
--- For what a map stands that a crash leaves: what the journal makes of it is the volume.
+-- What an image that a crash leaves represents: what the journal makes of it is the volume.
 use Rattle.std.specs.Prelude.{ℕ, ◌≡◌}
 use Rattle.disk.specs.Moments.{Image}
 use Rattle.journal.specs.Layout.{in_front}
@@ -9,13 +9,13 @@ use Rattle.layout.specs.Stands.{Kept, StandsAs}
 abbrev pub VolumeStands : (sectors nodes : ℕ) → Image → (run : ℕ) → Kept → Type 0
 VolumeStands sectors nodes image run kept = StandsAs sectors nodes image run kept
 
--- what a map settles to, and for what that stands
+-- what an image settles to, and what that holds
 pub record IsBase (sectors nodes run : ℕ) (kept : Kept) (image : Image) : Type 0 where
   pub base : Image
   pub settles : Settles (in_front sectors) image base
   pub stands : VolumeStands sectors nodes base run kept
 
--- A map that a crash left stands for this tree and these seats.
+-- An image that a crash left represents this tree and these seats.
 abbrev pub StandsFor : (sectors nodes run : ℕ) → Kept → Image → Type 0
 StandsFor sectors nodes run kept image = ∥ IsBase sectors nodes run kept image ∥₁
 
@@ -24,7 +24,7 @@ abbrev pub StandsForIn : (number sectors nodes run : ℕ) → Kept → Image →
 StandsForIn number sectors nodes run kept image =
     ∥ ((is : IsBase sectors nodes run kept image) × (is.stands.version.number ≡ number)) ∥₁
 
--- The law: it stands for one tree with its seats, of one number of nodes, and of one restart count
+-- The law: an image represents one tree with its seats, one number of nodes and one restart count
 pub record IsOne (nodes run other_nodes other_run : ℕ) (kept other : Kept) : Type 0 where
   pub kept_is : kept ≡ other
   pub nodes_are : nodes ≡ other_nodes

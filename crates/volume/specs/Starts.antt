@@ -17,38 +17,39 @@ use Rattle.volume.specs.Mounts.{AddsRaised, IsAtRest, StandsIn}
 use Rattle.volume.specs.Stands.{StandsForIn}
 use Rattle.volume.specs.declared.mount.Superblock.{Superblock}
 
--- how often the device has failed, before and after: once more exactly where it failed here
+-- how often the device has failed, before and after: a failure is counted exactly if it failed here
 pub record Counts (before after : ℕ) (faulted : Type 0) : Type 0 where
   pub later : before ≤ after
   pub cause : faulted → IsCounted before after
   pub none : (faulted → ⊥) → after ≡ before
 
--- the mark once the nodes have moved: in version 1 it tells all places
+-- the mark once the nodes have moved: in version 1 it counts all places
 abbrev pub moved_mark : VersionNumber → (nodes : ℕ) → Option ℕ → Option ℕ
 moved_mark One nodes mark = Some nodes
 moved_mark Two nodes mark = mark
 
--- whether one stands then
+-- whether there is a mark then
 abbrev pub is_marked : VersionNumber → Option ℕ → Bool
 is_marked One mark = true
 is_marked Two None = false
 is_marked Two (Some moved) = true
 
--- what stood stands so, with the cached nodes that there were but for their forms
+-- the new image holds what is kept, with the mark after the move and the same cached nodes except
+-- for their forms
 pub record HasMovedTo (found : Superblock) (mark : Option ℕ) (kept : Kept) (old new : Image)
     : Type 0 where
   pub stands : StandsIn found (moved_mark found.version found.nodes mark) new kept
   pub cards : all_second (cards_in found.nodes new) ≡ all_second (cards_in found.nodes old)
 
--- The commit record was written again as it is, with a sync: the log is as it was but for two more
--- steps of its history
+-- The commit record was written again as it is, with a sync: the log is as it was, except that its
+-- history has two more steps
 pub record HasRewritten (keeps_word : Type 0) (old new : Log) : Type 0 where
   pub rests : IsAtRest new
   pub only : keeps_word → new ≡ record old { history = new.history }
   pub cost : keeps_word → Costs 2 old new
 
--- The commit record is written again and the nodes move, and what stands with this mark does so at
--- each moment
+-- The commit record is written again and the nodes move. At each moment the volume holds what it
+-- held with this mark
 pub record MovesNodes (keeps_word : Type 0) (found : Superblock) (mark : Option ℕ) (old new : Log)
     (result : Result (Unit {0}) MigrationFault) : Type 0 where
   pub size : new.size ≡ old.size
@@ -62,7 +63,7 @@ pub record MovesNodes (keeps_word : Type 0) (found : Superblock) (mark : Option 
   pub stands : keeps_word → OnOk result ((kept : Kept) → StandsIn found mark old.base kept
       → HasMovedTo found mark kept old.base new.base)
 
--- what a volume of version 2 keeps, with this mark
+-- a volume of version 2 with this mark holds this tree and these seats
 pub record StandsInSecond (mark : Option ℕ) (size nodes run : ℕ) (base : Image) (kept : Kept)
     : Type 0 where
   pub marked : IsMark Two nodes mark
@@ -70,12 +71,12 @@ pub record StandsInSecond (mark : Option ℕ) (size nodes run : ℕ) (base : Ima
   pub keeps : AreKept run kept.seats
   pub stands : layout.TreeStands (version_2 mark kept.seats) size nodes base run kept.tree
 
--- it stands in the current version, with the cached nodes that there were but for their forms
+-- it is held in the current version, with the same cached nodes except for their forms
 pub record IsCleared (nodes run : ℕ) (kept : Kept) (old new : Log) : Type 0 where
   pub stands : StandsNow old.size nodes new.base run kept
   pub cards : all_second (cards_in nodes new.base) ≡ all_second (cards_in nodes old.base)
 
--- The mark, if there is one, is taken away, and what is kept stands at each moment
+-- The mark, if there is one, is removed, and the volume holds what is kept at each moment
 pub record Clears (keeps_word : Type 0) (marked : Bool) (old new : Log)
     (result : Result (Unit {0}) JournalFault) : Type 0 where
   pub size : new.size ≡ old.size
@@ -89,15 +90,15 @@ pub record Clears (keeps_word : Type 0) (marked : Bool) (old new : Log)
       → is_some mark ≡ marked → StandsInSecond mark old.size nodes run old.base kept
       → IsCleared nodes run kept old new)
 
--- The run has begun: these cached nodes are those of the sectors, and their tree stands with the
+-- The run has begun: these cached nodes are those of the sectors, which hold their tree with the
 -- seats in the current version, under the next count
 pub record ServesFrom (found : Superblock) (cards : List (Option CachedNode)) (seats : Seats)
     (old new : Image) : Type 0 where
   pub read : cards ≡ cards_in found.nodes new
   pub stands : StandsNow found.sectors found.nodes new (found.run + 1) (read_as old cards seats)
 
--- However it ends: what stands does so at each moment, under either count. Where nothing moves it
--- writes the commit record and sector 0 at most, with a sync after each.
+-- However it ends, the volume holds at each moment what it held before, under either count. If
+-- nothing moves, it writes at most the commit record and sector 0, with a sync after each.
 pub record StartsSafely (found : Superblock) (mark : Option ℕ) (old new : Log) : Type 0 where
   pub moments : AddsRaised found old.base old.history new.history
   pub brief : found.version ≡ Two → mark ≡ None → moment new.history ≤ moment old.history + 4

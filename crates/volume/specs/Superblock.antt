@@ -19,11 +19,11 @@ superblock version sectors nodes run =
 unfoldable pub word : (i : ℕ) → List ℕ → ℕ
 word i sector = from_be_bytes w32 (drop i sector)
 
--- the version that a first sector tells
+-- the version that a first sector gives
 abbrev pub version_in : List ℕ → VersionNumber
 version_in sector = if word 8 sector == 1 then One else Two
 
--- the restart count from which no mount can go on
+-- the restart count at which no further mount is possible
 abbrev pub last_run : ℕ
 last_run = 2 ^ 32 - 1
 

@@ -32,7 +32,7 @@ volume_state volume =
 unfoldable pub volume_failures : {D : _} {g : _} → Volume D g → ℕ
 volume_failures volume = journal_failures volume.store.journal
 
--- what a call makes of it, and of how often its device has failed
+-- what a call does to it, and to how often its device has failed
 abbrev pub AltersVolume : {D : _} {g : _} → (old new : Volume D g) → Given → Ending → Type 0
 AltersVolume {D} {g} old new given ending =
     VolumeChanges g.keeps_word given (volume_state old) (volume_state new)

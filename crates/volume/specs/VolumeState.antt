@@ -1,4 +1,4 @@
--- What contracts see of a volume. Where things stand on the device stays below.
+-- What contracts see of a volume. The layers below hide where things are on the device.
 use Rattle.std.specs.Prelude.{ℕ, Bool, false, List, [], ◌∷◌, ◌≡◌, ◌≤◌, ◌+◌, ◌⊎◌}
 use Rattle.std.specs.List.{IsAmong}
 use Rattle.disk.specs.declared.update.Update.{Update}
@@ -27,10 +27,10 @@ pub record VolumeState : Type 0 where
   pub is_down : Bool
   pub sectors : ℕ
   pub history : History
-  -- what the sectors give with the flushed changes, and after each change that is not flushed yet
+  -- the sectors with the flushed changes, and after each change that is not flushed yet
   pub fronts : List Image
 
--- the same seats beside another tree
+-- the same seats with another tree
 abbrev pub with_tree : VolumeState → Tree → Kept
 with_tree held tree = record { tree = tree; seats = held.seats }
 
@@ -51,18 +51,18 @@ pub record IsSameVolume (old new : VolumeState) : Type 0 where
   pub limits : new.limits ≡ old.limits
   pub run : new.run ≡ old.run
 
--- the map stands for one of these, in this run of the volume
+-- the image represents one of these, in this run of the volume
 abbrev pub StandsForOne : VolumeState → (Kept → Type 0) → Image → Type 0
 StandsForOne held may image = (kept : Kept) × may kept
     × StandsFor held.sectors held.limits.nodes held.run kept image
 
--- each map that a crash leaves now stands for one of these
+-- each image that a crash leaves now represents one of these
 abbrev pub LeavesOne : VolumeState → List Kept → Type 0
 LeavesOne held recent =
     (image : Image) → Left held.history.now image → StandsForOne held (IsAmong recent) image
 
--- What a crash may leave, now and within a flush, each a tree with the seats beside it: what its
--- fronts stand for. What is in memory is among them.
+-- What a crash may leave, now or within a flush, as a list of trees with their seats: each of the
+-- fronts represents one of them, and what is in memory is among them.
 pub record IsRecent (held : VolumeState) (recent : List Kept) : Type 0 where
   pub leaves : LeavesOne held recent
   pub covers : (front : Image) → IsAmong held.fronts front
@@ -70,15 +70,15 @@ pub record IsRecent (held : VolumeState) (recent : List Kept) : Type 0 where
       × ∥ VolumeStands held.sectors held.limits.nodes front held.run kept ∥₁
   pub newest : IsAmong recent (kept_of held)
 
--- whatever a crash might leave before, it may leave now, and nothing else
+-- a list of all that a crash may leave before is such a list after
 abbrev pub KeepsRecent : (old new : VolumeState) → Type 0
 KeepsRecent old new = (recent : List Kept) → IsRecent old recent → IsRecent new recent
 
--- so many writes and syncs were done at most
+-- at most `count` writes and syncs were made
 abbrev pub MakesAtMost : ℕ → (old new : VolumeState) → Type 0
 MakesAtMost count old new = moment new.history ≤ moment old.history + count
 
--- each map that a crash leaves is a volume of the current version, with what is kept
+-- each image that a crash leaves is a volume of the current version that holds what is kept
 abbrev pub LeavesCurrent : VolumeState → Type 0
 LeavesCurrent held = (image : Image) → Left held.history.now image
     → ∥ ((base : Image) × Settles (in_front held.sectors) image base
@@ -91,8 +91,8 @@ Holds held = IsRecent held (kept_of held ∷ [])
 abbrev pub MayAdd : (recent : List Kept) → (after : Kept) → Kept → Type 0
 MayAdd recent after kept = IsAmong recent kept ⊎ (kept ≡ after)
 
--- at every moment since, a map left is one left before, or stands for what might be left before or
--- for what is kept after the change
+-- at every moment since, an image that a crash leaves is one that it might leave before, or
+-- represents what it might leave before or what is kept after the change
 abbrev pub AddsKept : VolumeState → (after : Kept) → History → Type 0
 AddsKept held after new = (recent : List Kept) → IsRecent held recent
     → AddsOnly (StandsForOne held (MayAdd recent after)) held.history new

@@ -12,7 +12,7 @@ use crate::parents::Parents;
 use model_tree::node::ROOT;
 use node_table::Table;
 
-/// The number of the directory that has a node's name: 0 of the root, and of what is no node's
+/// The number of the directory that has a node's name: 0 for the root, and for what is no node's
 /// number.
 pub(crate) fn parent_of(table: &Table, parents: &Parents, number: u64) -> u64
     requires cards { (nodes : ℕ) × (mark : ℕ → ℕ) × AreCards nodes mark table.now }
@@ -26,8 +26,8 @@ pub(crate) fn parent_of(table: &Table, parents: &Parents, number: u64) -> u64
     }
 }
 
-/// Whether a node is the upper one or stands below it: what a rename asks, which moves no directory
-/// below itself. At most as many steps up as there are nodes, with a search by number for each.
+/// Whether a node is the upper one or below it, which a rename needs to know, since it moves no
+/// directory below itself. At most one step up per node, with a search by number for each.
 pub(crate) fn is_below(table: &Table, parents: &Parents, upper: u64, number: u64) -> bool
     requires cards { (nodes : ℕ) × (mark : ℕ → ℕ) × AreCards nodes mark table.now }
     requires tree { ∥ IsOneTree table.now ∥₁ }

@@ -14,14 +14,14 @@ use layout::sectors::Sectors;
 use node_table::CachedNode;
 use std::alloc::AllocError;
 
-/// How many bytes of a file stand from `offset` on, of which `len` are wanted.
+/// How many bytes of a file there are from `offset` on, but at most `len`.
 fn count_from(size: u64, offset: u64, len: usize) -> usize
     ensures { result ≡ min len (size - offset) }
 {
     size.saturating_sub(offset).min(len as u64) as usize
 }
 
-/// The sector of a block; none where it is a hole, or past the last block.
+/// The sector of a block; `None` if it is a hole, or past the last block.
 fn sector_of(blocks: &BlockList, block: u64) -> Option<u32>
     ensures { result ≡ slice_index_or blocks.now block None }
 {
@@ -31,7 +31,7 @@ fn sector_of(blocks: &BlockList, block: u64) -> Option<u32>
     blocks.at(block as u32)
 }
 
-/// Appends so many bytes of a sector, from one on.
+/// Appends `count` bytes of a sector, from byte `from` on.
 fn append_part(
     content: &[u8; SECTOR],
     from: usize,
@@ -47,7 +47,7 @@ fn append_part(
     out.extend_from_slice(&content[from..from + count])
 }
 
-/// Appends so many bytes of a block, from one on.
+/// Appends `count` bytes of a block, from byte `from` on.
 fn read_block<S: Sectors>(
     base: &mut S,
     blocks: &BlockList,
@@ -77,7 +77,7 @@ fn read_block<S: Sectors>(
     Ok(())
 }
 
-/// Appends so many bytes of blocks, from one on. An `Err` may leave some of them.
+/// Appends `count` bytes of blocks, from byte `offset` on. An `Err` may leave some of them.
 fn read_blocks<S: Sectors>(
     base: &mut S,
     blocks: &BlockList,
@@ -107,14 +107,13 @@ fn read_blocks<S: Sectors>(
     Ok(())
 }
 
-/// Appends to `out` the bytes of a file from `offset` on: `len` of them, or as many as there are up
-/// to its end. A hole reads as zeros, without a read of the device. The steps are those of the
-/// blocks that the bytes stand in, however long the file is.
+/// Appends to `out` the bytes of a file from `offset` on: `len` of them, or fewer if the file ends
+/// before. A hole reads as zeros, without a read of the device. The number of steps depends only on
+/// the blocks that have these bytes, however long the file is.
 ///
 /// # Errors
 ///
-/// [`ReadingFault::Device`] where the device failed, and [`ReadingFault::Memory`]: `out` is as it
-/// was.
+/// [`ReadingFault::Device`] if the device failed, and [`ReadingFault::Memory`]: `out` is as it was.
 pub(crate) fn read_bytes<S: Sectors>(
     base: &mut S,
     cached: &CachedNode,

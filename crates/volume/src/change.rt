@@ -34,10 +34,10 @@ impl<D: Device> Volume<D> {
     ghost use Rattle.volume.specs.Views.{volume_state, AltersVolume};
     ghost use Rattle.volume.specs.VolumeState.{MakesAtMost};
 
-    /// Whether the tree after edits has room: what [`Volume::change`] asks first. Each must be one
-    /// whose room can be told in the tree that those before it give: it need not be possible, and a
-    /// new node or name may have the number 0 for one that is not known yet. It is answered where
-    /// the volume is down too, as [`Volume::node`] is.
+    /// Whether the tree fits after edits, which [`Volume::change`] checks first. The room that each
+    /// edit takes must be known from the tree that those before it give: the edit need not be
+    /// possible, and a new node or name may have the number 0 for one that is not known yet. It
+    /// also works while the volume is down, as [`Volume::node`] does.
     pub fn fits(&self, edits: &[Edit<'_>]) -> bool
         requires { AreMeasurable (volume_state self.now).tree edits.now }
         ensures { result ≡ fits (volume_state self.now).limits
@@ -51,9 +51,9 @@ impl<D: Device> Volume<D> {
     ///
     /// # Errors
     ///
-    /// [`VolumeFault::Down`], then [`VolumeFault::NoSpace`] exactly where the tree after all of
-    /// the edits would not fit; [`VolumeFault::Memory`]; [`VolumeFault::Device`] where the device
-    /// failed. None of them changes what is shown of the tree.
+    /// [`VolumeFault::Down`], then [`VolumeFault::NoSpace`] exactly if the tree after all of the
+    /// edits would not fit; [`VolumeFault::Memory`]; [`VolumeFault::Device`] if the device failed.
+    /// None of them changes what is shown of the tree.
     pub fn change(&mut self, edits: &[Edit<'_>]) -> Result<(), VolumeFault>
         requires { IsChange (volume_state self.old) edits.now }
         ensures volume { AltersVolume self.old self.new
@@ -78,11 +78,11 @@ impl<D: Device> Volume<D> {
     }
 
     /// Changes the tree as [`Volume::change`] does, by edits after which the tree fits: it does not
-    /// ask [`Volume::fits`] again.
+    /// call [`Volume::fits`] again.
     ///
     /// # Errors
     ///
-    /// Those of [`Volume::change`] but [`VolumeFault::NoSpace`].
+    /// Those of [`Volume::change`] except [`VolumeFault::NoSpace`].
     pub fn change_fitting(&mut self, edits: &[Edit<'_>]) -> Result<(), VolumeFault>
         requires change { IsChange (volume_state self.old) edits.now }
         requires fitting { IsTrue (fits (volume_state self.old).limits

@@ -1,4 +1,4 @@
-//! Whether a tree stands on a volume, told without a mount.
+//! Whether a volume holds a tree, found out without a mount.
 
 ghost use Rattle.volume.specs.Checks.{Checks};
 
@@ -10,7 +10,7 @@ use disk::Device;
 use journal::Journal;
 use std::alloc::Global;
 
-/// A volume on which a tree stands.
+/// A volume that holds a tree.
 #[derive(Clone, Copy, Debug, PartialEq, Eq)]
 pub struct Checked {
     /// How many sectors it has.
@@ -21,13 +21,13 @@ pub struct Checked {
     pub count: u32,
 }
 
-/// Reads what a mount would find, through a commit record that stands, and writes nothing: whether
-/// a tree stands there. A full restart count is told as any other.
+/// Reads what a mount would find, through the commit record if it is set, and writes nothing:
+/// whether there is a tree. A full restart count is returned like any other.
 ///
 /// # Errors
 ///
-/// NotVolume, by the first sector, as a mount; then Damaged exactly where no tree stands; Device
-/// where the device failed, and Memory; never Worn.
+/// NotVolume, because of the first sector, as for a mount; then Damaged exactly if there is no
+/// tree; Device if the device failed, and Memory; never Worn.
 #[tactic(auto, unfolding(journal::specs::Views::view_of, journal::specs::Views::view_failures, journal::specs::Views::name_of))]
 pub fn check<D: Device>(alloc: Global, device: &mut D) -> Result<Checked, MountFault>
     ensures { Checks D.keeps_word D.size D.failed D.history device.old device.new result }

@@ -31,7 +31,7 @@ pub enum MountFault {
     /// be raised.
     #[error("Device")]
     Device,
-    /// A volume, but no tree stands there.
+    /// A volume, but it holds no tree.
     #[error("Damaged")]
     Damaged,
     /// No volume of version 1 or 2 and of the device's size.

@@ -28,13 +28,13 @@ impl<D: Device> Volume<D> {
     ghost use Rattle.volume.specs.Reading.{HasFile, ending_of_reading};
     ghost use Rattle.volume.specs.Views.{volume_state, AltersVolume};
 
-    /// Appends to `out` the bytes of a file from `offset` on: `len` of them, or as many as there
-    /// are up to its end.
+    /// Appends to `out` the bytes of a file from `offset` on: `len` of them, or fewer if the file
+    /// ends before.
     ///
     /// # Errors
     ///
-    /// [`VolumeFault::Device`] where the device failed, [`VolumeFault::Down`] after such a call,
-    /// and [`VolumeFault::Memory`]: `out` is as it was.
+    /// [`VolumeFault::Device`] if the device failed, [`VolumeFault::Down`] after such a call, and
+    /// [`VolumeFault::Memory`]: `out` is as it was.
     pub fn bytes(
         &mut self,
         number: u64,

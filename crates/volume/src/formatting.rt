@@ -57,14 +57,14 @@ fn fresh_update(alloc: Global) -> Result<Update, AllocError>
     })
 }
 
-/// Makes the device a new volume of this many nodes, with an empty root. First its sector 0 is
-/// zeros, then all other sectors are as in the new volume, then sector 0 is: a crash leaves what
-/// was there, no volume, or the new one.
+/// Makes the device a new volume of `nodes` nodes, with an empty root. First its sector 0 becomes
+/// zeros, then all other sectors become those of the new volume, then sector 0 does: a crash leaves
+/// what was there, no volume, or the new one.
 ///
 /// # Errors
 ///
-/// Size where no volume has this many sectors and nodes, and Memory: nothing was written. Device
-/// where the device failed.
+/// Size if no volume has this many sectors and nodes, and Memory: nothing was written. Device if
+/// the device failed.
 pub fn format<D: Device>(alloc: Global, device: &mut D, nodes: u32) -> Result<(), FormatFault>
     ensures moments { D.keeps_word → AddsFresh (D.size device.old) nodes
         (D.history device.old) (D.history device.new) }

@@ -8,7 +8,7 @@ ghost use Rattle.volume.specs.Shown.{AnswersByShown};
 ghost use Rattle.volume.specs.Stands.{OneStands};
 ghost use Rattle.volume.specs.Superblock.{superblock, version_in, word};
 
-/// The first sector of a volume tells its version, its nodes and its restart count.
+/// The first sector of a volume gives its version, its number of nodes and its restart count.
 #[tactic(auto, using(crate::proofs::FirstLaws::version_back, crate::proofs::FirstLaws::word_nodes, crate::proofs::FirstLaws::word_run))]
 pub fn superblock_tells()
     ensures version { (version : VersionNumber) (sectors nodes run : ℕ)
@@ -19,23 +19,23 @@ pub fn superblock_tells()
         → word 20 (superblock version sectors nodes run) ≡ run }
 {}
 
-/// A map that a crash left stands for one tree with its seats, of a volume with one number of nodes
-/// and one restart count.
+/// An image that a crash left represents one tree with its seats, of a volume with one number of
+/// nodes and one restart count.
 #[tactic(auto, using(crate::proofs::OneTree::one_stands))]
 pub fn one_stands()
     ensures { OneStands }
 {}
 
 /// However often a volume is mounted, with power on or after a crash, and wherever those mounts end
-/// or crash: a tree that a crash might have left still stands, and the next mount that serves
-/// has it, under a greater restart count.
+/// or crash: a tree that a crash might have left is still there, and the next mount that serves has
+/// it, under a greater restart count.
 pub fn every_remount()
     ensures next { EveryRemount }
     ensures stands { StillStands }
 {}
 
-/// What a volume answers without its device: the same of two trees that differ in the bytes of
-/// files alone.
+/// What a volume returns without its device: the same for two trees that differ only in the bytes
+/// of files.
 #[tactic(auto, using(crate::proofs::ShownLaws::answers_by_shown))]
 pub fn answers_by_shown()
     ensures { AnswersByShown }

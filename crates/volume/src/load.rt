@@ -30,7 +30,7 @@ use volume_load::read_volume;
 /// they name, and their parents.
 #[derive(Drop)]
 pub(crate) struct Loaded {
-    /// How far a migration came, as its mark tells.
+    /// How far a migration got, by its mark.
     pub(crate) mark: Option<u32>,
     /// The seats of persistent sessions.
     pub(crate) seats: Seats,
@@ -62,8 +62,8 @@ fn all_second(
     Ok(second)
 }
 
-/// Reads the nodes of a volume that was found, whatever keeps its sectors: Damaged exactly where no
-/// tree stands.
+/// Reads the nodes of a volume that was found, whatever keeps its sectors: Damaged exactly if there
+/// is no tree.
 pub(crate) fn read_nodes<S: Sectors>(
     alloc: Global,
     sectors: &mut S,

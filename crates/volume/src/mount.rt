@@ -25,7 +25,7 @@ pub(crate) struct Superblock {
     pub(crate) run: u32,
 }
 
-/// Reads the first sector of a device, which is no volume where it has too few sectors for one.
+/// Reads the first sector of a device, which is no volume if it has too few sectors for one.
 fn read_first<D: Device>(device: &mut D) -> Result<[u8; SECTOR], MountFault>
     ensures first { D.keeps_word
         → IfOk result (λ first. first ≡ seen (D.history device.old).now 0) }
@@ -127,8 +127,8 @@ pub(crate) fn read_superblock<D: Device>(device: &mut D) -> Result<Superblock, M
     })
 }
 
-/// Raises the restart count of a volume whose nodes have form two, and says that it has the current
-/// version: one write of its first sector.
+/// Raises the restart count of a volume whose nodes have form two, and sets its version to the
+/// current one: one write of its first sector.
 pub(crate) fn raise<D: Device>(
     journal: &mut Journal<D>,
     found: Superblock,

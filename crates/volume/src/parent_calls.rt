@@ -1,4 +1,4 @@
-//! Parents and ancestors: what LOOKUPP and a rename ask.
+//! Parents and ancestors, for LOOKUPP and renames.
 
 ghost use Rattle.std.specs.Prelude.{◌≡◌, length};
 ghost use Rattle.volume.specs.Edits.{put_by, put_of};
@@ -37,7 +37,7 @@ pub(crate) fn put_by(edits: &[Edit<'_>]) -> Option<(u64, u64)>
     None
 }
 
-/// Puts the directory of a name that was put at the place of the name's number. Takes no memory.
+/// Notes the directory of a name that was put at the place of the name's number. Needs no memory.
 pub(crate) fn put_parent(parents: &mut Parents, table: &Table, put: Option<(u64, u64)>)
     requires { length parents.old ≡ length table.now }
     ensures { PutsParent table.now parents.old parents.new put }
@@ -55,17 +55,16 @@ impl<D: Device> Volume<D> {
     ghost use Rattle.model_tree.specs.Trees.Ancestors.{is_below, parent_of};
     ghost use Rattle.volume.specs.Views.{volume_state};
 
-    /// The number of the directory that has a node's name: 0 of the root, and of a number that no
-    /// node has. It is answered where the volume is down too, as [`Volume::node`] is.
+    /// The number of the directory that has a node's name: 0 for the root, and for a number that no
+    /// node has. It also works while the volume is down, as [`Volume::node`] does.
     pub fn parent(&self, number: u64) -> u64
         ensures { result ≡ parent_of (volume_state self.now).tree number }
     {
         parent_of(&self.table, &self.parents, number)
     }
 
-    /// Whether a node is the upper one or stands below it, which a rename moves no directory to. At
-    /// most as many steps as there are nodes. It is answered where the volume is down too, as
-    /// [`Volume::node`] is.
+    /// Whether a node is the upper one or below it, to which a rename moves no directory. At most
+    /// one step per node. It also works while the volume is down, as [`Volume::node`] does.
     pub fn is_below(&self, upper: u64, number: u64) -> bool
         ensures { result ≡ is_below (volume_state self.now).tree upper number }
     {

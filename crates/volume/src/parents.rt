@@ -13,7 +13,7 @@ use std::alloc::{AllocError, Global};
 use std::marker::Model;
 
 /// The parent of each node of a volume, by the place of the node: 8 bytes a place. Contracts see
-/// the list of the numbers; 0 stands for none.
+/// the list of the numbers; 0 means none.
 #[derive(Drop)]
 pub struct Parents {
     numbers: Vec<u64>,
@@ -28,12 +28,12 @@ impl Model for Parents {
 }
 
 impl Parents {
-    /// The parents of a table's nodes: a step for each place, and for each name as many as it takes
-    /// to find its node.
+    /// The parents of a table's nodes: a step for each place, and for each name the steps that it
+    /// takes to find its node.
     ///
     /// # Errors
     ///
-    /// `AllocError` where there is no memory for a number a place.
+    /// `AllocError` if there is no memory for a number for each place.
     pub fn from_table(alloc: Global, table: &Table) -> Result<Parents, AllocError>
         requires tree { IsOneTree table.now }
         requires apart { HaveOwnPlaces table.now }
@@ -48,7 +48,7 @@ impl Parents {
         Ok(Parents { numbers })
     }
 
-    /// The number of the directory that has the name of the node at a place: 0 of the root.
+    /// The number of the directory that has the name of the node at a place: 0 for the root.
     pub fn parent(&self, place: u32) -> u64
         ensures { result ≡ slice_index_or self.now place 0 }
     {
@@ -58,7 +58,7 @@ impl Parents {
         }
     }
 
-    /// The name of the node at a place stands in this directory now. Takes no memory.
+    /// The name of the node at a place is in this directory now. Needs no memory.
     pub fn put(&mut self, place: u32, parent: u64)
         requires { place < length self.old }
         ensures { self.new ≡ set self.old place parent }

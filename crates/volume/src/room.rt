@@ -8,7 +8,7 @@ use disk::Device;
 pub struct Room {
     /// Sectors of 4,096 bytes that no node is charged for. A hole of a file is charged like a block.
     pub sectors: u64,
-    /// Nodes that there may be beside those that there are.
+    /// Nodes that may be added to those that there are.
     pub nodes: u64,
 }
 

@@ -21,7 +21,7 @@ impl<D: Device> Volume<D> {
     /// # Errors
     ///
     /// [`VolumeFault::Down`]; [`VolumeFault::Memory`], and nothing changed; [`VolumeFault::Device`]
-    /// where the device failed.
+    /// if the device failed.
     pub fn change_seats(&mut self, edits: &SeatEdits) -> Result<(), VolumeFault>
         requires { D.keeps_word → AreEdits (volume_state self.old).run (edits_view edits.now)
             (volume_state self.old).seats }

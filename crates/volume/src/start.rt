@@ -65,7 +65,7 @@ fn move_nodes<D: Device>(
     }
 }
 
-/// Whether a mark stands once the nodes have form two.
+/// Whether there is a mark once the nodes have form two.
 fn is_marked(version: VersionNumber, mark: Option<u32>) -> bool
     ensures { result ≡ is_marked version mark }
 {
@@ -75,7 +75,7 @@ fn is_marked(version: VersionNumber, mark: Option<u32>) -> bool
     }
 }
 
-/// Takes the mark of a migration away, where there is one.
+/// Removes the mark of a migration, if there is one.
 fn unmark<D: Device>(
     journal: &mut Journal<D>,
     is_marked: bool,
@@ -98,13 +98,13 @@ fn unmark<D: Device>(
     clear(journal, updates)
 }
 
-/// Begins a run on a volume whose nodes were read: the commit record is written again, one of
-/// version 1 is migrated, the restart count is raised with the version, and the mark is taken away.
-/// Its memory is taken before it writes.
+/// Begins a run on a volume whose nodes were read: writes the commit record again, migrates one of
+/// version 1, raises the restart count with the version, and removes the mark. It allocates its
+/// memory before it writes.
 ///
 /// # Errors
 ///
-/// Memory, and then nothing was written; Device where the device failed.
+/// Memory, and then nothing was written; Device if the device failed.
 pub(crate) fn start<D: Device>(
     alloc: Global,
     journal: &mut Journal<D>,

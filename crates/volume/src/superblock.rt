@@ -34,7 +34,7 @@ pub enum Verdict {
     NotVolume,
     /// The restart count is full.
     Worn,
-    /// After the fields stands another byte than zero.
+    /// After the fields there is a byte that is not zero.
     Damaged,
     /// A volume that can be mounted.
     Sound,
@@ -112,7 +112,7 @@ fn has_header(sectors: u32, sector: &[u8; SECTOR]) -> bool
         && is_volume_size(sectors, nodes_of(sector))
 }
 
-/// Whether a sector tells of version 1 or 2.
+/// Whether a sector gives version 1 or 2.
 #[tactic(auto, unfolding(crate::specs::Superblock::word))]
 fn has_version(sector: &[u8; SECTOR]) -> bool
     ensures { result ≡ (word 8 sector.now == 1 || word 8 sector.now == 2) }

@@ -30,9 +30,9 @@ use std::num::NonZeroUsize;
 
 /// A mounted volume.
 ///
-/// Everything but the bytes of files is in memory: what is asked of nodes and names touches no
-/// device. So it is answered on a volume that is down too, by the tree before the call in which the
-/// device failed or by the one after it.
+/// Everything except the bytes of files is in memory, so questions about nodes and names do not
+/// touch the device. They also work on a volume that is down, with the tree before the call in
+/// which the device failed or the one after it.
 #[derive(Drop)]
 pub struct Volume<D: Device> {
     pub(crate) alloc: Global,
@@ -88,8 +88,8 @@ impl<D: Device> Volume<D> {
 
     /// Mounts the volume: finds it by its first sector, replays the log, reads its nodes and seats,
     /// writes the commit record again, migrates one of version 1, and raises the restart count.
-    /// Every map that a crash leaves from then on has the new count, which is this mount's run. Its
-    /// journal keeps 64 sectors in memory.
+    /// Every image that a crash leaves from then on has the new count, which is this mount's run.
+    /// Its journal keeps 64 sectors in memory.
     ///
     /// # Errors
     ///
@@ -103,7 +103,7 @@ impl<D: Device> Volume<D> {
         Ok(volume)
     }
 
-    /// The same, with a journal that keeps so many sectors in memory.
+    /// The same, with a journal that keeps `cached` sectors in memory.
     ///
     /// # Errors
     ///
@@ -121,12 +121,12 @@ impl<D: Device> Volume<D> {
         Ok(volume)
     }
 
-    /// The same, and the seats that the volume keeps, which were read before its count was raised.
+    /// The same, with the seats that the volume keeps, which were read before its count was raised.
     ///
     /// # Errors
     ///
-    /// The device comes back with the reason. NotVolume, then Worn, by the first sector, and then
-    /// nothing was written; then Damaged exactly where no tree stands; Device where the device
+    /// The device comes back with the reason. NotVolume, then Worn, because of the first sector,
+    /// and then nothing was written; then Damaged exactly if there is no tree; Device if the device
     /// failed, and Memory.
     pub fn mount_seated(
         alloc: Global,
@@ -155,7 +155,7 @@ impl<D: Device> Volume<D> {
         }
     }
 
-    /// Begins a run on a journal in which nothing waits.
+    /// Begins a run on a journal that has nothing left to flush.
     fn begin(
         alloc: Global,
         journal: Journal<D>,
@@ -217,7 +217,7 @@ impl<D: Device> Volume<D> {
         self.run
     }
 
-    /// The device, as it is now. What stands on it is the next mount's.
+    /// The device, as it is now. What is on it is for the next mount.
     pub fn into_device(self) -> D
         ensures history { D.history result ≡ (volume_state self).history }
         ensures size { D.size result ≡ (volume_state self).sectors }
@@ -235,7 +235,7 @@ impl<D: Device> Volume<D> {
         self.store.journal.device()
     }
 
-    /// The limits of the volume. They stay as they are, also where it is down.
+    /// The limits of the volume. They never change, even if it is down.
     pub fn limits(&self) -> &Limits
         ensures limits { result.now ≡ (volume_state self.now).limits }
         ensures sized { result.now
@@ -251,7 +251,7 @@ impl<D: Device> Volume<D> {
         self.store.journal.is_down()
     }
 
-    /// The node of this number: all of it but the bytes of a file. Where the volume is down, that
+    /// The node of this number: all of it except the bytes of a file. If the volume is down, that
     /// of the tree before the call that failed or after it.
     pub fn node(&self, number: u64) -> Option<&CachedNode>
         ensures some { IfSome result
@@ -268,8 +268,7 @@ impl<D: Device> Volume<D> {
     ///
     /// # Errors
     ///
-    /// [`VolumeFault::Device`] where the device failed, and [`VolumeFault::Down`] after such a
-    /// call.
+    /// [`VolumeFault::Device`] if the device failed, and [`VolumeFault::Down`] after such a call.
     pub fn flush(&mut self) -> Result<(), VolumeFault>
         ensures volume { AltersVolume self.old self.new
             (IsTree (volume_state self.old) (volume_state self.old).tree) (ending_of result) }
@@ -287,8 +286,8 @@ impl<D: Device> Volume<D> {
     }
 
     /// Makes a checkpoint: copies home what the journal's commit record names, and clears it. The
-    /// next change that is kept waits for two syncs, and not for four. The tree stays, and so does
-    /// what a crash may leave.
+    /// next change that is kept then waits for two syncs instead of four. The tree stays, and so
+    /// does what a crash may leave.
     ///
     /// # Errors
     ///

@@ -17,7 +17,7 @@ use Rattle.fs.proofs.CachedNodeViews.{granted_by, names_are}
 use Rattle.fs.proofs.fs.Fs.permit_list.Goals as goal
 use Rattle.model.specs.Operations.SetAttr.{asks_lists}
 
--- where lists are asked and that of an entry may not be read, the last of the tests refuses
+-- if lists are asked for and that of an entry may not be read, the last of the tests refuses
 unreadable : (tree : Tree) (cred : Cred) (number : ℕ) (asked : ReadDirArguments) → is_key number tree ≡ true → is_directory_at tree number ≡ true
     → granted_on (at number tree) cred read_data ≡ true → (not (asked.cookie == 0) && not (bytes_eq asked.verifier (replicate 8 0))) ≡ false
     → (asks_lists asked.bitmap && not (asks_errors asked.bitmap)) ≡ true → may_read_lists tree cred number asked.cookie ≡ false
