@@ -19,7 +19,7 @@ const PAGE_BYTES: u32 = 512;
 /// A call that is measured.
 #[derive(Clone, Copy)]
 pub enum Call {
-    /// WRITE over the last 8,192 bytes of a file, kept before the answer or not.
+    /// WRITE over the last 8,192 bytes of a file, kept before the call returns or not.
     Write { file: SizedFile, is_stable: bool },
     /// READ of the last 8,192 bytes of a file.
     Read(SizedFile),
@@ -146,7 +146,7 @@ impl Calls {
     }
 }
 
-/// Where the last 8,192 bytes of a file begin.
+/// The offset of the last 8,192 bytes of a file.
 fn last_offset(file: SizedFile) -> u64 {
     file.bytes.saturating_sub(TRANSFER_BYTES as u64)
 }

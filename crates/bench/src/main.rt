@@ -10,7 +10,7 @@ mod work;
 use std::process::ExitCode;
 use std::{env, io};
 
-/// The exit status where the words have no form.
+/// The exit status if the words have no form.
 const USAGE: u8 = 2;
 
 fn main(rt: HostRuntime) -> ExitCode {

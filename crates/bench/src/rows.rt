@@ -8,7 +8,7 @@ ghost use Rattle.disk.specs.Moments.{at_rest};
 use disk::{Device, DiskFault, FileDevice, SECTOR};
 use std::alloc::{AllocError, Global};
 
-/// Where the sectors stand.
+/// Where the sectors are stored.
 #[derive(Drop)]
 enum Store {
     Memory(Vec<[u8; SECTOR]>),
@@ -24,7 +24,7 @@ pub struct Rows {
 }
 
 impl Rows {
-    /// So many sectors of zeros in memory.
+    /// `sectors` sectors of zeros in memory.
     pub fn new(alloc: Global, sectors: u32) -> Result<Rows, AllocError>
         ensures size { IfOk result (λ device. device.sectors ≡ sectors) }
     {
@@ -35,7 +35,7 @@ impl Rows {
         })
     }
 
-    /// Those of a file.
+    /// The sectors of a file.
     pub fn over(file: FileDevice) -> Rows {
         Rows {
             sectors: file.sectors(),
@@ -88,7 +88,7 @@ impl Rows {
     }
 }
 
-/// Whether there is such a row, which is copied then.
+/// Whether there is such a row, which is then copied.
 fn copy_row(rows: &[[u8; SECTOR]], n: u32, content: &mut [u8; SECTOR]) -> bool {
     match rows.get(n as usize) {
         Some(row) => {
@@ -99,7 +99,7 @@ fn copy_row(rows: &[[u8; SECTOR]], n: u32, content: &mut [u8; SECTOR]) -> bool {
     }
 }
 
-/// Whether there is such a row, which has this content then.
+/// Whether there is such a row, which then has this content.
 fn set_row(rows: &mut [[u8; SECTOR]], n: u32, content: &[u8; SECTOR]) -> bool {
     match rows.get_mut(n as usize) {
         Some(row) => {

@@ -1,4 +1,4 @@
-//! A volume that is measured, and what stands on it.
+//! A volume that is measured, and what is on it.
 
 ghost use Rattle.std.specs.Prelude.{◌≤◌, length};
 
@@ -13,7 +13,7 @@ pub const TRANSFER_BYTES: usize = 8_192;
 /// The files of the directory with few of them.
 const FEW_FILES: u32 = 4;
 
-/// The moment of every change.
+/// The time of every change.
 pub const NOW: u64 = 5;
 /// The attribute mode, and its value 755.
 const MODE: [u32; 2] = [0, 2];
@@ -22,7 +22,7 @@ const MODE_755: [u8; 4] = [0, 0, 1, 0xED];
 /// The root.
 const ROOT: u64 = 1;
 
-/// A volume, and what stands on it beside the directory with few files.
+/// A volume, and what is on it beside the directory with few files.
 #[derive(Clone, Copy)]
 pub struct Shape {
     pub sectors: u32,
@@ -120,7 +120,7 @@ fn make_directory(fs: &mut Fs<Rows>, parent: u64, name: &[u8]) -> Result<u64, Fs
     Ok(fs.make_dir(&caller(), NOW, asked, true)?.number)
 }
 
-/// Makes a file of no bytes, kept before the answer.
+/// Makes a file of no bytes, kept before the call returns.
 pub fn make_file(fs: &mut Fs<Rows>, directory: u64, name: &[u8]) -> Result<u64, FsFault> {
     let asked = Opening {
         directory,
@@ -136,7 +136,7 @@ pub fn make_file(fs: &mut Fs<Rows>, directory: u64, name: &[u8]) -> Result<u64, 
     Ok(fs.open_file(&caller(), NOW, asked, false, room)?.number)
 }
 
-/// Writes these bytes, kept before the answer or not.
+/// Writes these bytes, kept before the call returns or not.
 pub fn write(
     fs: &mut Fs<Rows>,
     number: u64,
@@ -153,7 +153,7 @@ pub fn write(
     Ok(())
 }
 
-/// Makes a directory of the root with so many files.
+/// Makes a directory of the root with `files` files.
 fn fill(fs: &mut Fs<Rows>, name: u32, files: u32, bytes: &[u8]) -> Result<Directory, FsFault> {
     let number = make_directory(fs, ROOT, &name_of(name))?;
     let mut last_file = number;
@@ -168,7 +168,7 @@ fn fill(fs: &mut Fs<Rows>, name: u32, files: u32, bytes: &[u8]) -> Result<Direct
     })
 }
 
-/// Makes so many directories, and answers the last.
+/// Makes the directories of a shape, and returns the last.
 fn fill_many(fs: &mut Fs<Rows>, shape: Shape, bytes: &[u8]) -> Result<Option<Directory>, FsFault> {
     let mut last = None;
     for i in 0..shape.directories {
@@ -178,7 +178,7 @@ fn fill_many(fs: &mut Fs<Rows>, shape: Shape, bytes: &[u8]) -> Result<Option<Dir
     Ok(last)
 }
 
-/// Makes a file of the root of so many transfers, if it is to have any.
+/// Makes a file of the root of `transfers` transfers, if it is to have any.
 fn fill_long(
     fs: &mut Fs<Rows>,
     transfers: u32,

@@ -3,7 +3,7 @@
 use std::fmt;
 use std::time::{Clock, Duration, Instant};
 
-/// What is asked of work.
+/// What work is asked for.
 #[derive(Clone, Copy)]
 pub enum Measure {
     /// How many things one turn does.
@@ -23,13 +23,13 @@ impl fmt::Display for Measure {
 
 /// Work of which a turn is done again and again.
 pub trait Work {
-    /// Does one turn, and answers how many things it did.
+    /// Does one turn, and returns how many things it did.
     fn turn(&mut self) -> anyhow::Result<u64>;
 }
 
 /// Work that is undone, so that it can be done again.
 pub trait Undone: Work {
-    /// Undoes the turn before, and answers how many things that took.
+    /// Undoes the turn before, and returns how many things that took.
     fn undo(&mut self) -> anyhow::Result<u64>;
 }
 
@@ -69,7 +69,7 @@ fn best_rate<R: Clock, W: Work>(rt: &R, work: &mut W) -> anyhow::Result<u64> {
     Ok(best)
 }
 
-/// The best round of each counts.
+/// The best rate of doing and the best of undoing, over all rounds.
 fn best_rates<R: Clock, W: Undone>(rt: &R, work: &mut W) -> anyhow::Result<(u64, u64)> {
     let mut best = (0, 0);
     for _ in 0..ROUNDS {
@@ -121,7 +121,7 @@ fn round_rate<R: Clock, W: Work>(rt: &R, work: &mut W) -> anyhow::Result<u64> {
     Ok(rate(done, start.elapsed(rt)?))
 }
 
-/// So many things in this time are how many a second.
+/// How many things a second this is.
 fn rate(done: u64, time: Duration) -> u64 {
     let nanoseconds = u64::try_from(time.as_nanos()).unwrap_or(u64::MAX);
     done.saturating_mul(1_000_000_000) / nanoseconds.max(1)

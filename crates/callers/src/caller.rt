@@ -18,7 +18,7 @@ use wire::{Argument, Outcome};
 /// The number of a client's first record.
 const FIRST_XID: u32 = 1;
 
-/// The moment of each turn and each end of a caller's connection.
+/// The time of each turn and of each end of a caller's connection.
 const MOMENT: u64 = 0;
 
 /// A caller.
@@ -35,7 +35,7 @@ pub struct Caller<S> {
 pub struct Results<'a> {
     /// In their order.
     pub done: Vec<Outcome<'a>>,
-    /// None where all ended well.
+    /// None if all ended well.
     pub refusal: Option<Status>,
 }
 
@@ -97,8 +97,8 @@ impl<S: Read + Write + Drop> Caller<S> {
     /// Sends the record of these arguments.
     ///
     /// # Errors
-    /// Script without a connection; Pending where a reply is to come; Io where a socket fails;
-    /// Closed, Device and Memory as the server answers them.
+    /// Script without a connection; Pending if a reply is to come; Io if a socket fails; Closed,
+    /// Device and Memory as the server returns them.
     pub fn ask<D: Device>(
         &mut self,
         server: &mut Server<D>,
@@ -117,7 +117,7 @@ impl<S: Read + Write + Drop> Caller<S> {
     /// Sends the last record again, over this connection, which is the caller's from now on.
     ///
     /// # Errors
-    /// Pending where there is no record; else those of `ask`.
+    /// Pending if there is no record; else those of `ask`.
     pub fn ask_again<D: Device>(
         &mut self,
         server: &mut Server<D>,
@@ -157,8 +157,8 @@ impl<S: Read + Write + Drop> Caller<S> {
     /// Runs turns until the reply is there, and takes it.
     ///
     /// # Errors
-    /// Script where no reply is to come; Garbled where a turn finds nothing to do before it is
-    /// there; else those of `turn`.
+    /// Script if no reply is to come; Garbled if a turn finds nothing to do before it is there;
+    /// else those of `turn`.
     pub fn await_reply<D: Device>(
         &mut self,
         server: &mut Server<D>,
@@ -198,8 +198,7 @@ impl<S: Read + Write + Drop> Caller<S> {
     /// The results in the reply to its record.
     ///
     /// # Errors
-    /// Garbled where the bytes are no reply to it; Rpc where the call was denied or not accepted;
-    /// Memory.
+    /// Garbled if the bytes are no reply to it; Rpc if the call was denied or not accepted; Memory.
     pub fn read_reply<'a>(&mut self, reply: &'a [u8]) -> Result<Results<'a>, ScriptFault> {
         match self.client.reply(reply) {
             Ok(done) => Ok(Results {

@@ -11,9 +11,9 @@ use thiserror::Error;
 /// Why a script stops. It prints the name.
 #[derive(Clone, Copy, Debug, Error)]
 pub enum ScriptFault {
-    /// A line of the script has no form, or lacks what it speaks of.
+    /// A line of the script has no form, or names something that is not there.
     Script,
-    /// The server answered another status than OK.
+    /// The server returned another status than OK.
     Status,
     /// The server denied a call, or did not accept it.
     Rpc,
@@ -21,7 +21,7 @@ pub enum ScriptFault {
     Pending,
     /// The server's bytes are no reply to what was sent.
     Garbled,
-    /// What any program can fail by.
+    /// What any program can fail with.
     Refused(#[from] Refused),
 }
 

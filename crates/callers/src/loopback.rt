@@ -32,7 +32,7 @@ pub struct Connection<S> {
 /// Connects a caller to the server.
 ///
 /// # Errors
-/// Io where a socket fails; Full, Device and Memory as the server answers them.
+/// Io if a socket fails; Full, Device and Memory as the server returns them.
 pub fn connect<R, D>(rt: &R, server: &mut Server<D>) -> Result<Connection<R::Stream>, ScriptFault>
 where
     R: Net + AllocGlobal,
@@ -102,7 +102,7 @@ impl<S: Read + Write + Drop> Connection<S> {
         Ok(())
     }
 
-    /// Hands the server what came to its end. Whether it took all.
+    /// Hands the server what came to its end. Returns whether it took all.
     fn offer<D: Device>(&mut self, server: &mut Server<D>) -> Result<bool, ScriptFault> {
         if !self.arrived.is_empty() {
             let taken = link::feed(server, self.number, &self.arrived)?;
@@ -129,7 +129,7 @@ impl<S: Read + Write + Drop> Connection<S> {
     }
 }
 
-/// The bytes after the first so many.
+/// The bytes after the first `taken` ones.
 fn rest_of(alloc: Global, bytes: &[u8], taken: usize) -> Result<Vec<u8>, AllocError> {
     Vec::from_slice(alloc, bytes.get(taken..).unwrap_or_default())
 }

@@ -1,5 +1,5 @@
--- A change on a world is that on its file system: for each operation on the tree whose answer's length does not depend on what
--- it finds.
+-- A change on a world is that on its file system: for each operation on the tree whose result has a
+-- length that does not depend on what the operation finds.
 use Rattle.std.proofs.Common.{◌≡◌, ◌≤◌, ◌<◌, ◌^◌, ℕ, Bool, true, false, if◌then◌else◌, List, ◌++◌, length, nat_le, Option, Some, None, Err, IfOk, IsErrOf, refl, sym, ap, subst, ◌∙◌, arith}
 use Rattle.layout.specs.Stands.{Kept}
 use Rattle.fs.specs.Changes.{FsChanges, fs_ending}
@@ -35,7 +35,7 @@ use Rattle.compound.proofs.Trees.{here, tree_runs}
 use Rattle.compound.proofs.VolumeLaws.{refusal_changes}
 use Rattle.compound.proofs.Creating.{below}
 
--- with every answer of its the reply has this room
+-- it succeeds, and this is whether the reply has room for its answer
 abbrev pub HasThisRoom : InProgress → Bool → Stepped → Type 0
 HasThisRoom request room stepped =
     (answer : Answer) × (stepped.outcome ≡ Done answer) × (room ≡ nat_le (length (reply_with request (Done answer))) 16368)
@@ -76,7 +76,7 @@ ran_by_first None world request state kind after answer done room =
     ∙ ap (λ (o : Outcome). stepped world request (record { outcome = o; state = after.state })) (sym done)
 ran_by_first (Some reason) world request state kind after answer done room = refl
 
--- answers of one length
+-- results of the same length
 pub same_room : (request : InProgress) (answer other : Answer) (room : Bool)
     → length (outcome_text (Done answer)) ≡ length (outcome_text (Done other))
     → room ≡ nat_le (length (reply_with request (Done answer))) 16368 → room ≡ nat_le (length (reply_with request (Done other))) 16368
@@ -218,7 +218,7 @@ is_up now fs state kind fault.Down up bad step = gone fs.volume.is_down up step
     gone : (is_down : Bool) → is_down ≡ false → is_down ≡ true → ⊥
     gone is_down is other = cc
 
--- a refusal is spelled, and sends nothing again
+-- a refusal is encoded, and sends nothing again
 
 refusal_spelled : (request : InProgress) (operation : ℕ) (reason : Status) → operation < 2 ^ 32 → IsRefusal reason → HasResult request (refusal operation reason)
 refusal_spelled request operation reason fits bad = record {

@@ -63,7 +63,7 @@ made_short request before after was_set room = below _ 16368 (made_room request 
 pub up_or_down : (is_down : Bool) → is_down ≡ false → is_down ≡ true → ⊥
 up_or_down is_down up down = cc
 
--- Where it is made
+-- If it is made
 
 module _ (now : ℕ) (fs : FileSystem) (table : Table) (opens : Opens) (request : InProgress) (name : List ℕ) (given : Attributes) where
   pub made_runs : (new : FileSystem) (made : Created)

@@ -1,4 +1,5 @@
--- An operation that comes only first in a COMPOUND is read as no later one, and each that is read is served.
+-- An operation that comes only first in a COMPOUND is never read as a later one, and each one that
+-- is read is served.
 use Rattle.std.proofs.Common.{◌≡◌, ℕ, true, List, refl, sym, ◌∙◌}
 use Rattle.model.specs.Operations.Operation.{Argument, operation_of}
 use Rattle.model.specs.Server.World.{InProgress, Reads, next_operation}

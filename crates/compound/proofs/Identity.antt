@@ -1,4 +1,4 @@
--- How long an answer of EXCHANGE_ID is.
+-- How long a result of EXCHANGE_ID is.
 use Rattle.std.proofs.Common.{ℕ, ◌+◌, ◌≤◌, length, arith}
 use Rattle.std.proofs.lemmas.List.{length-append}
 use Rattle.xdr.proofs.Sizes.{counted_length}

@@ -54,7 +54,7 @@ use Rattle.compound.proofs.Trees.{all_bad, append_bad, does_bad, here, is_on}
 use Rattle.volume.specs.VolumeState.{with_tree}
 use Rattle.compound.proofs.VolumeLaws.{operation_stays}
 
--- Each refusal has a status that refuses
+-- Each refusal has a status that is not OK
 
 early_bad : (limits : Limits) (state : State) (arguments : OpenArguments) (opening : Opening)
     → all_bad (opening_refusals opening ++ (share_refusals arguments ++ place_refusals limits state opening)) ≡ true
@@ -150,7 +150,7 @@ open_number opens asked = by_like (open_like opens asked) refl
         eqb-true entry.1.number asked.number
         (and_parts _ _ (and_parts _ _ (found_passes (is_like asked) opens.known entry is)).1).1
 
--- what is set depends on where it leads
+-- what is set depends on whether the file is there, and whether it is truncated
 set_is : (is_there is_cut : Bool) (of : OpenType)
     → (if is_there then (if is_cut then size_alone else []) else trimmed (given_by of).bitmap)
     ≡ set_by (if is_there then (if is_cut then effects.Cut else effects.Nothing) else effects.Made) of
@@ -164,7 +164,7 @@ quiet_ran : (world : World) (request : InProgress) (arguments : OpenArguments) (
 quiet_ran world request arguments (turns.Gives outcome after left) none = rw none refl
 quiet_ran world request arguments (turns.Replays reply session slot) none = refl
 
--- and leaves the file system alone
+-- and leaves the file system as it is
 pub open_still : {T : Type 0} (keeps_word : Type 0) (state : SharedState) (failed : ℕ) (request : InProgress) (now : ℕ) (arguments : OpenArguments) (result : Result T Fault)
     → state.files.volume.is_down ≡ false → ((one : State) → alters one (Argument.Open arguments) ≡ false) → ((reason : Fault) → result ≡ Err reason → reason ≡ faults.Memory)
     → FsChanges keeps_word (OperationGives state request now (Argument.Open arguments)) state.files state.files failed failed (ending result)

@@ -1,4 +1,4 @@
--- Pages, as the code spells them.
+-- Pages, as the code encodes them.
 use Rattle.std.proofs.Common.{◌≡◌, ℕ, List, [], ◌∷◌, ◌++◌, All, refl, sym, ap, ◌∙◌, append_assoc}
 use Rattle.std.specs.Int.{w32}
 use Rattle.std.specs.Prelude.{map}

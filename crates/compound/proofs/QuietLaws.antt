@@ -56,7 +56,7 @@ leaves_all keeps_word given old new before after same told =
       lets_wait = lets_nothing keeps_word given old new Nothing same (λ keeps done. absurd (nothing_done done));
     }
 
--- one that answered, and neither changed the volume nor, where the device keeps its word, has to last
+-- one that succeeded, neither changed the volume nor, if the device keeps its word, has to last
 pub answers_still : (keeps_word : Type 0) (given : Given) (old new : FileSystem) (before after : ℕ) → new ≡ old → after ≡ before → old.volume.is_down ≡ false
     → (keeps_word → (kept : Kept) (lasts : Bool) → given kept lasts → kept.seats ≡ old.volume.seats)
     → (keeps_word → (kept : Kept) (lasts : Bool) → given kept lasts → kept.seats ≡ old.volume.seats → lasts ≡ false)
@@ -104,13 +104,14 @@ answers_quietly keeps_word given old new before after same told up stays quiet =
 pub broken≢done : Broken ≡ Done → ⊥
 broken≢done is = cc
 
--- what a call left that did nothing
+-- what a call that did nothing left
 pub left_all : (keeps_word : Type 0) (given : Given) (old new : FileSystem) (before after : ℕ) → FsChanges keeps_word given old new before after Nothing → new ≡ old
 left_all keeps_word given old new before after changes =
     ap₂ (λ (held : VolumeState) (count : ℕ). let fs : FileSystem = record new { volume = held; changes = count } in fs) changes.volume_changes.ends (changes.no_count nothing_done)
     ∙ ap₂ (λ (defers waits : Bool). let fs : FileSystem = record old { defers = defers; waits = waits } in fs) changes.lets_wait.mode (changes.lets_wait.undone nothing_done)
 
--- What the definition says may be said otherwise where the device keeps its word, as long as its trees are the same on any device
+-- The definition may be given otherwise if the device keeps its word, as long as its trees are the
+-- same on any device
 module _ (keeps_word : Type 0) (given other : Given) (weaker : keeps_word → (after : Kept) (lasts : Bool) → other after lasts → given after lasts)
     (alike : (after : Kept) (lasts : Bool) → other after lasts → (kept : Kept) × (lasting : Bool) × given kept lasting × (kept.tree ≡ after.tree))
     (old new : FileSystem) (before after : ℕ) where

@@ -78,7 +78,7 @@ read_bad limits state now arguments reason is =
     (verdict_bad read_access state.opens state.context arguments.state) refl)
     refl is
 
--- Where there is no current filehandle
+-- If there is no current filehandle
 
 pub read_wants : (now : ℕ) (fs : FileSystem) (table : Table) (opens : Opens) (request : InProgress) (arguments : ReadArguments) → has_current request.context ≡ false
     → RunsTo now (shared fs table opens) (shared fs table opens) request request (Argument.Read arguments) (Refused 25 status.NoFileHandle)
@@ -104,7 +104,7 @@ module _ (now : ℕ) (fs : FileSystem) (opens : Opens) (request : InProgress) (a
       (λ world rest. read_on_tree arguments world (with_rest request rest) now)
       (λ world rest on. does_so (state_of world (with_rest request rest)) (here world fs table opens request rest on) on.opens)
 
-  -- Where it is not done
+  -- If it is not done
 
   some_state : State
   some_state = record { tree = fs.volume.tree; changes = fs.changes; opens = opens; context = request.context }
@@ -133,7 +133,7 @@ module _ (now : ℕ) (fs : FileSystem) (opens : Opens) (request : InProgress) (a
     told_reads T fault.Device step changes = tt
     told_reads T fault.Down step changes = tt
 
-    -- a call that left all as it was answers, or is refused for memory
+    -- a call that left all as it was succeeds, or is refused for memory
     pub read_quietly : (table : Table) → fs.volume.is_down ≡ false → FsChanges keeps_word (IsTree fs.volume fs.volume.tree) fs new before after Nothing
         → FsChanges keeps_word (OperationGives (shared fs table opens) request now (Argument.Read arguments)) fs new before after ended.Done
     read_quietly table up changes = answers_quietly keeps_word _ fs new before after (left_all keeps_word (IsTree fs.volume fs.volume.tree) fs new before after changes)

@@ -22,7 +22,7 @@ pub room_length : (request : InProgress) (outcome : Outcome)
     → length (reply_with request outcome) ≡ 32 + length (counted request.tag) + length request.results + length (outcome_text outcome)
 room_length request outcome = reply_length request.xid (status_of outcome) request.tag (request.answered + 1) request.results (outcome_text outcome)
 
--- round a result are the xid, the message type and four words
+-- around a result are the xid, the message type and four words
 pub success_length : (xid : ℕ) (result : List ℕ) → length (reply_text xid (Success result)) ≡ 24 + length result
 unfolding reply_text
 success_length xid result = simp (length-append, length-number_32) (omega arith)
@@ -45,7 +45,7 @@ result_within xid result bytes is =
 pub tag_brief : (tag : List ℕ) → length tag ≤ 255 → length (counted tag) ≤ 262
 tag_brief tag short = omega (arith, counted_length tag)
 
--- an OK result has room, and any other one passes it by a few bytes
+-- an OK result has room, and any other one exceeds it by a few bytes
 pub spelled_short : (request : InProgress) (outcome : Outcome) → IsSpelled request outcome
     → 32 + length (counted request.tag) + length request.results ≤ 16368
     → 32 + length (counted request.tag) + length request.results + length (outcome_text outcome) ≤ 16380

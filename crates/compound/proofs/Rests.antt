@@ -20,7 +20,7 @@ drop_rest bytes p front rest e =
     subst (λ (all : List ℕ). drop (length bytes - length rest) all ≡ rest) (sym whole)
     (drop_at (take p bytes ++ front) rest (length bytes - length rest) n)
 
--- arguments that are read, where no byte too many follows them
+-- arguments that are read, if no extra byte follows them
 pub by_read : (request : InProgress) (operation : ℕ) (given : Result (Argument × List ℕ) Refusal) (read : Argument) (behind rest : List ℕ)
     → given ≡ Ok (read, behind) → (is_last request && (not (looks_no_further read) && not (is_empty behind))) ≡ false → rest ≡ behind
     → by_arguments request operation given ≡ Reads read rest
@@ -28,7 +28,7 @@ by_read request operation given read behind rest is enough same =
     ap (by_arguments request operation) is
     ∙ (ap (λ (much : Bool). if much then Refuses operation status.BadXdr else Reads read behind) enough ∙ ap (Reads read) (sym same))
 
--- and where one does
+-- and if one does
 pub by_much : (request : InProgress) (operation : ℕ) (given : Result (Argument × List ℕ) Refusal) (read : Argument) (behind : List ℕ)
     → given ≡ Ok (read, behind) → (is_last request && (not (looks_no_further read) && not (is_empty behind))) ≡ true
     → by_arguments request operation given ≡ Refuses operation status.BadXdr

@@ -33,7 +33,7 @@ use Rattle.compound.proofs.Trees.{all_bad, append_bad, does_bad, here, is_on, va
 use Rattle.compound.proofs.VerdictLaws.{verdict_bad}
 use Rattle.volume.specs.VolumeState.{with_tree}
 
--- Each refusal has a status that refuses
+-- Each refusal has a status that is not OK
 
 size_bad : (is_sized : Bool) (state : State) (arguments : SetAttrArguments)
     → all_bad (if is_sized then (is_directory_at state.tree (current state), status.IsDir) ∷ state_refusals state.opens state.context write_access arguments.state else []) ≡ true

@@ -30,7 +30,7 @@ use Rattle.compound.proofs.VolumeLaws.{is_quiet, quiet_ran}
 
 -- Edits
 
--- where each place stays, they all do
+-- if each place stays, they all do
 pub all_stayed : (edits : List SeatEdit) (seats : Seats) → all_stay edits ≡ true → edited_all edits seats ≡ seats
 all_stayed [] seats stay = refl
 all_stayed (edit.Stays ∷ edits) [] stay = refl
@@ -127,7 +127,7 @@ stored_gives state now request last ended after lasting gives =
       ],
     )
 
--- where a slot keeps the reply, a seat holds it too
+-- if a slot keeps the reply, a seat holds it too
 pub kept_if_some : (slot : Option (List ℕ × ℕ)) (holds : Bool) (result : List ℕ) (table : Table) → holds ≡ is_some slot
     → kept_by slot holds result table ≡ kept_by slot true result table
 kept_if_some None holds result table is = refl

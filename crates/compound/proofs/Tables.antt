@@ -146,7 +146,7 @@ clients_run now fs before after old new request left kind outcome runs = λ worl
     runs world rest on
     ∙ ap (λ (known : World). Gives outcome (record known { table = new; opens = after }) (with_rest left rest)) (sym (state_same world (shared fs old before) on))
 
--- CREATE_SESSION and DESTROY_SESSION, where the volume keeps the seats: its tree is as it was
+-- CREATE_SESSION and DESTROY_SESSION, if the volume keeps the seats: its tree is as it was
 
 placed : (world : World) (fs new : FileSystem) (table after : Table) (known opens : Opens) → HasState world (shared fs table known) → HasSameTree fs new
     → (let placed : World = record world { table = after; opens = opens } in placed) ≡ with_state world (shared new after opens)
@@ -196,7 +196,7 @@ destroy_refuses now fs old opens request id reason is =
     (table_runs now fs opens old old request request (Argument.DestroySession id) (Outcome.Refused 44 reason)
     (λ world rest on. ran_destroy_session world (with_rest request rest) now id old _ on is))
 
--- no opens end where no client does
+-- no opens end if no client does
 pub none_ended : (opens : Opens) → without_clients [] opens ≡ opens
 none_ended opens = ap (λ (known : List (ℕ × Open)). let of : Opens = record opens { known = known } in of) (all_stay opens.known)
   where

@@ -41,7 +41,7 @@ pub attributes_bad : (limits : Limits) (state : State) (now : ℕ) (bitmap : Lis
 unfolding refusals effect
 attributes_bad limits state now bitmap reason is = does_bad limits state now (Argument.GetAttr bitmap) reason _ refl refl is
 
--- An operation on the tree comes to what the call says of it
+-- An operation on the tree comes to what the call reports
 
 abbrev pub OnTree : Argument → Type 0
 OnTree kind = (world : World) (request : InProgress) (now : ℕ)

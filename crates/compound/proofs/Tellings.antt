@@ -1,4 +1,4 @@
--- What a result leaves, whole or spelled.
+-- What a result leaves, whole or encoded.
 use Rattle.std.proofs.Common.{◌≡◌, ℕ, ◌+◌, ◌≤◌, Bool, true, false, not, ◌&&◌, if◌then◌else◌, List, [], ◌++◌, length, Option, Some, refl, sym, ap, ap₂, subst, ◌∙◌, arith, length-append, nat_le, leb-true}
 use Rattle.std.specs.Global.{Vec}
 use Rattle.std.specs.Int.{w32}
@@ -27,7 +27,7 @@ use Rattle.compound.specs.declared.encoded_result.EncodedResult.TheVariants as e
 use Rattle.compound.proofs.Replies.{room_length, spelled_short, tag_brief}
 use Rattle.compound.proofs.Resuming.{more_follow}
 
--- its spelling is the definition's
+-- its encoding is that of the definition
 
 done_text : (answer : Answer) → spelled_text (answers.answer_told answer).number (answers.answer_told answer).text ≡ outcome_text (Done answer)
 unfolding outcome_text

@@ -260,7 +260,7 @@ module _ (now : ℕ) (fs : FileSystem) (table : Table) (opens : Opens) (request 
       ∙ (ap (stepped world (with_rest request rest)) (does_so world rest on)
       ∙ ap (λ (after : World). Gives outcome after (with_rest (record request { context = left }) rest)) (sym (state_same world (shared fs table opens) on))))
 
-  -- where there is no current filehandle
+  -- if there is no current filehandle
   pub wants : (kind : Argument) → takes_current kind ≡ true → has_current request.context ≡ false
       → RunsTo now (shared fs table opens) (shared fs table opens) request request kind (Refused (operation_of kind) status.NoFileHandle)
   wants kind takes none = λ world rest on.

@@ -1,4 +1,4 @@
--- What a stateid means refuses, where it refuses.
+-- Each refusal by the meaning of a stateid has a status that is not OK.
 use Rattle.std.proofs.Common.{◌≡◌, ℕ, ◌==◌, ◌&&◌, ◌||◌, Bool, true, false, if◌then◌else◌, nat_lt, Option, Some, None, refl}
 use Rattle.model.specs.Operations.Context.{Context, current_number}
 use Rattle.model.specs.Operations.Operation.{StateId}

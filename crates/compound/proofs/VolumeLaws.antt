@@ -176,7 +176,7 @@ other_changes keeps_word state failed request now kind up =
     (λ keeps. operation_stays state request now (Argument.Create (OtherType kind)))
     (λ after lasting gives. gives.lasting_is ∙ other_quiet gives.world (with_rest request gives.rest) now kind)
 
--- CREATE of a directory, where the reply has room for its result, is that of the file system
+-- CREATE of a directory, if the reply has room for its result, is that of the file system
 pub made_gives : (fs : FileSystem) (table : Table) (opens : Opens) (request : InProgress) (now parent : ℕ) (name : List ℕ) (given : Attributes) → request.context.run ≡ fs.volume.run
     → has_current request.context ≡ true → current_number request.context ≡ parent
     → true ≡ nat_le (length (reply_with request (model.Done (made_answer 0 0 (trimmed given.bitmap))))) 16368
@@ -188,7 +188,7 @@ made_gives fs table opens request now parent name given in_run has is room after
   kept = gives.kept ∙ ap (with_tree fs.volume) (tree_made now fs table opens request name given gives.world gives.rest gives.has room);
 }
 
--- an operation that leaves the file system alone
+-- an operation that leaves the file system as it is
 pub quiet_changes : (keeps_word : Type 0) (state : SharedState) (failed : ℕ) (request : InProgress) (now : ℕ) (operation : Argument) → state.files.volume.is_down ≡ false → is_quiet operation ≡ true
     → FsChanges keeps_word (OperationGives state request now operation) state.files state.files failed failed Done
 quiet_changes keeps_word state failed request now operation up quiet =

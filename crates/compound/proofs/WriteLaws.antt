@@ -64,7 +64,7 @@ pub committed_room : (request : InProgress) (of : ℕ) (room : Bool)
 committed_room request of room is =
     same_room request (committed_answer 0) (committed_answer of) room (omega (arith, committed_length 0, committed_length of)) is
 
--- Each refusal has a status that refuses
+-- Each refusal has a status that is not OK
 
 write_done : (some : Bool) (limits : Limits) (state : State) (now : ℕ) (arguments : WriteArguments)
     → (count : ℕ) × ((write some limits state now arguments).outcome ≡ Done (written_answer state.context.run arguments.stable count))

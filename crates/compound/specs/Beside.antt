@@ -32,12 +32,12 @@ pub record IsBeside (fs : FileSystem) (opens : Opens) (request : InProgress) (st
 abbrev pub closed_answer : Answer
 closed_answer = Answer.Close closed_state
 
--- a stateid that means this names the open of a serial, or is refused
+-- a stateid with this meaning names the open of a serial, or is refused
 abbrev pub EndsOpen : Found → Result ℕ Status → Type 0
 EndsOpen meaning (Ok serial) = (known : Open) × (meaning ≡ Names serial known)
 EndsOpen meaning (Err reason) = first_refusal (close_refusals meaning) ≡ Some reason
 
--- the open of this serial ends by the definition, or this refuses it
+-- the open of this serial ends by the definition, or the definition refuses it with this
 abbrev pub Closes : FileSystem → Opens → InProgress → CloseArguments → Result ℕ Status → Type 0
 Closes fs opens request arguments (Ok serial) =
     (state : State) (now : ℕ) → IsBeside fs opens request state
@@ -56,7 +56,7 @@ Closes fs opens request arguments (Err reason) =
 
 -- OPEN
 
--- what it answers, of its directory and of the attributes that were set
+-- what it returns, of its directory and of the attributes that were set
 abbrev pub opened_answer : StateId → ChangeInfo → (was_set : List ℕ) → Answer
 opened_answer state change was_set =
     Answer.Open (record { state = state; change = change; flags = 0; was_set = was_set })

@@ -12,7 +12,7 @@ use Rattle.compound.specs.Operates.{IsSpelled, Spells, HasRoomFor, spelled_text}
 use Rattle.compound.specs.declared.encoded_result.EncodedResult.{EncodedResult}
 use Rattle.compound.specs.declared.encoded_result.EncodedResult.TheVariants as encoded
 
--- what is spelled of it
+-- the encoded part of it
 abbrev pub told_text : EncodedResult → List ℕ
 told_text (encoded.Whole outcome) = outcome_text (outcome_view outcome.now)
 told_text (encoded.Spelled operation values) = spelled_text (number_of operation) values.now
@@ -32,7 +32,7 @@ Tells (encoded.Spelled operation values) result =
     (answer : model.Answer) × (result ≡ model.Done answer)
     × Spells (number_of operation) values.now answer
 
--- it has a spelling
+-- it has an encoding
 abbrev pub CanBeSpelled : EncodedResult → Type 0
 CanBeSpelled (encoded.Whole outcome) = answers.outcome.Fits (outcome_view outcome.now)
 CanBeSpelled (encoded.Spelled operation values) = ⊤
@@ -51,7 +51,7 @@ with_told request result =
       results = request.results ++ told_text result;
     }
 
--- where it is the last one
+-- if it is the last one
 abbrev pub with_last : InProgress → EncodedResult → InProgress
 with_last request result =
     record (with_told request result) { ended = Some (told_status result) }

@@ -33,9 +33,9 @@ pub record BorrowsSame {D : Type 0} {g : Ghosts D} (old new : Engine D g) : Type
   pub table : new.table.ghost_name ≡ old.table.ghost_name
   pub opens : new.opens.ghost_name ≡ old.opens.ghost_name
 
--- An operation on the tree, on a device that failed so often before it and after it: what it gives
--- is the definition's, and has room in the reply. The table stays, and a call that is not done
--- leaves the opens too.
+-- An operation on the tree, on a device that had failed this often before it and after it: what it
+-- gives is that of the definition, and has room in the reply. The table stays, and a call that is
+-- not done leaves the opens too.
 pub record ChangesState (keeps_word : Type 0) (now : ℕ) (old new : SharedState)
     (before after : ℕ) (request : InProgress) (operation : Argument)
     (result : Result Executed Fault) : Type 0 where
@@ -52,8 +52,8 @@ pub record Changes {D : Type 0} {g : Ghosts D} (old new : Engine D g) (request :
   pub state : ChangesState g.keeps_word old.moment (state_in old) (state_in new)
       (fs_failures old.fs.now) (fs_failures new.fs.now) request operation result
 
--- The same of any operation: one of the sessions may change the table and the seats, and a COMPOUND
--- that is a retry sends a reply again that is there.
+-- The same of any operation: one on the sessions may change the table and the seats, and a COMPOUND
+-- that is a retry sends again a reply that is there.
 pub record RunsState (keeps_word : Type 0) (now : ℕ) (old new : SharedState)
     (before after : ℕ) (request : InProgress) (operation : Argument)
     (result : Result Executed Fault) : Type 0 where
@@ -71,7 +71,7 @@ pub record Runs {D : Type 0} {g : Ghosts D} (old new : Engine D g) (request : In
   pub state : RunsState g.keeps_word old.moment (state_in old) (state_in new)
       (fs_failures old.fs.now) (fs_failures new.fs.now) request operation result
 
--- one on the clients that changes the table: for memory it is refused, and leaves that too
+-- one on the clients that changes the table: if it is refused for memory, it leaves that too
 abbrev pub ChangesClients : (old new : Table) → Opens → InProgress → Argument
     → Result Executed Fault → Type 0
 ChangesClients old new opens request operation (Ok done) =

@@ -1,4 +1,4 @@
--- What the operations on a file's bytes answer.
+-- What the operations on a file's bytes return.
 use Rattle.std.specs.Prelude.{ℕ}
 use Rattle.std.specs.Int.{w64, to_be_bytes}
 use Rattle.model.specs.Operations.Answer.{Answer}

@@ -13,7 +13,7 @@ use Rattle.compound.specs.declared.fault.Fault.{Fault}
 use Rattle.compound.specs.declared.running.Running.{Running}
 use Rattle.compound.specs.declared.step.Ran.{Ran}
 
--- it ran, or was refused before, and the COMPOUND has not changed yet
+-- it ran, or was refused before it ran, and the COMPOUND has not changed yet
 pub record RunsNext {D : Type 0} {g : Ghosts D} (old new : Engine D g) (running : Running)
     (result : Result Ran Fault) : Type 0 where
   pub same : BorrowsSame old new

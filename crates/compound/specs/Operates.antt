@@ -68,7 +68,7 @@ GivesIn now old new request left operation outcome =
 abbrev pub spelled_text : (operation : ℕ) → (values : List ℕ) → List ℕ
 spelled_text operation values = number w32 operation ++ (number w32 0 ++ values)
 
--- this answer of the operation is spelled so after its status
+-- this answer of the operation is encoded so after its status
 pub record Spells (operation : ℕ) (values : List ℕ) (answer : model.Answer) : Type 0 where
   pub number_is : (answers.answer_told answer).number ≡ operation
   pub values_are : (answers.answer_told answer).text ≡ values
@@ -128,7 +128,7 @@ HasRoom request (model.Done answer) =
     length (reply_with request (model.Done answer)) ≤ MAX_REPLY_BYTES
 HasRoom request (model.Refused operation reason) = ⊤
 
--- the OK result of this answer, which is spelled in few bytes
+-- the OK result of this answer, which is encoded in few bytes
 pub record IsShortOutcome (answer : model.Answer) (outcome : Outcome) : Type 0 where
   pub is : outcome_view outcome ≡ model.Done answer
   pub fits : answers.outcome.Fits (outcome_view outcome)
@@ -140,7 +140,7 @@ HasRoomFor request text =
     AROUND_RESULTS + length (counted request.tag) + length request.results + length text
     ≤ MAX_REPLY_BYTES
 
--- a result can be spelled, in few bytes
+-- a result can be encoded, in few bytes
 pub record IsSpelled (request : InProgress) (outcome : model.Outcome) : Type 0 where
   pub fits : answers.outcome.Fits outcome
   pub small : length (outcome_text outcome) < 2 ^ 63

@@ -1,4 +1,4 @@
--- The entries of a page, as they are spelled one after the other.
+-- The entries of a page, as they are encoded one after the other.
 use Rattle.std.specs.Prelude.{ℕ, List, ◌++◌}
 use Rattle.std.specs.Int.{w32}
 use Rattle.std.specs.List.{flat_map}

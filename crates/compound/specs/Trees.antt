@@ -76,20 +76,20 @@ fault_told operation fault.Down = Err faults.Device
 abbrev pub change_answer : (before after : ℕ) → ChangeInfo
 change_answer before after = record { is_atomic = true; before = before; after = after }
 
--- what REMOVE answers, of its directory
+-- what REMOVE returns, of its directory
 abbrev pub removed_answer : (before after : ℕ) → Answer
 removed_answer before after = Answer.Remove (change_answer before after)
 
--- where the change values do not matter
+-- if the change values do not matter
 abbrev pub no_change : Change
 no_change = record { before = 0; after = 0 }
 
--- what RENAME answers, of the directory that had the node and of the one that has it
+-- what RENAME returns, of the directory that had the node and of the one that has it
 abbrev pub renamed_answer : (source target : Change) → Answer
 renamed_answer source target =
     Answer.Rename (record { source = info_of source; target = info_of target })
 
--- what CREATE answers that made a directory: its parent's change value before and after
+-- what a CREATE that made a directory returns: its parent's change value before and after
 abbrev pub made_answer : (before after : ℕ) → (was_set : List ℕ) → Answer
 made_answer before after was_set =
     Answer.Create

@@ -44,8 +44,8 @@ TurnsTo now old new request left outcome =
     × (stepped_on world number now request
     ≡ behind (with_state world new) number left outcome executed)
 
--- the same, where the next operation did this, ends where these bytes begin, and made a change that
--- has to last or made none
+-- the same, if the next operation did this, ends at the beginning of these bytes, and made a change
+-- that has to last or made none
 abbrev pub TurnsExecuted : (now : ℕ) → (old new : SharedState) → InProgress → (rest : List ℕ)
     → (altered : Bool) → Executed → Type 0
 TurnsExecuted now old new request rest altered (execution.Gives outcome left) =

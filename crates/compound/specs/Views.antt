@@ -1,4 +1,4 @@
--- What the code's values stand for.
+-- What the code's values represent.
 use Rattle.std.specs.Prelude.{◌≡◌, ℕ, ◌+◌, ◌≤◌, ◌<◌, nat_lt, nat_le, Bool, true, ◌&&◌, List, length, drop, Option, None, Some}
 use Rattle.std.specs.Option.{option_map}
 use Rattle.model.specs.Operations.Context.{Context, Place}
@@ -48,7 +48,7 @@ context_of cred progress = record {
   saved = option_map place_of progress.saved;
 }
 
--- a COMPOUND that is so far
+-- a COMPOUND with this progress
 abbrev pub resumed : Asked → Progress → InProgress
 resumed asked progress = record {
   xid = asked.xid;

@@ -81,7 +81,7 @@ pub record TurnGives (state : SharedState) (turn : World → (number : ℕ) → 
   pub lasting_is :
       HasToLast state.files.volume (lasts (turn world number).executed) after lasting
 
--- the tree stays, and the seats are these; where that is a change it lasts, with all that there was
+-- the tree stays, and the seats are these; if that is a change it lasts, with all that there was
 -- before it
 abbrev pub IsSeated : VolumeState → Seats → Given
 IsSeated held seats after lasting =

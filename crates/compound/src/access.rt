@@ -11,8 +11,8 @@ impl<D: Device> Reading<'_, '_, D> {
     ghost use Rattle.model.specs.Operations.Operation as operations;
     ghost use Rattle.compound.specs.Readings.{ReadsAs};
 
-    /// ACCESS: of the bits that are asked those that the current node has, and those of them that
-    /// the caller is granted.
+    /// ACCESS: of the bits that are asked for, those that the current node has, and those of them
+    /// that the caller is granted.
     pub(crate) fn access(&self, asked: u32) -> Executed
         ensures { ReadsAs self.now (operations.Argument.Access asked) result }
     {

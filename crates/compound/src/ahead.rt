@@ -13,8 +13,8 @@ use xdr::Reader;
 /// What comes next of a COMPOUND that has begun.
 #[derive(Clone, Copy)]
 pub enum Ahead {
-    /// An operation runs or is refused. Its result has this number: its own, or 10044 if that is
-    /// none of the standard's.
+    /// An operation runs or is refused. Its result has this number: its own, or 10044 if the
+    /// standard has no such operation.
     Operation(u32),
     /// A seat holds the reply. The last result has this status.
     Reply(Status),

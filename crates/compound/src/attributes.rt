@@ -15,7 +15,8 @@ impl<D: Device> Reading<'_, '_, D> {
     ghost use Rattle.compound.specs.Memory.{OrMemory};
     ghost use Rattle.compound.specs.Readings.{ReadsAs};
 
-    /// GETATTR: the attributes of the current node that are asked, as far as the server has them.
+    /// GETATTR: the attributes of the current node that are asked for, as far as the server has
+    /// them.
     pub(crate) fn get_attributes(&self, asked: &Bitmap) -> Result<Executed, Fault>
         ensures { OrMemory result (ReadsAs self.now (operations.Argument.GetAttr asked.now)) }
     {
@@ -39,7 +40,7 @@ ghost use Rattle.model.specs.Wire.WireAnswers.{answered_attributes};
 ghost use Rattle.wire_attributes.specs.NodeValues.{HasFewEntries, answer_view};
 ghost use Rattle.compound.specs.Memory.{OrMemory};
 
-/// The attributes as the result has them.
+/// The attributes, as the result has them.
 fn spelled(alloc: Global, answer: &AttributesAnswer<'_>) -> Result<Vec<u8>, Fault>
     requires { HasFewEntries answer.now.node }
     ensures { OrMemory result (λ values.

@@ -17,9 +17,9 @@ impl Progress {
     ghost use Rattle.compound.specs.Memory.{OrMemory};
     ghost use Rattle.compound.specs.Views.{IsBegin};
 
-    /// Before the first operation, in this run of the server. All memory for the reply is taken
-    /// here, and that of the results only where `results_buffer`, which an earlier COMPOUND left,
-    /// has too little.
+    /// Before the first operation, in this run of the server. All memory for the reply is allocated
+    /// here, and that for the results only if `results_buffer`, which an earlier COMPOUND left, has
+    /// too little.
     pub fn begin(alloc: Global, run: u32, results_buffer: &mut Writer) -> Result<Progress, Fault>
         ensures { OrMemory result (IsBegin run) }
     {
@@ -41,7 +41,7 @@ impl Progress {
     }
 }
 
-/// Memory for the results: what an earlier COMPOUND left, or where that is too little more.
+/// Memory for the results: what an earlier COMPOUND left, or more if that is too little.
 fn take_memory(alloc: Global, results_buffer: &mut Writer) -> Result<Writer, Fault>
     ensures { OrMemory result (λ results.
         (results.bytes ≡ []) × (RESULT_BUFFER ≤ results.capacity)) }
@@ -63,7 +63,7 @@ impl<'a> Running<'a> {
     ghost use Rattle.std.specs.Prelude.{◌≡◌, true};
     ghost use Rattle.compound.specs.Views.{in_progress_of, asked_by, asked_of, resumed, fits_operations};
 
-    /// The COMPOUND of this call, from where it has come to.
+    /// The COMPOUND of this call, continued from this progress.
     #[tactic(auto, unfolding(crate::specs::Views::in_progress_of))]
     pub fn resume(alloc: Global, call: Call<'a>, progress: Progress) -> Running<'a>
         requires { fits_operations (asked_by call) progress ≡ true }

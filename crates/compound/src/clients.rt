@@ -16,7 +16,7 @@ use session::{Creation, Table};
 use wire::{Answer, CreateSessionArguments, ExchangeIdAnswer, ExchangeIdArguments, Operation};
 use xdr::Writer;
 
-/// The most bytes that EXCHANGE_ID answers after its status: two names of 1,024 bytes, and numbers.
+/// The most bytes of an EXCHANGE_ID result after its status: two names of 1,024 bytes, and numbers.
 const IDENTITY_BYTES: usize = 2_088;
 
 #[tactic(auto, unfolding(crate::specs::Views::in_progress_of))]
@@ -54,7 +54,7 @@ impl Running<'_> {
         }
     }
 
-    /// CREATE_SESSION: the volume keeps the seats that it leaves first, and the opens of a client
+    /// CREATE_SESSION: the volume first keeps the seats that it leaves, and the opens of a client
     /// that ends with it end too. After `Memory` nothing changed.
     pub(crate) fn create_session<D: Device>(
         &self,
@@ -124,7 +124,7 @@ impl Running<'_> {
     }
 }
 
-/// The answer's bytes, in memory that was taken before.
+/// The answer's bytes, in memory that was allocated before.
 #[tactic(auto, using(crate::proofs::Identity::identity_short))]
 fn spelled(answer: &ExchangeIdAnswer<'_>, memory: Writer) -> Vec<u8>
     requires names { (length answer.now.major_id.now ≤ 1024) × (length answer.now.scope.now ≤ 1024) }

@@ -12,7 +12,7 @@ use model_tree::status::Status;
 use opens::{Found, Opens};
 use wire::{Answer, CloseArguments, Operation, Outcome, StateId};
 
-/// What a CLOSE answers: a stateid that no operation takes.
+/// What a CLOSE returns: a stateid that no operation takes.
 pub(crate) const CLOSED: StateId = StateId {
     seqid: u32::MAX,
     other: [0; 12],
@@ -28,7 +28,7 @@ impl<D: Device> Reading<'_, '_, D> {
     ghost use Rattle.compound.specs.Readings.{ChangesOpens, files_read, request_read};
 
     /// CLOSE: the open that the stateid names has ended, and the current filehandle keeps no
-    /// stateid. Nothing ends where the reply has no room for the result.
+    /// stateid. Nothing ends if the reply has no room for the result.
     pub(crate) fn close(&self, opens: &mut Opens, arguments: &CloseArguments) -> Executed
         ensures { ChangesOpens self.now (opens_of opens.old) (opens_of opens.new)
             (operations.Argument.Close (close_view arguments.now)) result }
@@ -48,7 +48,7 @@ impl<D: Device> Reading<'_, '_, D> {
         }
     }
 
-    /// The serial of the open that ends, after all tests but that of the room of the reply.
+    /// The serial of the open that ends, after all tests except the one for room in the reply.
     fn open_to_close(&self, opens: &Opens, arguments: &CloseArguments) -> Result<u64, Status>
         ensures step { Closes (files_read self.now) (opens_of opens.now) (request_read self.now)
             (close_view arguments.now) result }
@@ -69,7 +69,7 @@ impl Running<'_> {
     ghost use Rattle.compound.specs.Beside.{EndsOpen, closed_answer};
     ghost use Rattle.compound.specs.Views.{in_progress_of};
 
-    /// The serial of the open that a stateid names where the next operation uses it.
+    /// The serial of the open that a stateid names when the next operation uses it.
     fn open_of_state(&self, opens: &Opens, stateid: &StateId) -> Result<u64, Status>
         ensures { EndsOpen (found (opens_of opens.now) (in_progress_of self.now).context
             (state_view stateid.now)) result }

@@ -8,7 +8,7 @@ use xdr::{Refusal, Writer};
 #[derive(Clone, Copy)]
 pub(crate) enum EncodedResult<'a> {
     Whole(&'a Outcome<'static>),
-    /// An OK result, of which the values after the status are spelled already.
+    /// An OK result, of which the values after the status are already encoded.
     Spelled {
         operation: Operation,
         values: &'a [u8],
@@ -36,7 +36,7 @@ impl EncodedResult<'_> {
         }
     }
 
-    /// It is spelled after other results.
+    /// It is encoded after other results.
     pub(crate) fn write(&self, results: Writer) -> Writer
         requires spelled { CanBeSpelled self.now }
         requires room { length results.bytes + length (told_text self.now) ≤ results.capacity }
@@ -78,7 +78,7 @@ fn write_outcome(results: Writer, outcome: &Outcome<'_>) -> Writer
     }
 }
 
-/// The results, and one more whose values are spelled already.
+/// The results, and one more whose values are already encoded.
 fn write_spelled(results: Writer, operation: Operation, values: &[u8]) -> Writer
     requires { length results.bytes + length (spelled_text (number_of operation) values.now)
         ≤ results.capacity }
@@ -93,7 +93,7 @@ fn write_spelled(results: Writer, operation: Operation, values: &[u8]) -> Writer
     }
 }
 
-/// Writes the number and the status OK. A refusal may leave a front of them.
+/// Writes the number and the status OK. A refusal may leave a prefix of them.
 #[tactic(auto, using(xdr::proofs::Writing::wrote_on, xdr::proofs::Writing::wrote_exit, xdr::proofs::Writing::wrote_end))]
 fn write_front(w: &mut Writer, operation: Operation) -> Result<(), Refusal>
     ensures { Wrote w.old w.new result (number w32 (number_of operation) ++ number w32 0) }

@@ -24,7 +24,8 @@ use rpc::{Compound, CompoundResult, Reply, Tag, write_reply};
 use session::Table;
 use xdr::Writer;
 
-/// The status of the last result, and if a seat is to hold the reply what that makes of the seats.
+/// The status of the last result, and, if a seat is to hold the reply, what that makes of the
+/// seats.
 #[derive(Drop)]
 pub(crate) struct LastResult {
     pub(crate) status: Status,
@@ -45,8 +46,8 @@ impl Running<'_> {
     ghost use Rattle.compound.specs.Volumes.{IsSeated, HasSameTree, ending};
 
     /// The reply's whole record, once the last result is there. The slot keeps the result of the
-    /// COMPOUND, and if there are edits a seat holds it by them. No memory is taken, and what is
-    /// left over goes to `results_buffer`.
+    /// COMPOUND, and if there are edits, a seat holds it by them. No memory is allocated, and what
+    /// is left over goes to `results_buffer`.
     #[tactic(auto, unfolding(crate::specs::Views::in_progress_of), using(crate::proofs::Replies::success_length, crate::proofs::Replies::framed_length))]
     pub(crate) fn end(
         self,
@@ -121,7 +122,7 @@ impl Running<'_> {
         Ok(Some(edits))
     }
 
-    /// The whole result, in memory of its own.
+    /// The whole result, in its own memory.
     #[tactic(auto, unfolding(crate::specs::Views::in_progress_of))]
     fn result(&self, last: Status) -> Result<Vec<u8>, Fault>
         ensures { OrMemory result (λ bytes.
@@ -134,8 +135,8 @@ impl Running<'_> {
         Ok(compound.write(out)?)
     }
 
-    /// The reply's whole record, where the result is the one that this slot keeps. No memory is
-    /// taken, and that of the results goes to `results_buffer`.
+    /// The reply's whole record, if the result is the one that this slot keeps. No memory is
+    /// allocated, and that of the results goes to `results_buffer`.
     #[tactic(auto, unfolding(crate::specs::Views::in_progress_of), using(crate::proofs::Replies::success_length, crate::proofs::Replies::framed_length))]
     pub(crate) fn repeat(self, table: &Table, id: &SlotId, results_buffer: &mut Writer) -> Vec<u8>
         requires { (reply : List ℕ)

@@ -30,7 +30,7 @@ pub enum Executed {
         outcome: Outcome<'static>,
         effect: Effect,
     },
-    /// An OK result, spelled: the values after its status. Nothing changes.
+    /// An OK result, encoded: the values after its status. Nothing changes.
     GivesSpelled {
         operation: Operation,
         values: Vec<u8>,

@@ -32,8 +32,8 @@ impl Running<'_> {
         self.settle(Answer::PutRootFh, Effect::Moves(ROOT))
     }
 
-    /// RESTOREFH (section 18.27): the saved node is the current one too, whether it is there or
-    /// not. NOFILEHANDLE where none is saved.
+    /// RESTOREFH (section 18.27): the saved node becomes the current one too, whether it is there
+    /// or not. NOFILEHANDLE if there is no saved node.
     pub(crate) fn restore_handle(&self) -> Executed
         ensures { (files : FileSystem)
             → Reads files (in_progress_of self.now) operations.Argument.RestoreFh result }
@@ -47,8 +47,8 @@ impl Running<'_> {
     /// The number of the current node.
     ///
     /// # Errors
-    /// NOFILEHANDLE where there is none: each operation that takes the current filehandle answers
-    /// that.
+    /// NOFILEHANDLE if there is none: this is the error of each operation that takes the current
+    /// filehandle.
     pub(crate) fn current_node(&self) -> Result<u64, Status>
         ensures ok { IfOk result (λ number.
             (has_current (in_progress_of self.now).context ≡ true)
@@ -65,7 +65,7 @@ impl Running<'_> {
     /// The number of the saved node.
     ///
     /// # Errors
-    /// NOFILEHANDLE where there is none.
+    /// NOFILEHANDLE if there is none.
     pub(crate) fn saved_node(&self) -> Result<u64, Status>
         ensures ok { IfOk result (λ number.
             (has_saved (in_progress_of self.now).context ≡ true)
@@ -128,7 +128,7 @@ impl<D: Device> Reading<'_, '_, D> {
 ghost use Rattle.xdr.specs.Forms.{counted};
 ghost use Rattle.compound.specs.Memory.{OrMemory};
 
-/// A filehandle as GETFH's result has it.
+/// A filehandle, as the result of GETFH has it.
 fn spelled(alloc: Global, handle: &[u8; 8]) -> Result<Vec<u8>, Fault>
     ensures { OrMemory result (λ values. values.items ≡ counted handle.now) }
 {

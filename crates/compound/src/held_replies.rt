@@ -11,7 +11,7 @@ use fs::{Fs, FsFault};
 use model_tree::seats::SeatEdits;
 use session::is_idle;
 
-/// The volume keeps the seats, edited so. Nothing is written where each place stays.
+/// The volume keeps the seats, with these edits. Nothing is written if each place stays.
 ///
 /// # Errors
 /// After `Memory` nothing changed; after `Device` the file system is down.

@@ -1,7 +1,7 @@
 //! One operation of one COMPOUND (RFC 8881, section 16.2), which is the server's atomic step.
 //!
 //! `Running` is a COMPOUND over its record, made anew for each operation; `Progress` is what is
-//! kept of it from one to the next.
+//! kept of it from one operation to the next.
 #![tactic(auto)]
 
 mod access;

@@ -19,7 +19,7 @@ use wire::{Operation, ReadDirArguments};
 use wire_attributes::ListedEntry;
 use xdr::{Refusal, Writer};
 
-/// The room that is taken for a page: as many bytes as the largest one has.
+/// The memory that is allocated for a page, in bytes: the size of the largest one.
 const PAGE_BYTES: usize = 8_192;
 
 impl<D: Device> Reading<'_, '_, D> {
@@ -74,7 +74,7 @@ fn spelled(alloc: Global, page: &Page<'_>) -> Result<Vec<u8>, Fault>
     Ok(out.into_vec())
 }
 
-/// Writes a page, with a verifier of zero bytes. A refusal may leave a front of it.
+/// Writes a page, with a verifier of zero bytes. A refusal may leave a prefix of it.
 #[tactic(auto, using(xdr::proofs::Writing::wrote_on, xdr::proofs::Writing::wrote_exit, xdr::proofs::Writing::wrote_end))]
 fn write_page(w: &mut Writer, page: &Page<'_>) -> Result<(), Refusal>
     requires { PageFits page.now }
@@ -85,7 +85,7 @@ fn write_page(w: &mut Writer, page: &Page<'_>) -> Result<(), Refusal>
     w.write_bool(page.is_end)
 }
 
-/// Writes entries, with the end of their chain. A refusal may leave a front of them.
+/// Writes entries, with the end of their chain. A refusal may leave a prefix of them.
 #[tactic(auto, unfolding(crate::specs::Pages::chain_of), using(xdr::proofs::Writing::wrote_on, xdr::proofs::Writing::wrote_exit, xdr::proofs::Writing::wrote_end))]
 fn write_chain(w: &mut Writer, entries: &[ListedEntry<'_>]) -> Result<(), Refusal>
     requires { All EntryFits entries.now }

@@ -17,7 +17,7 @@ use std::alloc::Global;
 use wire::{Argument, Claim, CreateArguments, Opening, Operation};
 use xdr::{Reader, Refusal};
 
-/// The number of a result whose operation is none (RFC 8881, section 15.2).
+/// The number of a result that belongs to no operation (RFC 8881, section 15.2).
 pub(crate) const OP_ILLEGAL: u32 = 10044;
 
 /// What comes next of a COMPOUND.
@@ -51,10 +51,10 @@ impl Running<'_> {
 
     /// The next operation with its arguments, or why it is refused before it is run.
     ///
-    /// In this order: an operation's number that is not there whole answers BADXDR, and one outside
-    /// 3 to 58 OP_ILLEGAL, both under result number 10044; as the first operation OP_NOT_IN_SESSION
-    /// and NOT_ONLY_OP, as a later one NOTSUPP and SEQUENCE_POS; arguments that cannot be read, and
-    /// bytes after the last operation, BADXDR.
+    /// In this order: BADXDR if the operation's number is not complete, and OP_ILLEGAL if it is
+    /// outside 3 to 58, both under result number 10044; OP_NOT_IN_SESSION and NOT_ONLY_OP for the
+    /// first operation, NOTSUPP and SEQUENCE_POS for a later one; BADXDR for arguments that cannot
+    /// be read, and for bytes after the last operation.
     #[tactic(auto, unfolding(crate::specs::Views::in_progress_of, model::specs::Server::World::next_operation))]
     pub(crate) fn next_operation(&self, alloc: Global) -> Result<Next<'_>, Fault>
         ensures ok { OrMemory result (λ next.
@@ -76,7 +76,7 @@ impl Running<'_> {
         self.read_next(alloc, number, start)
     }
 
-    /// The operation of this number that begins at `start`, where nothing refuses the number.
+    /// The operation of this number that begins at `start`, if nothing refuses the number.
     fn read_next<'a>(
         &'a self,
         alloc: Global,
@@ -103,7 +103,7 @@ impl Running<'_> {
         Ok(Next::Reads { argument, position })
     }
 
-    /// Whether bytes follow the arguments of the last operation, where they are looked at.
+    /// Whether bytes follow the arguments of the last operation, unless such bytes are ignored.
     fn has_too_much(&self, argument: &Argument<'_>, rest: &[u8]) -> bool
         ensures { result ≡ is_last (in_progress_of self.now)
             && (not (looks_no_further (argument_view argument.now)) && not (is_empty rest.now)) }
@@ -198,14 +198,14 @@ fn stands_alone(number: u32) -> bool
         || number == Operation::DestroyClientId.number()
 }
 
-/// Whether an operation is served; another one of the standard's is answered NOTSUPP.
+/// Whether an operation is served; any other one of the standard's gets NOTSUPP.
 fn is_served(number: u32) -> bool
     ensures { result ≡ is_served number }
 {
     Operation::from_number(number).is_some()
 }
 
-/// Whether what follows the arguments is not looked at.
+/// Whether the bytes after the arguments are ignored.
 fn looks_no_further(argument: &Argument<'_>) -> bool
     ensures { result ≡ looks_no_further (argument_view argument.now) }
 {

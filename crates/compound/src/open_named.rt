@@ -42,8 +42,8 @@ impl Running<'_> {
     ghost use Rattle.compound.specs.States.{CanServe};
     ghost use Rattle.compound.specs.Views.{in_progress_of};
 
-    /// OPEN of a file by its name. None is opened, made or cut where the reply has no room for the
-    /// result.
+    /// OPEN of a file by its name. No file is opened, created or truncated if the reply has no room
+    /// for the result.
     pub(crate) fn open_named<D: Device>(
         &self,
         engine: &mut Engine<'_, D>,

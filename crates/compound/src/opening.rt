@@ -109,7 +109,7 @@ impl Running<'_> {
         requires serial { CanOpen (opens_of opens.old) (open_of asked) }
         requires number { 0 < asked.number }
         requires short { true ≡ has_opened_room (in_progress_of self.now) done.was_set }
-        // What it answers
+        // What the OPEN returns
         ensures gives { (now : _) (old new : SharedState) (operation : operations.Argument)
             → old.opens ≡ opens_of opens.old → ComesToOpen now old new (in_progress_of self.now)
             (open_of asked) (change_view done.change) done.was_set operation
@@ -126,8 +126,8 @@ impl Running<'_> {
         }
     }
 
-    /// Whether the reply has room for the result of an OPEN that set these attributes. What else it
-    /// says does not matter.
+    /// Whether the reply has room for the result of an OPEN that set these attributes. The rest of
+    /// the result does not matter.
     pub(crate) fn has_opened_room(&self, was_set: Bitmap) -> bool
         requires { IsTrue (is_trimmed was_set) }
         ensures { result ≡ has_opened_room (in_progress_of self.now) was_set }
@@ -151,7 +151,7 @@ impl<D: Device> Reading<'_, '_, D> {
     ghost use Rattle.compound.specs.Memory.{OrMemory};
     ghost use Rattle.compound.specs.Readings.{ChangesOpens, ReadsAs};
 
-    /// OPEN of the current file (`CLAIM_FH`). It is not opened where the reply has no room for the
+    /// OPEN of the current file (`CLAIM_FH`). It is not opened if the reply has no room for the
     /// result.
     fn open_current(
         &self,

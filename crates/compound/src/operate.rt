@@ -16,7 +16,7 @@ impl Running<'_> {
     ghost use Rattle.compound.specs.States.{Agrees, CanServe};
     ghost use Rattle.compound.specs.Views.{in_progress_of};
 
-    /// Runs an operation, and tests last whether the reply has room for its result.
+    /// Runs an operation, and then tests whether the reply has room for its result.
     ///
     /// # Errors
     /// After `Memory` nothing changed; after `Device` the file system is down, and the table is as

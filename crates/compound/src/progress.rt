@@ -7,7 +7,7 @@ use model_tree::status::Status;
 use wire::StateId;
 use xdr::Writer;
 
-/// The bytes for which each COMPOUND has memory from its begin on: those of its longest result,
+/// The bytes for which each COMPOUND has memory from its beginning: those of its longest result,
 /// which a slot keeps in the memory of the operations' results.
 pub(crate) const RESULT_BUFFER: usize = 16_384;
 
@@ -36,7 +36,7 @@ pub(crate) struct HandlePlace {
 /// How far a COMPOUND has come: what is kept of it from turn to turn, beside its record.
 #[derive(Drop)]
 pub struct Progress {
-    /// Where the bytes of the next operation begin, among those of all.
+    /// The position of the bytes of the next operation, among those of all.
     pub(crate) position: usize,
     /// How many operations have their results.
     pub(crate) answered: u32,

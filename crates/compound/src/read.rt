@@ -20,7 +20,7 @@ use wire::{Operation, ReadArguments};
 /// there are.
 const FRONT: usize = 8;
 
-/// The most bytes of a file that room is taken for: as many as one READ gives.
+/// The most bytes of a file that memory is allocated for: those that one READ gives.
 const PART_BYTES: usize = 8_192;
 
 /// The most zero bytes after those of the file.
@@ -33,7 +33,8 @@ impl Running<'_> {
     ghost use Rattle.compound.specs.States.{CanServe};
     ghost use Rattle.compound.specs.Views.{in_progress_of};
 
-    /// READ: bytes of the current file. They are put where the result has them, and copied no more.
+    /// READ: bytes of the current file. They are put directly into the result, and are not copied
+    /// again.
     pub(crate) fn read<D: Device>(
         &self,
         engine: &mut Engine<'_, D>,

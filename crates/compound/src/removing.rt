@@ -23,8 +23,8 @@ impl Running<'_> {
     ghost use Rattle.compound.specs.Trees.{removed_answer};
     ghost use Rattle.compound.specs.Views.{in_progress_of};
 
-    /// REMOVE: the name is gone, and the node that it led to with its opens. Nothing is removed
-    /// where the reply has no room for the result.
+    /// REMOVE: the name is gone, and the node that it led to with its opens. Nothing is removed if
+    /// the reply has no room for the result.
     pub(crate) fn remove<D: Device>(
         &self,
         engine: &mut Engine<'_, D>,

@@ -19,7 +19,7 @@ use model_tree::status::Status;
 use opens::Opens;
 use wire::{Answer, Operation, Outcome, RenameAnswer, RenameArguments};
 
-/// What a directory shows where its change value does not matter.
+/// What a directory shows if its change value does not matter.
 const NO_CHANGE: Change = Change {
     before: 0,
     after: 0,
@@ -34,8 +34,8 @@ impl<D: Device> Reading<'_, '_, D> {
     /// The numbers of the saved node and of the current one.
     ///
     /// # Errors
-    /// The first of these that holds: NOFILEHANDLE where none is current, STALE where the current
-    /// one is gone, and NOFILEHANDLE where none is saved.
+    /// The first of these that holds: NOFILEHANDLE if there is no current node, STALE if the
+    /// current one is gone, and NOFILEHANDLE if there is no saved node.
     fn both_nodes(&self) -> Result<(u64, u64), Status>
         ensures ok { IfOk result (AreBoth (request_read self.now).context) }
         ensures err { IfErr result (RefusesRename (files_read self.now) (request_read self.now)) }
@@ -58,7 +58,7 @@ impl Running<'_> {
     ghost use Rattle.compound.specs.Views.{in_progress_of};
 
     /// RENAME of a name in the saved directory to one in the current directory. Nothing is renamed
-    /// where the reply has no room for the result.
+    /// if the reply has no room for the result.
     pub(crate) fn rename<D: Device>(
         &self,
         engine: &mut Engine<'_, D>,
@@ -104,7 +104,7 @@ impl Running<'_> {
     }
 }
 
-/// The node that stood under the new name is gone, and its opens with it. A name that is given to
+/// The node that was under the new name is gone, and its opens with it. A name that is renamed to
 /// itself leaves them.
 fn end_replaced(opens: &mut Opens, asked: Renaming<'_>, replaced: Option<u64>)
     ensures { opens_of opens.new

@@ -13,7 +13,7 @@ use xdr::opaque_size;
 /// The most bytes of a reply up to the end of an OK result, the record's header not counted.
 pub const MAX_REPLY_BYTES: usize = 16_368;
 
-/// The bytes of a reply round the tag and the results: the xid, the message type and four words up
+/// The bytes of a reply around the tag and the results: the xid, the message type and four words up
 /// to the accept status; the status and the number of results.
 const AROUND_RESULTS: usize = 32;
 
@@ -41,7 +41,7 @@ impl Running<'_> {
     ghost use Rattle.compound.specs.Views.{in_progress_of};
     ghost use Rattle.compound.specs.declared.executed.Executed.TheVariants as execution;
 
-    /// Whether the reply has room for this result, if it were the last one.
+    /// Whether the reply would have room for this result if it were the last one.
     #[tactic(auto, unfolding(crate::specs::Views::in_progress_of, model::specs::Server::World::outcome_text), using(crate::proofs::Replies::reply_length))]
     pub(crate) fn has_room(&self, outcome: &Outcome<'_>) -> bool
         requires fits { answers.outcome.Fits (outcome_view outcome.now) }
@@ -53,7 +53,7 @@ impl Running<'_> {
         self.has_room_for(outcome.size())
     }
 
-    /// Whether the reply has room for a result of this size, if it were the last one.
+    /// Whether the reply would have room for a result of this size if it were the last one.
     #[tactic(auto, unfolding(crate::specs::Views::in_progress_of))]
     fn has_room_for(&self, result_size: usize) -> bool
         requires { result_size < 2 ^ 63 + 8 }
@@ -67,8 +67,8 @@ impl Running<'_> {
         size <= MAX_REPLY_BYTES
     }
 
-    /// What an operation comes to that nothing else refuses: it is refused where the reply has no
-    /// room for its answer.
+    /// What an operation comes to that nothing else refuses: it is refused if the reply has no room
+    /// for its answer.
     pub(crate) fn settle(&self, answer: Answer<'static>, effect: Effect) -> Executed
         requires { IsShortAnswer (answer_view answer) }
         ensures gives { (now : ℕ) (state : SharedState) (kind : Kind)
@@ -86,8 +86,8 @@ impl Running<'_> {
         Executed::Gives { outcome, effect }
     }
 
-    /// What an operation comes to that changes nothing, and whose OK result is spelled: it is
-    /// refused where the reply has no room.
+    /// What an operation comes to that changes nothing, and whose OK result is encoded: it is
+    /// refused if the reply has no room.
     pub(crate) fn settle_spelled(&self, operation: Operation, values: Vec<u8>) -> Executed
         ensures gives { (now : ℕ) (state : SharedState) (kind : Kind) (answer : Answered)
             → Spells (number_of operation) values.items answer
@@ -122,7 +122,7 @@ impl Running<'_> {
     /// What an operation comes to that its file system did not do.
     ///
     /// # Errors
-    /// Those of the file system that are no status.
+    /// Those of the file system that have no status.
     pub(crate) fn tell_fault(&self, operation: Operation, fault: FsFault) -> Result<Executed, Fault>
         requires { IsUp fault }
         ensures { result ≡ fault_told (number_of operation) fault }
@@ -136,8 +136,8 @@ impl Running<'_> {
         }
     }
 
-    /// What the first operation comes to, where nothing refuses it: the reply has room for each
-    /// short answer.
+    /// What the first operation comes to, if nothing refuses it: the reply has room for each short
+    /// answer.
     pub(crate) fn answer_first(&self, answer: Answer<'static>, effect: Effect) -> Executed
         requires first { (in_progress_of self.now).answered ≡ 0 }
         requires short { IsShortAnswer (answer_view answer) }
@@ -154,8 +154,8 @@ impl Running<'_> {
         }
     }
 
-    /// What the first operation comes to, where nothing refuses it and its OK result is spelled in
-    /// few bytes: the reply has room for that.
+    /// What the first operation comes to, if nothing refuses it and its OK result is encoded in few
+    /// bytes: the reply has room for that.
     pub(crate) fn answer_first_spelled(&self, operation: Operation, values: Vec<u8>) -> Executed
         requires first { (in_progress_of self.now).answered ≡ 0 }
         requires short { length values.items ≤ 4096 }
@@ -175,7 +175,7 @@ impl Progress {
     ghost use Rattle.compound.specs.EncodedResult.{CanBeSpelled, told_text, with_told, with_last};
     ghost use Rattle.compound.specs.Views.{Asked, resumed};
 
-    /// With one result more, after those so far.
+    /// With one more result, after those so far.
     pub(crate) fn with_result(self, encoded: EncodedResult<'_>) -> Progress
         requires spelled { CanBeSpelled encoded }
         requires more { self.answered + 1 < 2 ^ 32 }
@@ -212,7 +212,7 @@ impl Progress {
         }
     }
 
-    /// With one result more, which is the last one.
+    /// With one more result, which is the last one.
     pub(crate) fn with_last(self, encoded: EncodedResult<'_>) -> Progress
         requires spelled { CanBeSpelled encoded }
         requires more { self.answered + 1 < 2 ^ 32 }

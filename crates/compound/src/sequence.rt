@@ -23,7 +23,7 @@ impl Running<'_> {
     ghost use Rattle.compound.specs.Operates.{ChangesTable, HasResult, IsAnswered};
     ghost use Rattle.compound.specs.Views.{in_progress_of};
 
-    /// SEQUENCE. Where a slot runs the COMPOUND, its client is the session's from then on.
+    /// SEQUENCE. If a slot runs the COMPOUND, its client is that of the session from then on.
     pub(crate) fn sequence(&self, table: &mut Table, arguments: &SequenceArguments) -> Executed
         requires first { (in_progress_of self.now).answered ≡ 0 }
         ensures gives { ChangesTable (table_of table.old) (table_of table.new)
@@ -44,7 +44,7 @@ impl Running<'_> {
         }
     }
 
-    /// RECLAIM_COMPLETE for all file systems. Nothing changes where the reply has no room for its
+    /// RECLAIM_COMPLETE for all file systems. Nothing changes if the reply has no room for its
     /// result.
     fn reclaim_all(&self, table: &mut Table) -> Executed
         ensures gives { ChangesTable (table_of table.old) (table_of table.new)
@@ -57,7 +57,7 @@ impl Running<'_> {
         }
     }
 
-    /// The same, where nothing but room may refuse it.
+    /// The same, if nothing except room may refuse it.
     fn reclaim_in_room(&self, table: &mut Table) -> Executed
         requires { (reclaim_complete (in_progress_of self.now).context.client
             (table_of table.old)).0 ≡ None }
@@ -114,7 +114,8 @@ impl<D: Device> Reading<'_, '_, D> {
         }
     }
 
-    /// RECLAIM_COMPLETE for the file system of the current filehandle: it is answered each time.
+    /// RECLAIM_COMPLETE for the file system of the current filehandle: it changes nothing, and may
+    /// be repeated.
     fn reclaim_one(&self) -> Executed
         ensures { ReadsAs self.now (operations.Argument.ReclaimComplete true) result }
     {

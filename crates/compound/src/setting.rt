@@ -29,7 +29,7 @@ impl Running<'_> {
     ghost use Rattle.compound.specs.States.{CanServe};
     ghost use Rattle.compound.specs.Views.{in_progress_of};
 
-    /// SETATTR: nothing is set where the reply has no room for the result.
+    /// SETATTR: nothing is set if the reply has no room for the result.
     pub(crate) fn set_attributes<D: Device>(
         &self,
         engine: &mut Engine<'_, D>,
@@ -81,7 +81,7 @@ fn attributes_set(bitmap: &Bitmap) -> Outcome<'static>
     Outcome::short(Answer::SetAttr(was_set(bitmap)))
 }
 
-/// The bitmap of what was set, of one that was given: it ends in no zero word.
+/// The bitmap of what was set, given this one: it ends in no zero word.
 pub(crate) fn was_set(given: &Bitmap) -> Bitmap
     ensures is { result ≡ trimmed given.now }
     ensures trimmed { IsTrue (is_trimmed result) }

@@ -1,4 +1,4 @@
-//! What a stateid means where an operation uses it (RFC 8881, section 8.2.4).
+//! What a stateid means when an operation uses it (RFC 8881, section 8.2.4).
 
 use crate::running::Running;
 use model_tree::status::Status;
@@ -15,7 +15,7 @@ impl Running<'_> {
     ghost use Rattle.wire.specs.SmallViews.{state_view};
     ghost use Rattle.compound.specs.Views.{in_progress_of};
 
-    /// Where the next operation uses a stateid.
+    /// The context in which the next operation uses a stateid.
     pub(crate) fn standing(&self) -> StateIdContext
         ensures { StandsAt result (in_progress_of self.now).context }
     {

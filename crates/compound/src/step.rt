@@ -32,8 +32,8 @@ pub enum Stepped {
     /// One operation ran, and more remain, or a seat is to hold the reply: how far the COMPOUND has
     /// come.
     Ran(Progress),
-    /// The reply's whole record, its header included. Its slot keeps the result, and where a seat
-    /// was to hold it, that has it on the volume.
+    /// The reply's whole record, including its header. Its slot keeps the result, and if a seat was
+    /// to hold it, that seat has it on the volume.
     Answered(Vec<u8>),
 }
 
@@ -62,10 +62,10 @@ impl Running<'_> {
     ghost use Rattle.compound.specs.Views.{in_progress_of, asked_of};
     ghost use Rattle.compound.specs.Volumes.{TurnGives, undone_step_ending};
 
-    /// Reads the next operation, tests it and runs it, at this moment in nanoseconds since 1970. A
+    /// Reads the next operation, tests it and runs it, at this time in nanoseconds since 1970. A
     /// change is kept on the device before its result is there. Once the last result is there and a
     /// seat is to hold the reply, it is held on the device, and then the reply is there. With the
-    /// reply `results_buffer` has the memory that the next COMPOUND may begin with.
+    /// reply, `results_buffer` has the memory that the next COMPOUND may begin with.
     ///
     /// # Errors
     /// What was kept of the COMPOUND comes back as it was. After `Memory` nothing changed; after
@@ -208,7 +208,8 @@ impl Running<'_> {
         }
     }
 
-    /// The current node keeps no stateid. Where there is none it is the node 0, which no node has.
+    /// The current node keeps no stateid. If there is no current node, it is 0, the number of no
+    /// node.
     #[tactic(auto, unfolding(crate::specs::Views::in_progress_of))]
     fn drop_stateid(&mut self)
         ensures asked { asked_of self.new ≡ asked_of self.old }
@@ -257,7 +258,7 @@ impl Running<'_> {
         Stepped::Answered(running.end(table, reply, results_buffer))
     }
 
-    /// With this result, which is the last one.
+    /// With this result, the last one.
     #[tactic(auto, unfolding(crate::specs::Views::in_progress_of))]
     fn with_last(self, encoded: EncodedResult<'_>) -> Self
         requires encoded { CanBeTold (in_progress_of self) encoded }
@@ -344,8 +345,8 @@ fn refused(operation: u32, status: Status) -> Executed
     }
 }
 
-/// Whether an operation made a change that has to last, any but that of a WRITE with UNSTABLE4, by
-/// how many changes were counted before and after it.
+/// Whether an operation made a change that has to last, by how many changes were counted before and
+/// after it. That of a WRITE with UNSTABLE4 does not have to.
 fn makes_change(before: u32, after: u32, operation: &Argument<'_>) -> bool
     ensures { result ≡ makes_change before after (argument_view operation.now) }
 {
@@ -361,7 +362,7 @@ fn is_unstable(operation: &Argument<'_>) -> bool
     }
 }
 
-/// An operation that ran, or was refused before.
+/// An operation that ran, or was refused before it ran.
 #[derive(Drop)]
 struct Ran {
     /// Where the bytes after it begin.

@@ -23,8 +23,8 @@ impl<D: Device> Reading<'_, '_, D> {
     ghost use Rattle.compound.specs.Readings.{ReadsAs, files_read, request_read};
     ghost use Rattle.compound.specs.Trees.{TestsHandle};
 
-    /// The tests of the current filehandle: NOFILEHANDLE where there is none, STALE where its node
-    /// is gone.
+    /// The tests of the current filehandle: NOFILEHANDLE if there is none, STALE if its node is
+    /// gone.
     pub(crate) fn check_current(&self) -> Result<(), Status>
         ensures tests { TestsHandle (files_read self.now) (request_read self.now) result }
         ensures refused { IfErr result IsRefusal }
@@ -70,7 +70,7 @@ impl<D: Device> Reading<'_, '_, D> {
         }
     }
 
-    /// CREATE of another type than a directory: nothing else is made by it.
+    /// CREATE of anything except a directory, which is refused.
     fn create_other(&self, kind: u32) -> Executed
         ensures { ReadsAs self.now (operations.Argument.Create (operations.OtherType kind)) result }
     {
@@ -119,7 +119,7 @@ impl Running<'_> {
         }
     }
 
-    /// CREATE of a directory (section 18.4): it is the current node. Nothing is made where the
+    /// CREATE of a directory (section 18.4): it is the current node. Nothing is created if the
     /// reply has no room for the result.
     fn create_directory<D: Device>(
         &self,

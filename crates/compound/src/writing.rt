@@ -27,7 +27,7 @@ impl Running<'_> {
     ghost use Rattle.compound.specs.States.{CanServe};
     ghost use Rattle.compound.specs.Views.{in_progress_of};
 
-    /// WRITE: nothing is written where the reply has no room for the result.
+    /// WRITE: nothing is written if the reply has no room for the result.
     pub(crate) fn write<D: Device>(
         &self,
         engine: &mut Engine<'_, D>,
@@ -69,8 +69,8 @@ impl Running<'_> {
         self.has_room(&written(0, StableHow::Unstable, 0))
     }
 
-    /// COMMIT (section 18.3): all changes so far are kept. Nothing is where the reply has no room
-    /// for the result.
+    /// COMMIT (section 18.3): keeps all changes so far, unless the reply has no room for the
+    /// result.
     pub(crate) fn commit<D: Device>(&self, engine: &mut Engine<'_, D>) -> Result<Executed, Fault>
         requires { CanServe (files_in engine.old) (in_progress_of self.now) }
         ensures { (arguments : operations.CommitArguments)
@@ -105,7 +105,7 @@ fn tell_bytes(data: &[u8])
     ensures { are_bytes «data».now ≡ true }
 {}
 
-/// Whether the bytes are to be on the device before the answer.
+/// Whether the bytes have to be on the device before the reply.
 pub(crate) fn is_to_be_stable(stable: StableHow) -> bool
     ensures { (stable_number stable == 0) ≡ not result }
 {
@@ -115,8 +115,8 @@ pub(crate) fn is_to_be_stable(stable: StableHow) -> bool
     }
 }
 
-/// The result of a WRITE in this run of the server: how many bytes it took. What is to be stable is
-/// on the device.
+/// The result of a WRITE in this run of the server: how many bytes it took. What has to be stable
+/// is on the device.
 fn written(run: u32, stable: StableHow, count: u32) -> Outcome<'static>
     ensures { IsShortOutcome (written_answer run (stable_number stable) count) result }
 {
@@ -127,7 +127,7 @@ fn written(run: u32, stable: StableHow, count: u32) -> Outcome<'static>
     }))
 }
 
-/// How stable a WRITE that asks for this is answered to be: what is to be stable is on the device
+/// How stable the result of a WRITE that asks for this is: what has to be stable is on the device
 /// with all of the file's attributes.
 fn committed_as(stable: StableHow) -> StableHow
     ensures { stable_number result ≡ committed_as (stable_number stable) }

@@ -7,7 +7,7 @@ use std::io::ErrorKind;
 #[derive(Clone, Copy, PartialEq, Eq)]
 pub enum Admission {
     /// All, as they come: up to 16 have places, and others wait at the door. A failure of the
-    /// listening socket is borne.
+    /// listening socket is tolerated.
     Together,
     /// One after the other, `left` more of them, while others wait in the system. Serving ends with
     /// the last one, and by a failure of the listening socket.
@@ -42,7 +42,7 @@ impl Admission {
     pub fn ends_by(self, error: &io::Error) -> bool {
         match self {
             Admission::Together => false,
-            // Of that only one connection is lost.
+            // ConnectionAborted loses only one connection.
             Admission::InTurn { .. } => error.kind() != ErrorKind::ConnectionAborted,
         }
     }

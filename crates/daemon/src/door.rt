@@ -12,7 +12,7 @@ use std::net::{Net, SocketAddr};
 use std::process::Process;
 use std::{env, io, net, process};
 
-/// The socket that a service manager hands over is this descriptor; variables have how many there
+/// The socket that a service manager hands over is this descriptor; variables say how many there
 /// are, and for which process (sd_listen_fds(3)).
 const HANDED_OVER: i32 = 3;
 
@@ -20,7 +20,7 @@ const HOW_MANY: &str = "LISTEN_FDS";
 
 const FOR_WHOM: &str = "LISTEN_PID";
 
-/// How many connections wait for a place, beyond which one is closed.
+/// How many connections may wait for a place; beyond this, one is closed.
 const MAX_WAITING: usize = 16;
 
 /// The listening socket, and the connections that wait for a place.
@@ -80,7 +80,7 @@ impl Door {
             .register(&mut self.listener, token, Interest::READABLE)
     }
 
-    /// Where it listens.
+    /// The address at which it listens.
     pub fn address(&self) -> io::Result<SocketAddr> {
         self.listener.local_addr()
     }
@@ -167,7 +167,7 @@ impl Door {
 }
 
 /// Whether the environment has this number under the name. A process inherits the variables of the
-/// one that started it, and not what stood at its descriptors.
+/// one that started it, but not what was at its descriptors.
 fn has_number<R: Env + AllocGlobal>(rt: &R, name: &str, number: u32) -> bool {
     match env::var(rt, name) {
         Ok(word) => matches!(word.as_str().parse::<u32>(), Ok(found) if found == number),

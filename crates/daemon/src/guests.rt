@@ -3,7 +3,7 @@
 use std::alloc::Global;
 use std::net::{IpAddr, SocketAddr};
 
-/// Ports below this one are those that a system gives its administrator's programs only.
+/// Ports below this one are those that a system gives only to its administrator's programs.
 const FIRST_COMMON_PORT: u16 = 1024;
 
 const BITS_OF_V4: u32 = 32;
@@ -110,7 +110,7 @@ fn length_of(address: IpAddr) -> u32 {
     }
 }
 
-/// Whether two addresses are the same but for the last bits.
+/// Whether two addresses are the same except for the last `last` bits.
 fn agree(one: u128, other: u128, last: u32) -> bool {
     match (one ^ other).checked_shr(last) {
         Some(front) => front == 0,

@@ -8,7 +8,8 @@ use std::io;
 use std::net::{Net, SocketAddr};
 use std::time::{Duration, Instant};
 
-/// By which tokens the system reports a visitor that waits, and changes of the visitor's stream.
+/// The tokens by which the system reports a visitor that waits, and changes of the visitor's
+/// stream.
 pub const MONITOR: Token = Token(usize::MAX - 1);
 
 pub const VISITOR: Token = Token(usize::MAX - 2);
@@ -53,7 +54,7 @@ impl Monitor {
         })
     }
 
-    /// Where it listens.
+    /// The address at which it listens.
     pub fn address(&self) -> io::Result<SocketAddr> {
         self.listener.local_addr()
     }
@@ -70,8 +71,8 @@ impl Monitor {
         }
     }
 
-    /// Reads or writes once. At [`Step::Asks`] the visitor wants the page, which [`Monitor::give`]
-    /// takes.
+    /// Reads or writes once. At [`Step::Asks`] the visitor asks for the page, which
+    /// [`Monitor::give`] takes.
     pub fn step(&mut self, poll: &Poll, now: Instant) -> Step {
         self.end_slow(now);
         if self.visit.is_none() {

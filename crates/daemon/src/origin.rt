@@ -2,7 +2,7 @@
 
 use std::net::IpAddr;
 
-/// The bits of an IPv6 address that one machine may have as it likes.
+/// The bits of an IPv6 address that one machine may choose freely.
 const HOST_BITS: u32 = 64;
 
 /// An IPv4 address, or the first 64 bits of an IPv6 address: one machine may have all the others.
@@ -13,7 +13,7 @@ pub enum Origin {
 }
 
 impl Origin {
-    /// Where a connection from this address comes from.
+    /// The origin of a connection from this address.
     pub fn of(address: IpAddr) -> Origin {
         match address.to_canonical() {
             IpAddr::V4(address) => Origin::V4(address.to_bits()),

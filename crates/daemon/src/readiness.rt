@@ -29,8 +29,9 @@ pub fn report_ready<R: Net + Env + AllocGlobal>(rt: &R) {
     }
 }
 
-/// Makes this the address of a path. How many of its bytes count; None if the path is too long. A
-/// path that begins with `@` is of the abstract namespace, whose names begin with NUL (unix(7)).
+/// Makes this the address of a path. Returns how many of its bytes count; None if the path is too
+/// long. A path that begins with `@` is of the abstract namespace, whose names begin with NUL
+/// (unix(7)).
 fn put_address(address: &mut [u8; c::_SS_SIZE], path: &[u8]) -> Option<u32> {
     if path.is_empty() || path.len() >= PATH_BYTES {
         return None;

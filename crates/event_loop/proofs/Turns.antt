@@ -32,7 +32,7 @@ none_of_two : (is_this : Bool) (this other : Option Step) → (IsPaused this →
 none_of_two true this other one two = one
 none_of_two false this other one two = two
 
--- so many keys have had a step, and whether there was memory for each
+-- the keys below the count have had a step, and whether there was memory for each
 pub record SoFar {D S : Type 0} {g : Ghosts D} {h : stream.Ghosts S} (keeps : Type 0) (old now : Peers D S g h) (count : ℕ) (had_memory : Bool) : Type 0 where
   pub round : IsRound keeps old.server (get old.peers) count now.server (get now.peers)
   pub awake : had_memory ≡ true → (key : ℕ) → IsPaused (step_of round key) → ⊥

@@ -12,7 +12,7 @@ use std::num::NonZeroUsize;
 use system::Refused;
 
 /// How many of the device's sectors are kept in memory, 16 MB: sixteen peers work on more than a
-/// journal keeps by itself.
+/// journal keeps by default.
 const CACHED_SECTORS: usize = 4096;
 
 /// Mounts the device's volume.

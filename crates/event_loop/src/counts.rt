@@ -12,7 +12,7 @@ pub struct Counts {
     pub accepted: u64,
     pub refused: u64,
     pub closed: u64,
-    /// Requests that were answered, and among them those whose last operation is to come again.
+    /// Requests that were replied to, and among them those whose last operation is to come again.
     pub answered: u64,
     pub exchange_ids_delayed: u64,
     pub create_sessions_delayed: u64,
@@ -23,7 +23,7 @@ pub struct Counts {
     pub changes: u64,
     /// Steps of peers, flushes and checkpoints in which the device was synced.
     pub flushes: u64,
-    /// When a request was answered last.
+    /// When a request was last replied to.
     pub last_answer: Option<Instant>,
     /// Bytes that came and went.
     pub bytes: Bytes,

@@ -1,5 +1,5 @@
 //! What the loop has besides the server and its peers: their sockets, what was counted, and what
-//! the operator was told.
+//! was printed for the operator.
 
 ghost use Rattle.std.specs.Prelude.{◌≡◌, IfOk};
 ghost use Rattle.event_loop.specs.Runs.{pace_after};
@@ -36,7 +36,7 @@ pub struct Desk {
     reminders: Reminders,
     /// Whether a client could have a persistent session, as far as the operator knows.
     has_seat: bool,
-    /// Since when no peer has been there, where there was one in this run.
+    /// Since when no peer has been there, if there was one in this run.
     alone_since: Option<Instant>,
 }
 
@@ -82,8 +82,8 @@ impl Desk {
         counts
     }
 
-    /// Serves whoever reads the counts: one read or one write. Without memory for the page the
-    /// visitor asks again.
+    /// Serves whoever reads the counts: one read or one write. If there is no memory for the page,
+    /// the visitor has to ask again.
     pub fn show_counts<D: Watched, S: Socket>(
         &mut self,
         peers: &Peers<D, S>,
@@ -161,8 +161,8 @@ impl Desk {
         lines.print(&Line::Comes { from, taken }, now);
     }
 
-    /// Has a connection that was not admitted for want of memory wait on, under the number that it
-    /// had.
+    /// Has a connection that was not admitted because memory ran out wait on, under the number that
+    /// it had.
     ///
     /// # Errors
     /// The server has refused it for another reason.

@@ -36,7 +36,7 @@ impl Glance {
 /// commit record and the first sector.
 const RESTING_WRITES: u64 = 2;
 
-/// Whether a mount has written more than that, where nothing else has written yet.
+/// Whether a mount has written more than that, if nothing else has written yet.
 pub fn has_replayed<D: Watched>(server: &Server<D>) -> bool {
     match server.device().calls() {
         Some(calls) => RESTING_WRITES < calls.writes,

@@ -26,13 +26,13 @@ use std::os::fd::AsRawFd;
 use std::time::{Clock, Duration, Instant};
 use system::Refused;
 
-/// The pause after want of memory, or of what the system gives.
+/// The pause after memory, or something else that the system gives, has run out.
 const PAUSE_MILLIS: u64 = 10;
 
-/// How long nothing comes before the server uses the time.
+/// How long nothing has to arrive before the server uses the time.
 const QUIET_MILLIS: u64 = 1;
 
-/// How often it is looked at whether a peer has been quiet for so long that another one may have
+/// How often the loop looks whether a peer has been quiet for long enough that another one may have
 /// its place.
 const GLANCE_SECONDS: u64 = 1;
 
@@ -216,7 +216,7 @@ impl<D: Watched, S: Socket> Hub<D, S> {
         calls::restart_count(self.peers.server())
     }
 
-    /// Where the door listens.
+    /// The address at which the door listens.
     pub fn address(&self) -> Result<SocketAddr, Refused> {
         Ok(self.desk.sockets.address()?)
     }
@@ -265,7 +265,7 @@ impl<D: Watched, S: Socket> Hub<D, S> {
     /// The same without a client, a session, a seat or an open: a new run on the same device.
     ///
     /// # Errors
-    /// Those of a mount; Io where the clock fails.
+    /// Those of a mount; Io if the clock fails.
     pub fn begin_anew<R, E>(self, rt: &R, lines: &mut Lines<E>) -> Result<Hub<D, S>, Refused>
     where
         R: Clock + AllocGlobal,
@@ -310,9 +310,9 @@ impl<D: Watched, S: Socket> Hub<D, S> {
         Ok(End::Alone)
     }
 
-    /// Waits for the system for so long at most; then connections that wait are given places, each
-    /// peer has steps, with one operation of a request at most, and what waits is flushed. Returns
-    /// how soon to go on.
+    /// Waits for the system, at most for this time; then connections that wait are given places,
+    /// each peer has steps, with at most one operation of a request, and what waits is flushed.
+    /// Returns how soon to go on.
     ///
     /// # Errors
     /// What ends the program: Device if the device fails; Io if the clock or epoll does; Io and
@@ -334,8 +334,8 @@ impl<D: Watched, S: Socket> Hub<D, S> {
         Ok(self.pace)
     }
 
-    /// How long it may wait for the system: zero, but for a pace that goes, where it was alone for
-    /// so long that it is to forget its clients.
+    /// How long it may wait for the system. Unless the pace is `Goes`, this is zero only if no peer
+    /// was there for so long that the clients are to be forgotten.
     fn timeout(&self, now: Instant) -> Option<Duration> {
         match self.pace {
             Pace::Goes => Some(Duration::ZERO),
@@ -348,13 +348,13 @@ impl<D: Watched, S: Socket> Hub<D, S> {
         }
     }
 
-    /// Whether a run ends where it may wait for so long: no peer was there for as long as was given.
+    /// Whether a run that may wait for this time ends: no peer was there for as long as was given.
     fn is_forgotten(&self, timeout: Option<Duration>) -> bool {
         self.pace != Pace::Goes && timeout == Some(Duration::ZERO)
     }
 
-    /// Makes a checkpoint where nothing came while it slept, if something has changed since the
-    /// last one.
+    /// Makes a checkpoint if nothing came while it slept and something has changed since the last
+    /// one.
     fn rest(&mut self, has_heard: bool) -> Result<(), Refused>
         ensures { RunsOn D.keeps_word self.old.peers self.new.peers }
     {
@@ -392,7 +392,8 @@ impl<D: Watched, S: Socket> Hub<D, S> {
         Ok(pace.or(sent.pace))
     }
 
-    /// Whoever reads the counts is served, and who comes; a connection that waits is given a place.
+    /// Whoever reads the counts is served, and so is whoever connects; a connection that waits is
+    /// given a place.
     fn meet<E>(
         &mut self,
         alloc: Global,
@@ -458,7 +459,7 @@ impl<D: Watched, S: Socket> Hub<D, S> {
         Ok(sweep)
     }
 
-    /// Keeps what waits, all of it with one flush. Whether something waited.
+    /// Keeps what waits, all of it with one flush. Returns whether something waited.
     fn flush(&mut self) -> Result<bool, Refused>
         ensures { RunsOn D.keeps_word self.old.peers self.new.peers }
     {
@@ -494,8 +495,8 @@ impl<D: Watched, S: Socket> Hub<D, S> {
         }
     }
 
-    /// Has the connection of this number that waits served. Where there is no memory for it, it
-    /// waits on.
+    /// Has the connection of this number that waits served. If there is no memory for it, it waits
+    /// on.
     fn admit<E>(
         &mut self,
         alloc: Global,
@@ -629,7 +630,7 @@ where
 }
 
 /// Prints what is served, frees the seats of earlier runs if the settings say so, and prints whose
-/// seats are taken, and where the door is.
+/// seats are taken, and the door's address.
 fn begin_first_run<R, D, E>(
     rt: &R,
     server: &mut Server<D>,
@@ -666,7 +667,7 @@ where
     lines.print(&Line::Begins(start), now);
 }
 
-/// Prints whose seats are taken, and where the door is.
+/// Prints whose seats are taken, and the door's address.
 fn print_places<D, E>(
     server: &Server<D>,
     desk: &Desk,

@@ -1,5 +1,5 @@
-//! A server and its peers, up to 16 at a time or one after the other, in one thread. No socket is
-//! waited for: the loop over them sleeps where none has anything to do.
+//! A server and its peers, up to 16 at a time or one after the other, in one thread. No call waits
+//! for one socket: the loop over them sleeps if none has anything to do.
 #![tactic(auto)]
 
 mod calls;

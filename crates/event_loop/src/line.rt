@@ -10,7 +10,7 @@ use system::Refused;
 /// The most bytes of a client's owner id that a line has.
 const MAX_OWNER_BYTES: usize = 64;
 
-/// How grave a line is, as syslog(3) has it.
+/// How grave a line is, in the levels of syslog(3).
 #[derive(Clone, Copy, PartialEq, Eq)]
 pub enum Gravity {
     /// Something failed.
@@ -25,7 +25,7 @@ pub enum Gravity {
 pub enum Line<'a> {
     /// Serving begins.
     Begins(Start<'a>),
-    /// Where connections are accepted.
+    /// The addresses at which connections are accepted.
     Listens(Listening),
     /// A new run has begun.
     Run(u32),
@@ -88,11 +88,11 @@ pub struct Start<'a> {
     pub replayed: bool,
 }
 
-/// Where the server listens.
+/// The addresses at which the server listens.
 #[derive(Clone, Copy)]
 pub struct Listening {
     pub address: SocketAddr,
-    /// Where it serves counts, if it does.
+    /// The address at which it serves counts, if it does.
     pub metrics: Option<SocketAddr>,
 }
 
@@ -129,7 +129,7 @@ impl Line<'_> {
 }
 
 impl Gravity {
-    /// What a line begins with where a service manager reads it (sd-daemon(3)).
+    /// The prefix of a line if a service manager reads it (sd-daemon(3)).
     pub fn prefix(self) -> &'static str {
         match self {
             Gravity::Failure => "<3>",
@@ -241,7 +241,7 @@ fn show_refused<W: Write>(f: &mut Formatter<W>, from: SocketAddr, why: &str) -> 
     write!(f, "refused connection from {from}: {why}")
 }
 
-/// Bytes as text: others than those of printed ASCII by their numbers.
+/// Bytes as text: bytes other than printed ASCII are shown by their numbers.
 #[derive(Clone, Copy)]
 struct Escaped<'a>(&'a [u8]);
 

@@ -1,5 +1,5 @@
-//! Lines for the operator on standard error. None is waited for: one that the system does not take
-//! at once is left out, and so are those of a flood.
+//! Lines for the operator on standard error. The loop waits for none: one that the system does not
+//! take at once is left out, and so are those of a flood.
 
 use crate::line::{Gravity, Line};
 use libc::net as c;
@@ -18,7 +18,7 @@ const MAX_LINES: u32 = 10;
 /// systemd.exec(5)).
 const READ_BY_JOURNAL: [&str; 2] = ["JOURNAL_STREAM", "INVOCATION_ID"];
 
-/// Where lines go, and how many have gone.
+/// The file to which lines go, and how many have gone.
 #[derive(Drop)]
 pub struct Lines<E: Write + Drop> {
     alloc: Global,

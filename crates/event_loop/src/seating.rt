@@ -37,7 +37,7 @@ fn seat<D: Device>(server: &Server<D>, number: usize) -> Option<&Seat> {
     server.seats().places.get(number)?.as_ref()
 }
 
-/// Prints of each seat that is taken whose it is.
+/// Prints, for each seat that is taken, whose it is.
 pub fn print_seats<D, E>(server: &Server<D>, lines: &mut Lines<E>, now: Instant)
 where
     D: Device,
@@ -70,7 +70,7 @@ pub fn are_in_use<D: Device>(server: &Server<D>) -> bool {
     })
 }
 
-/// Frees the seats whose sessions this run has not. If the server refuses that, the operator is
+/// Frees the seats whose sessions are not of this run. If the server refuses that, the operator is
 /// warned.
 ///
 /// # Errors
@@ -102,7 +102,8 @@ where
     calls::hangup(server, conn, moment)
 }
 
-/// Frees the seat of this number if its session is not of this run. The status of the reply, or OK.
+/// Frees the seat of this number if its session is not of this run. Returns the status of the
+/// reply, or OK.
 fn free_dead_seat<D: Device>(
     alloc: Global,
     server: &mut Server<D>,
@@ -118,7 +119,7 @@ fn free_dead_seat<D: Device>(
     }
 }
 
-/// The session whose seat this is, if this run has it not.
+/// The session whose seat this is, if it is not of this run.
 fn dead_session<D: Device>(server: &Server<D>, number: usize) -> Option<[u8; 16]> {
     let seat = seat(server, number)?;
     if server.has_session(&seat.session) {
@@ -128,7 +129,7 @@ fn dead_session<D: Device>(server: &Server<D>, number: usize) -> Option<[u8; 16]
     }
 }
 
-/// Destroys a session over this connection. The status of the reply.
+/// Destroys a session over this connection. Returns the status of the reply.
 fn destroy<D: Device>(
     alloc: Global,
     server: &mut Server<D>,
@@ -208,7 +209,7 @@ fn write_words(call: &mut Writer, words: &[u32]) -> Result<(), Refusal> {
     Ok(())
 }
 
-/// The run whose session has this id, of which that is the front.
+/// The run whose session has this id: the number in its first four bytes.
 fn run_of(session: &[u8; 16]) -> u32 {
     let [a, b, c, d, ..] = *session;
     u32::from_be_bytes([a, b, c, d])

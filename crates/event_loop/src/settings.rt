@@ -17,7 +17,7 @@ use system::Refused;
 pub struct Settings {
     /// After how long without a peer a new run begins, without clients; None: never.
     pub forget_after: Option<Duration>,
-    /// The name by which clients tell this server from others; the standard one if it is empty.
+    /// The name by which clients know this server from others; the standard one if it is empty.
     pub name: Vec<u8>,
     /// When the changes of a turn are kept on the device.
     pub keeping: Keeping,
@@ -27,7 +27,7 @@ pub struct Settings {
     /// Whether the seats that the last runs have left are freed at the start: their clients get new
     /// sessions.
     pub free_seats: bool,
-    /// Whether full tables give up unconfirmed records and dead seats for who asks.
+    /// Whether full tables give up unconfirmed records and dead seats for whoever asks.
     pub yields_when_full: bool,
     /// Which connections are accepted, and when.
     pub admission: Admission,
@@ -35,7 +35,7 @@ pub struct Settings {
     pub guests: Guests,
     /// Whether only failures are printed.
     pub quiet: bool,
-    /// Where counts are served; None: nowhere.
+    /// The address at which counts are served; None: none are.
     pub metrics: Option<SocketAddr>,
 }
 

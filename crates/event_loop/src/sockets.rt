@@ -21,8 +21,8 @@ use system::Refused;
 /// The most changes that the system reports at once.
 const MAX_EVENTS: usize = 64;
 
-/// By how many places the address that has most of them is ahead of the one that is to get one, so
-/// that it gives one away though its connections are in use: it has no fewer then than the other.
+/// By how many places the address that has most of them has to be ahead of the one that is to get
+/// one, to give one away though its connections are in use: it has no fewer then than the other.
 const AHEAD: usize = 2;
 
 const DOOR: Token = Token(usize::MAX);
@@ -79,7 +79,7 @@ impl Place {
     }
 }
 
-/// The peer of this key gives way to a connection: where both came from.
+/// The peer of this key gives way to a connection: the addresses of both.
 #[derive(Clone, Copy)]
 struct Way {
     key: usize,
@@ -121,12 +121,12 @@ impl Sockets {
         })
     }
 
-    /// Where the door listens.
+    /// The address at which the door listens.
     pub fn address(&self) -> io::Result<SocketAddr> {
         self.door.address()
     }
 
-    /// Where the door listens, and where counts are served, if they are.
+    /// The addresses at which the door listens, and at which counts are served, if they are.
     pub fn listening(&self) -> io::Result<Listening> {
         let metrics = match &self.monitor {
             Some(monitor) => Some(monitor.address()?),
@@ -138,8 +138,8 @@ impl Sockets {
         })
     }
 
-    /// Waits for the system, and wakes the door and the peers of which it reports changes. Whether
-    /// it reports any.
+    /// Waits for the system, and wakes the door and the peers of which it reports changes. Returns
+    /// whether it reports any.
     pub fn hear<D: Device, S: Socket>(
         &mut self,
         peers: &mut Peers<D, S>,
@@ -246,7 +246,7 @@ impl Sockets {
         self.places.iter().filter(|place| place.is_some()).count()
     }
 
-    /// Whether no connection more has a place.
+    /// Whether there is no place for another connection.
     pub fn are_full(&self) -> bool {
         self.taken() >= MAX_CONNECTIONS
     }

@@ -22,9 +22,9 @@ pub struct Visit<S: Drop> {
 enum Stage {
     /// These bytes of the request's head have come.
     Reads { head: Vec<u8>, count: usize },
-    /// The page of metrics is wanted.
+    /// The page of metrics is asked for.
     Asks,
-    /// So many bytes of the reply are written.
+    /// `written` bytes of the reply are written.
     Writes { reply: String, written: usize },
     Ended,
 }
@@ -139,7 +139,7 @@ fn receive<S: Read>(
     Ok(read_head(head.get(..*count).unwrap_or_default()))
 }
 
-/// Writes once what is left of the reply. Whether all of it is written.
+/// Writes once what is left of the reply. Returns whether all of it is written.
 fn send<S: Write>(stream: &mut S, reply: &str, written: &mut usize) -> io::Result<bool> {
     let rest = reply.as_bytes().get(*written..).unwrap_or_default();
     if rest.is_empty() {

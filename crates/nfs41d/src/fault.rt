@@ -24,7 +24,7 @@ pub enum Fault {
     /// Nothing was listed, read or put.
     #[error("{0}")]
     Archive(#[from] ArchiveFault),
-    /// What any program can fail by.
+    /// What any program can fail with.
     #[error("{0}")]
     Refused(#[from] Refused),
 }

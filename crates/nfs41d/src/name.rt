@@ -1,4 +1,4 @@
-//! The name that tells a server from others.
+//! The name that distinguishes a server from others.
 
 use crate::fault::{Fault, Usage};
 use libc::gethostname;
@@ -8,7 +8,7 @@ use std::fs::canonicalize;
 use std::rt::Files;
 use system::{Refused, open_refusal};
 
-/// The most bytes of a host's name, and a zero byte after it.
+/// The most bytes of a host's name, with a zero byte after it.
 const HOST_BYTES: usize = 65;
 
 /// Whether a server may have this name.

@@ -59,7 +59,7 @@ pub enum Request<'a> {
 pub struct Serving<'a> {
     /// The volume's.
     pub file: &'a str,
-    /// Where to listen; None: at the socket that a service manager hands over.
+    /// The address to listen at; None: the socket that a service manager hands over.
     pub address: Option<SocketAddr>,
     /// What distinguishes this server from others; None: the host and the file.
     pub name: Option<&'a str>,

@@ -55,7 +55,7 @@ fn door_of(rt: &HostRuntime, address: Option<SocketAddr>) -> Result<Door, Refuse
     }
 }
 
-/// What is served by which release.
+/// What is served, and by which release.
 fn title_of(rt: &HostRuntime, file: &str, sectors: u32) -> Result<String, Refused> {
     // A mount brings a volume of an older layout to this one.
     let layout = VersionNumber::CURRENT.number();

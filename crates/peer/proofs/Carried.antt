@@ -72,7 +72,7 @@ carries_then {h = h} {keeps = keeps} {moments = moments} {between = between} {ne
   ends = λ is. one.ends (two.ends is);
 }
 
--- at moments of which all are of these
+-- at moments that are all among these
 pub carries_any : {D S : Type 0} {g : Ghosts D} {h : stream.Ghosts S} {keeps : Type 0} {old new : Server D g} (few many : ℕ → Type 0) (before after : Peer S h) (tally : Tally)
     → ((now : ℕ) → few now → many now) → Carries keeps few old new before after tally → Carries keeps many old new before after tally
 carries_any few many before after tally shows carries = record {
@@ -139,7 +139,7 @@ turn_parts old new peer tally faults.Memory refuses = tt
 turn_parts old new peer tally faults.Device refuses = refuses.2
 turn_parts old new peer tally faults.Full refuses = absurd refuses
 
--- a reply that there is none of
+-- a reply that is refused
 pub output_parts : {D S : Type 0} {g : Ghosts D} {h : stream.Ghosts S} (old new : Server D g) (peer : Peer S h) (tally : Tally) (fault : ServerFault)
     → RefusesOutput old new peer.conn fault → Parts tally new peer (parting_of fault)
 output_parts old new peer tally fault refuses =
@@ -200,7 +200,7 @@ works_after a b peer (Wrote some) = Wrote (simp length-append (omega arith))
 works_after a b peer (Read_broken is) = Read_broken is
 works_after a b peer (Write_broken is) = Write_broken is
 
--- calls alone are made: no byte comes, and none is written
+-- only calls are made: no byte comes, and none is written
 carries_calls : {D S : Type 0} {g : Ghosts D} {h : stream.Ghosts S} {keeps : Type 0} {moments : ℕ → Type 0} {old new : Server D g} (before after : Peer S h)
     (shown : List (List ℕ)) (taken : List ℕ) (turns takes : ℕ) → Goes keeps old new (IsTallied moments before.conn (record nothing { shown = shown; taken = taken; turns = turns; takes = takes }))
     → taken ++ after.inbox ≡ before.inbox → after.stream ≡ before.stream → after.conn ≡ before.conn → unsent after.stage ≡ unsent before.stage
@@ -327,7 +327,7 @@ sends_none {h = h} before after result kept left broken over same stays = record
   stays = stays;
 }
 
--- a reply of which the front goes out
+-- a reply of which a prefix goes out
 pub sends_on : {D S : Type 0} {g : Ghosts D} {h : stream.Ghosts S} {keeps : Type 0} {moments : ℕ → Type 0} (server : Server D g) (before after : Peer S h)
     (result : Result Pace Parting) → (HasBytes before → ⊥) → Sends before after result → Advances keeps moments server server before after result
 sends_on {h = h} server before after result none sends =
@@ -528,7 +528,7 @@ ends_again {D = D} {g = g} {h = h} {keeps = keeps} {moments = moments} {between 
   stage = stage;
 }
 
--- where it goes on at once, a signal came
+-- if it goes on at once, a signal came
 pub interrupted : (told : Option ErrorKind → Bool) (kind : ErrorKind) (waits : Bool) (pace : Pace) (left : Result Pace Parting) → left ≡ Ok pace
     → kind ≡ (if waits then kinds.WouldBlock else kinds.Interrupted) → pace ≡ (if not waits then paces.Goes else paces.Sleeps)
     → told (Some kind) ≡ true → left ≡ Ok paces.Goes → told (Some kinds.Interrupted) ≡ true

@@ -48,7 +48,7 @@ goes_on {old = old} {between = between} {new = new} {first = first} {then = then
       };
 }
 
--- calls of one kind are of another
+-- calls of one kind are calls of another
 pub goes_as : {D : Type 0} {g : Ghosts D} {keeps : Type 0} {old new : Server D g} {first kind : List ServerCall → Type 0}
     → ((calls : List ServerCall) → first calls → kind calls) → Goes keeps old new first → Goes keeps old new kind
 goes_as {old = old} {new = new} {first = first} shows goes = record {
@@ -85,7 +85,7 @@ one_call {old = old} {new = new} event said up serves = record {
       };
 }
 
--- none, where nothing changed
+-- none, if nothing changed
 pub untouched : {D : Type 0} {g : Ghosts D} {keeps : Type 0} {old new : Server D g}
     → IsUntouched (view old) (view new) → Goes keeps old new IsNone
 untouched {old = old} {new = new} same = record {
@@ -101,7 +101,7 @@ untouched {old = old} {new = new} same = record {
       };
 }
 
--- a server that is down is none to speak of
+-- nothing is claimed of a server that is down
 pub failed_call : {D : Type 0} {g : Ghosts D} {keeps : Type 0} {old new : Server D g} {kind : List ServerCall → Type 0}
     → (volume_of new).is_down ≡ true → Goes keeps old new kind
 failed_call down = record {
@@ -124,7 +124,7 @@ pub still_up : {D : Type 0} {g : Ghosts D} (old new : Server D g) → files_of n
     → (volume_of new).is_down ≡ false → (volume_of old).is_down ≡ false
 still_up old new files up = rw (sym (same_volume old new files)) up
 
--- What each call answers
+-- What each call returns
 
 pub fed : {D : Type 0} {g : Ghosts D} {keeps : Type 0} (old new : Server D g) (connection : ℕ) (piece : List ℕ) (result : Result ℕ ServerFault)
     → files_of new ≡ files_of old
@@ -226,7 +226,7 @@ hung_up {old = old} {new = new} connection now up turning = record {
       };
 }
 
--- and one that ended within its turns, for want of memory
+-- and one that ended within its turns, as memory ran out
 pub turned_only : {D : Type 0} {g : Ghosts D} {keeps : Type 0} {old new : Server D g} (connection now : ℕ)
     → (volume_of old).is_down ≡ false
     → (keeps → Turning old connection now (λ between. (after : List Left) × (between ≡ seen_with new after)))
@@ -250,7 +250,7 @@ up_by : (down : Bool) → (down ≡ true → ⊥) → down ≡ false
 up_by true never = absurd (never refl)
 up_by false never = refl
 
--- what a hang-up answers: the server was up
+-- what a hang-up returns: the server was up
 pub hangs_up : {D : Type 0} {g : Ghosts D} {keeps : Type 0} (old new : Server D g) (connection now : ℕ) (result : Result Unit ServerFault)
     → ((volume_of old).is_down ≡ true → IsErrOf result faults.Device × IsUntouched (view old) (view new))
     → (keeps → OnOk result (Turning old connection now (λ between. (after : List Left) × Does between (HangsUp connection) Done (seen_with new after))))

@@ -123,7 +123,7 @@ module _ (world : World) (here number : ℕ) (there : IsThere number world) wher
   changed change None = there
   changed change (Some connection) = put world.connections here number (change connection) there
 
--- Each event but its hang-up
+-- Each event except its hang-up
 
 abbrev pub Spares : ℕ → Event → Type 0
 Spares number (HangsUp connection) = number ≢ connection

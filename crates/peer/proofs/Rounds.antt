@@ -109,7 +109,7 @@ module _ {D S : Type 0} {g : Ghosts D} {h : stream.Ghosts S} {keeps : Type 0} (m
   step_goes : GoesOn keeps old new peer left
   step_goes = goes_by left.stage refl
 
--- at moments that need not be told
+-- at any moments
 end_any : (moments : ℕ → Type 0) (connection : ℕ) (calls : List ServerCall) → IsEnd moments connection calls → IsEnd AnyMoment connection calls
 end_any moments connection calls (inl none) = inl none
 end_any moments connection calls (inr (now, shows, ends)) = inr (now, tt, ends)

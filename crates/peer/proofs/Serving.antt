@@ -41,7 +41,7 @@ with_changed old key peer = record {
   others = λ other apart. rw (ne_eqb other key apart) refl;
 }
 
--- what is put in the place of a peer is so too where another one was put there before
+-- it is the same change if another peer was put at the key before
 changed_again : {S : Type 0} {h : stream.Ghosts S} (old new : ℕ → Option (Peer S h)) (key : ℕ) (between : Peer S h) (slot : Option (Peer S h))
     → IsChanged old new key slot → IsChanged (with_peer old key between) new key slot
 changed_again old new key between slot is = record {

@@ -18,7 +18,7 @@ on-append : (moments : ℕ → Type 0) (connection : ℕ) (more calls : List Ser
 on-append moments connection [] calls more rest = rest
 on-append moments connection (call ∷ more) calls more_on rest = (more_on.0, on-append moments connection more calls more_on.1 rest)
 
--- at moments of which all are of these
+-- at moments that are all among these
 on-any : (few many : ℕ → Type 0) (connection : ℕ) → ((now : ℕ) → few now → many now) → (call : ServerCall) → IsOn few connection call → IsOn many connection call
 on-any few many connection shows (Did (Arrives number piece) said) on = on
 on-any few many connection shows (Did (Turns number now) said) on = (on.0, shows now on.1)
@@ -77,7 +77,7 @@ tallies_then moments connection a b before after =
     goes_on {first = IsTallied moments connection a} {then = IsTallied moments connection b} {kind = IsTallied moments connection (joined a b)}
     (tallied_both moments connection a b) before after
 
--- at moments of which all are of these
+-- at moments that are all among these
 pub tallies_any : {D : Type 0} {g : Ghosts D} {keeps : Type 0} {old new : Server D g} (few many : ℕ → Type 0) (connection : ℕ) (tally : Tally)
     → ((now : ℕ) → few now → many now) → Goes keeps old new (IsTallied few connection tally) → Goes keeps old new (IsTallied many connection tally)
 tallies_any few many connection tally shows goes =

@@ -52,7 +52,7 @@ IsHangUp connection now [] = ⊥
 IsHangUp connection now (call ∷ calls) =
     (call ≡ Did (HangsUp connection) Done) × AreTurns connection now calls
 
--- The end of a connection at this moment: a hang-up, or for want of memory turns alone, or nothing
+-- The end of a connection at this moment: a hang-up, or if memory runs out only turns, or nothing
 abbrev pub IsEndAt : (connection now : ℕ) → List ServerCall → Type 0
 IsEndAt connection now calls = IsHangUp connection now calls ⊎ AreTurns connection now calls
 

@@ -7,7 +7,7 @@ use Rattle.peer.specs.declared.peer.Stage.{Stage}
 use Rattle.peer.specs.declared.peer.Stage.TheVariants as stages
 use Rattle.peer.specs.declared.stream.Stream as stream
 
--- one of which nothing has come yet
+-- one to which nothing has come yet
 pub record PeerBegins {S : Type 0} {h : stream.Ghosts S} (peer : Peer S h) : Type 0 where
   pub gathers : peer.stage ≡ stages.Gathers
   pub can_read : peer.can_read ≡ true
@@ -15,7 +15,7 @@ pub record PeerBegins {S : Type 0} {h : stream.Ghosts S} (peer : Peer S h) : Typ
   pub no_half : peer.has_half ≡ false
   pub none_answered : peer.answered ≡ None
 
--- what stays but for steps
+-- what stays the same, except in a step
 pub record IsSame {S : Type 0} {h : stream.Ghosts S} (before after : Peer S h) : Type 0 where
   pub conn : after.conn ≡ before.conn
   pub stream : after.stream ≡ before.stream

@@ -150,14 +150,14 @@ pub data HasWorked {S : Type 0} {h : stream.Ghosts S} (peer : Peer S h) (tally :
 
 -- Sleep
 
--- it gathers, no byte waits, and its last read told that none had come
+-- it gathers, no byte waits, and its last read reported that none had come
 pub record WaitsToRead {S : Type 0} {h : stream.Ghosts S} (peer : Peer S h) : Type 0 where
   pub gathers : peer.stage ≡ stages.Gathers
   pub none : peer.inbox ≡ []
   pub noted : peer.can_read ≡ false
   pub told : h.read_told peer.stream (Some kinds.WouldBlock) ≡ true
 
--- a reply goes out, and its last write told that there was no room
+-- a reply goes out, and its last write reported that there was no room
 pub record WaitsToWrite {S : Type 0} {h : stream.Ghosts S} (peer : Peer S h) : Type 0 where
   pub reply : List ℕ
   pub replies : peer.stage ≡ stages.Replies reply
@@ -238,7 +238,7 @@ pub record GivesNoTurn {D S : Type 0} {g : Ghosts D} {h : stream.Ghosts S} (keep
   pub works : result ≡ Ok paces.Goes → HasWorked after tally
   pub parts : IfErr result (Parts tally new after)
 
--- of its reply it sends the front, once
+-- of its reply it sends a prefix, once
 pub record Sends {S : Type 0} {h : stream.Ghosts S} (before after : Peer S h)
     (result : Result Pace Parting) : Type 0 where
   pub written : List ℕ

@@ -1,4 +1,4 @@
--- What a stream's reads and writes tell.
+-- What a stream's reads and writes report.
 use Rattle.std.specs.Prelude.{ℕ, Bool, true, ◌≡◌, Option, Some, None, Result, Ok, Err}
 use Rattle.std.specs.IoError.{error_kind}
 use Rattle.std.specs.declared.io.Error.{Error}

@@ -57,7 +57,7 @@ pub fn take_output<D: Device>(
     server.take_output(conn)
 }
 
-/// Ends the connection at this moment, in nanoseconds since 1970. For want of memory it stays.
+/// Ends the connection at this moment, in nanoseconds since 1970. If memory runs out, it stays.
 pub fn hangup<D: Device>(server: &mut Server<D>, conn: usize, now: u64) -> Result<(), ServerFault>
     ensures ok { OnOk result (Goes D.keeps_word server.old server.new (IsHangUp conn now)) }
     ensures hung { Goes D.keeps_word server.old server.new (IsEndAt conn now) }

@@ -1,4 +1,4 @@
-//! The operations that are told to come again for want of room in a table of the server.
+//! The operations that are refused with DELAY because a table of the server has no room.
 
 use crate::ran::Ran;
 use crate::session_news::{SessionNews, read_news};
@@ -17,7 +17,7 @@ const ACCEPTED: u32 = 0;
 
 const SUCCESS: u32 = 0;
 
-/// An operation that wants room in a table which all clients share.
+/// An operation that needs room in a table that all clients share.
 #[derive(Clone, Copy, PartialEq, Eq)]
 pub enum Delayed {
     ExchangeId,
@@ -28,9 +28,9 @@ pub enum Delayed {
 /// What there is to know of a reply.
 #[derive(Clone, Copy)]
 pub struct Answered {
-    /// The operation that it tells to come again.
+    /// The operation that it refuses with DELAY.
     pub delayed: Option<Delayed>,
-    /// The status of the COMPOUND, if it answers one: that of the last result.
+    /// The status of the COMPOUND, if it is the reply to one: that of the last result.
     pub status: Option<u32>,
     /// The first result, if there is one.
     pub first: Option<Ran>,
@@ -53,7 +53,7 @@ impl Answered {
 }
 
 impl Delayed {
-    /// The operation that the reply of this record tells to come again. It is the last one.
+    /// The operation that the reply of this record refuses with DELAY. It is the last one.
     fn in_record(record: &[u8]) -> Option<Delayed> {
         if compound_status(record)? != Status::Delay.code() {
             return None;
@@ -79,7 +79,7 @@ impl Display for Delayed {
     }
 }
 
-/// The status of the COMPOUND that this record answers, if it answers one.
+/// The status of the COMPOUND that this record replies to, if it replies to one.
 pub fn compound_status(record: &[u8]) -> Option<u32> {
     read_status(&mut Reader::new(record)).ok()
 }
@@ -95,7 +95,7 @@ fn read_status(reply: &mut Reader<'_>) -> Result<u32, Refusal> {
     reply.read_u32()
 }
 
-/// What the first result says of a session, whose bytes after its status are these.
+/// What the first result says of a session, given its bytes after its status.
 fn news_in(first: Option<Ran>, body: &mut Reader<'_>) -> Option<SessionNews> {
     let first = first?;
     read_news(first.number, first.status, body).ok()?

@@ -56,7 +56,7 @@ impl Inbox {
         &self.bytes[self.start..self.end]
     }
 
-    /// Reads once from the stream, and answers how many bytes came.
+    /// Reads once from the stream, and returns how many bytes came.
     pub fn fill<S: Stream>(&mut self, stream: &mut S) -> io::Result<usize>
         requires { self.old ≡ [] }
         ensures ok { IfOk result (λ count. (length self.new ≡ count)
@@ -73,7 +73,7 @@ impl Inbox {
         Ok(self.end)
     }
 
-    /// The server took so many.
+    /// The server took `count` bytes.
     pub fn consume(&mut self, count: usize)
         ensures { self.new ≡ drop count self.old }
     {

@@ -6,7 +6,7 @@ ghost use Rattle.peer.specs.Paces.{sooner};
 /// How soon the loop goes on.
 #[derive(Clone, Copy, PartialEq, Eq)]
 pub enum Pace {
-    /// There is nothing to do before the system tells of a change.
+    /// There is nothing to do before the system reports a change.
     Sleeps,
     /// Something is tried again after a pause.
     Pauses,

@@ -21,8 +21,8 @@ use std::io::ErrorKind;
 use std::time::{Duration, Instant};
 use system::{Refused, WallClock, moment};
 
-/// For how many seconds a peer may be quiet while another one waits for its place, and where it has
-/// sent a part of a record.
+/// For how many seconds a peer may be quiet while another one waits for its place, and for how many
+/// if it has sent a part of a record.
 const PATIENCE_SECONDS: u64 = 60;
 
 const HALF_PATIENCE_SECONDS: u64 = 600;
@@ -38,13 +38,13 @@ pub struct Peer<S: Stream + Drop> {
     /// Whether a read may give something, and a write take something.
     can_read: bool,
     can_write: bool,
-    /// Whether the server has the front of a record.
+    /// Whether the server has a prefix of a record.
     has_half: bool,
-    /// When it was last heard, or took something, or was first given a reply.
+    /// When something last came from it, or it took something, or was first given a reply.
     heard: Instant,
     /// Its last reply, as long as nobody has asked for it.
     answered: Option<Answered>,
-    // What is not tried again has told that it would wait.
+    // A read or a write that is not tried has last reported that it would wait.
     ghost dry: { can_read ≡ false → S.read_told stream (Some WouldBlock) ≡ true },
     ghost full: { can_write ≡ false → S.write_told stream (Some WouldBlock) ≡ true },
 }
@@ -52,7 +52,7 @@ pub struct Peer<S: Stream + Drop> {
 /// What is to be done next.
 #[derive(Drop)]
 enum Stage {
-    /// Bytes are wanted.
+    /// Bytes are needed.
     Gathers,
     /// The server has bytes: perhaps a whole request, which is given turns.
     Runs,
@@ -141,7 +141,7 @@ impl<S: Stream + Drop> Peer<S> {
         &self.stream
     }
 
-    /// The same, where it is a peer no longer.
+    /// The stream, once it is no longer that of a peer.
     pub fn into_stream(self) -> S
         ensures { result ≡ self.stream }
     {
@@ -149,7 +149,7 @@ impl<S: Stream + Drop> Peer<S> {
         stream
     }
 
-    /// Takes what the system told of the stream.
+    /// Takes what the system reported of the stream.
     pub fn wake(&mut self, can_read: bool, can_write: bool)
         ensures read { self.new.can_read ≡ (self.old.can_read || can_read) }
         ensures write { self.new.can_write ≡ (self.old.can_write || can_write) }
@@ -160,7 +160,7 @@ impl<S: Stream + Drop> Peer<S> {
         self.can_write |= can_write;
     }
 
-    /// For how long it has been quiet, where that is so long that another one may have its place: a
+    /// For how long it has been quiet, if that is long enough for another one to have its place: a
     /// minute between two requests or within a reply that it does not take, and ten within the
     /// bytes of a request.
     pub fn quiet_for(&self, now: Instant) -> Option<Duration>
@@ -453,7 +453,7 @@ impl<S: Stream + Drop> Peer<S> {
         }
     }
 
-    /// Hangs the connection up. For want of memory it is tried again.
+    /// Hangs the connection up. If memory runs out, that is tried again.
     fn end<D, C>(&mut self, server: &mut Server<D>, clock: &C) -> Result<Step, Refused>
     where
         D: Device,

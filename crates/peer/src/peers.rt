@@ -101,7 +101,7 @@ impl<D: Device, S: Stream + Drop> Peers<D, S> {
     }
 
     /// The peer of this key has a step, if there is one: see [`Peer::step`]. One that has ended is
-    /// there no longer.
+    /// no longer there.
     ///
     /// # Errors
     /// What ends the program: a failure of the device or the clock.
@@ -141,7 +141,7 @@ impl<D: Device, S: Stream + Drop> Peers<D, S> {
     }
 
     /// Keeps what waits of the changes of all peers, with one flush: then their replies can be
-    /// taken. Whether something waited.
+    /// taken. Returns whether something waited.
     ///
     /// # Errors
     /// Those of [`Server::flush`].
@@ -166,7 +166,7 @@ impl<D: Device, S: Stream + Drop> Peers<D, S> {
         self.server.checkpoint()
     }
 
-    /// Takes what the system told of a peer's stream.
+    /// Takes what the system reported of a peer's stream.
     pub fn wake(&mut self, key: usize, can_read: bool, can_write: bool)
         ensures { ServesFurther D.keeps_word self.old.server self.new.server
             (get self.old.peers) (get self.new.peers) }
@@ -212,14 +212,14 @@ impl<D: Device, S: Stream + Drop> Peers<D, S> {
         self.peers.vacant_key()
     }
 
-    /// A peer, to look at.
+    /// A peer, for inspection.
     pub fn get(&self, key: usize) -> Option<&Peer<S>>
         ensures { option_copied result ≡ get self.now.peers key }
     {
         self.peers.get(key)
     }
 
-    /// The server, to look at.
+    /// The server, for inspection.
     pub fn server(&self) -> &Server<D>
         ensures { result.now ≡ self.now.server }
     {

@@ -65,7 +65,7 @@ fn number_ahead(under_way: UnderWay) -> Option<u32> {
     }
 }
 
-/// The status of the last result so far: after one that is not OK nothing but the reply comes.
+/// The status of the last result so far: after one that is not OK only the reply follows.
 fn status_in(under_way: UnderWay) -> u32 {
     match under_way.ahead {
         Ahead::Operation(_) => Status::Ok.code(),

@@ -4,7 +4,7 @@ use crate::stream::Stream;
 use std::io;
 use std::marker::Model;
 
-/// A reply, of which the front may have been sent already. It is seen as the bytes that are left.
+/// A reply, of which a prefix may have been sent already. It is seen as the bytes that are left.
 #[derive(Drop)]
 pub struct Reply {
     bytes: Vec<u8>,
@@ -40,8 +40,8 @@ impl Reply {
         self.sent == self.bytes.len()
     }
 
-    /// Writes once, and answers how many bytes: the stream has the front of what was left, and the
-    /// rest is left.
+    /// Writes once, and returns how many bytes: the stream has that prefix of what was left, and
+    /// the rest is left.
     pub fn send<S: Stream>(&mut self, stream: &mut S) -> io::Result<usize>
         ensures sent { IfOk result (λ count. Appends (S.gone stream.old) (S.gone stream.new)
             (take count self.old)) }

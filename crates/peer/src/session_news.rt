@@ -19,7 +19,7 @@ pub enum SessionNews {
     Ended,
 }
 
-/// What the result of this operation says, whose bytes after its status are these.
+/// What the result of this operation says, given its bytes after its status.
 pub fn read_news(
     number: u32,
     status: u32,

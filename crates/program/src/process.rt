@@ -5,7 +5,7 @@ use std::env::Env;
 use std::io::{BufReader, Read, Write};
 use system::{Machine, Refused, Unbegun, begin, tell_outcome, tell_usage};
 
-/// Does what the words of the command line ask for, and answers the exit status, as [`command`]
+/// Does what the words of the command line ask for, and returns the exit status, as [`command`]
 /// does. No file that it opens takes the place of a standard stream that is closed.
 pub fn run_process<R, I, O, E>(rt: &R, input: I, out: &mut O, err: &mut E) -> u8
 where

@@ -23,8 +23,8 @@ const MEMORY_SECTORS: u32 = 256;
 
 const MEMORY_NODES: u32 = 16;
 
-/// Does what the words ask for, and answers the exit status: 0 done, 1 refused, which is told on
-/// `err` by name, 2 where the words have no form.
+/// Does what the words ask for, and returns the exit status: 0 done; 1 refused, and then the name
+/// of the refusal is printed on `err`; 2 if the words have no form.
 pub fn command<R, S, I, O, E>(rt: &R, words: &[S], input: &mut I, out: &mut O, err: &mut E) -> u8
 where
     R: Machine,

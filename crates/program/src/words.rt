@@ -21,11 +21,11 @@ pub enum Request<'a> {
         file: &'a str,
         script: &'a str,
     },
-    /// Tell what stands on the volume in a file.
+    /// Print what is on the volume in a file.
     Check {
         file: &'a str,
     },
-    /// Serve the volume in a file to so many connections on this port.
+    /// Serve the volume in a file to `count` connections on this port.
     Serve {
         file: &'a str,
         port: u16,
@@ -48,7 +48,7 @@ pub fn read_words<'a, S: AsStr>(alloc: Global, words: &'a [S]) -> Result<Request
     request_in(whole_command(alloc)?, words)
 }
 
-/// What the words ask of the command.
+/// What the words ask for, as the command reads them.
 fn request_in<'a, S: AsStr>(
     command: Command<'a>,
     words: &'a [S],
@@ -74,7 +74,7 @@ fn with_command<'a>(command: Command<'a>, other: Command<'a>) -> Result<Command<
     command.subcommand(other)
 }
 
-/// The command of this name, after which all of these words have to stand.
+/// The command of this name, which has to be followed by all of these words.
 fn command_of<'a>(
     alloc: Global,
     name: &'a str,
@@ -111,7 +111,7 @@ fn request_of<'a>(matches: &ArgMatches<'a>) -> Request<'a> {
     Request::Script
 }
 
-/// What follows the command of this name, where that is the one that is given.
+/// What follows the command of this name, if that is the one that is given.
 fn command_in<'a, 'b>(matches: &'b ArgMatches<'a>, name: &str) -> Option<&'b ArgMatches<'a>> {
     matches.subcommand_matches(name)
 }

@@ -21,7 +21,7 @@ use wire_client::CHANNEL;
 /// `CREATE_SESSION4_FLAG_PERSIST`: the session is to outlive a crash (RFC 8881, section 18.36).
 const PERSIST: u32 = 1;
 
-/// Makes a new caller known by this name, and tells its number.
+/// Makes a new caller known by this name, and prints its number.
 pub fn hello<S, D, O>(
     server: &mut Server<D>,
     caller: &mut Caller<S>,
@@ -38,7 +38,7 @@ where
     Ok(known)
 }
 
-/// What EXCHANGE_ID answers.
+/// The result of EXCHANGE_ID.
 fn ask_hello<S, D>(
     server: &mut Server<D>,
     caller: &mut Caller<S>,
@@ -84,7 +84,7 @@ fn known_of(results: &Results<'_>) -> Result<Known, ScriptFault> {
     }
 }
 
-/// Asks for a session, or for a persistent one, and tells its id.
+/// Asks for a session, or for a persistent one, and prints its id.
 pub fn session<S, D, O>(
     alloc: Global,
     server: &mut Server<D>,
@@ -103,7 +103,7 @@ where
     tell_session(out, &user.name, &id)
 }
 
-/// The session's id, which CREATE_SESSION answers.
+/// The session's id, which CREATE_SESSION returns.
 fn ask_session<S, D>(
     alloc: Global,
     server: &mut Server<D>,
@@ -207,7 +207,7 @@ fn words_of(alloc: Global, operations: &[Operation<'_>]) -> Result<Vec<&'static 
     Ok(words)
 }
 
-/// Gives the user's connection a turn, and tells what it did.
+/// Gives the user's connection a turn, and prints what it did.
 pub fn turn<S, D, O>(
     server: &mut Server<D>,
     user: &mut User<S>,
@@ -227,7 +227,7 @@ where
     Ok(())
 }
 
-/// Runs turns up to the user's reply, and tells its results.
+/// Runs turns up to the user's reply, and prints its results.
 pub fn take<S, D, O>(
     server: &mut Server<D>,
     user: &mut User<S>,
@@ -312,7 +312,7 @@ fn create_session<'a>(known: Known, flags: u32, security: Vec<CallbackSecurity<'
     })
 }
 
-/// Tells the results of what the words name.
+/// Prints the results of the operations that the words name.
 fn tell<O: Write>(
     out: &mut O,
     name: &str,
@@ -360,7 +360,7 @@ fn tell_refusal<O: Write>(
     Ok(writeln!(out, "{name} {word} {}", status.code())?)
 }
 
-/// The bytes of a filehandle or of a file, where the result has such, and the end of the line.
+/// The bytes of a filehandle or of a file, if the result has any, and the end of the line.
 fn tell_bytes<O: Write>(out: &mut O, outcome: &Outcome<'_>) -> Result<(), ScriptFault> {
     let bytes = match outcome {
         Outcome::Done(Answer::GetFh(handle)) => *handle,

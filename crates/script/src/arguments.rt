@@ -10,7 +10,7 @@ use wire::{
     WriteArguments,
 };
 
-/// Of no open (RFC 8881, section 8.2.3).
+/// The stateid of no open (RFC 8881, section 8.2.3).
 const ANONYMOUS: StateId = StateId {
     seqid: 0,
     other: [0; 12],
@@ -48,7 +48,7 @@ impl Mode {
         }
     }
 
-    /// This attribute alone.
+    /// Only this attribute.
     fn attributes(&self) -> Attributes<'_>
         ensures { AttributesFit result }
     {
@@ -76,7 +76,7 @@ impl Size {
         }
     }
 
-    /// This attribute alone.
+    /// Only this attribute.
     fn attributes(&self) -> Attributes<'_>
         ensures { AttributesFit result }
     {

@@ -32,7 +32,7 @@ pub enum Action<'a> {
     Retry,
 }
 
-/// Reads a line without its end; none where it has no form. Words are parted by one blank.
+/// Reads a line without its end; None if it has no form. Words are separated by one blank.
 pub fn read_line(alloc: Global, text: &str) -> Result<Option<Line<'_>>, AllocError> {
     if text.is_empty() || text.starts_with('#') {
         return Ok(Some(Line::Nothing));
@@ -89,7 +89,7 @@ fn plain_action<'a>(verb: &str) -> Option<Action<'a>> {
     }
 }
 
-/// A number below 2^64, of decimal digits alone.
+/// A number below 2^64, of decimal digits only.
 pub fn long_decimal(text: &str) -> Option<u64> {
     if !text.bytes().all(|byte| byte.is_ascii_digit()) {
         return None;

@@ -20,12 +20,12 @@ enum End {
 }
 
 /// Mounts the volume on the device, and runs the script's lines on it. Users reach the server over
-/// the loopback interface. What the lines tell is written at the script's end, before a mount that
-/// one of them asks for, and before a refusal is answered.
+/// the loopback interface. What the lines print is written at the script's end, before a mount that
+/// one of them asks for, and before a refusal is returned.
 ///
 /// # Errors
-/// Script where a line has no form, or lacks what it speaks of; Io where input, output or a socket
-/// fails; else what the server or a reply to a user is refused for.
+/// Script if a line has no form, or names something that is not there; Io if input, output or a
+/// socket fails; else what the server or a reply to a user is refused for.
 pub fn run_script<R, D, I, O>(
     rt: &R,
     device: &mut D,
@@ -89,7 +89,7 @@ where
     run_server(rt, &mut server, users, restarted, input, out)
 }
 
-/// Tells the run of a restart, and runs the lines of this mount.
+/// Prints the run of a restart, and runs the lines of this mount.
 fn run_server<R, D, I, O>(
     rt: &R,
     server: &mut Server<D>,
@@ -141,7 +141,7 @@ where
     Ok(End::Script)
 }
 
-/// Reads a line with its end; none where the input has no more.
+/// Reads a line with its end; None if the input has no more.
 fn next_line<I: BufRead>(alloc: Global, input: &mut I) -> Result<Option<String>, ScriptFault> {
     let mut text = String::new(alloc);
     match input.read_line(&mut text) {
@@ -154,7 +154,7 @@ fn next_line<I: BufRead>(alloc: Global, input: &mut I) -> Result<Option<String>,
     }
 }
 
-/// Runs a line. Whether the server is to be mounted again.
+/// Runs a line. Returns whether the server is to be mounted again.
 fn run_line<R, D, O>(
     rt: &R,
     server: &mut Server<D>,
@@ -173,7 +173,7 @@ where
     }
 }
 
-/// Does what a line asks for. Whether the server is to be mounted again.
+/// Does what a line asks for. Returns whether the server is to be mounted again.
 fn obey<R, D, O>(
     rt: &R,
     server: &mut Server<D>,

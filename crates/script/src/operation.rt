@@ -57,7 +57,7 @@ pub enum Operation<'a> {
     OpenFile(&'a str),
     /// CLOSE of the current stateid.
     Close,
-    /// READ of so many bytes from an offset on.
+    /// READ of `count` bytes from an offset on.
     Read {
         offset: u64,
         count: u32,
@@ -98,7 +98,7 @@ impl Operation<'_> {
         }
     }
 
-    /// What it asks. Whoever opens a file has this name.
+    /// Its arguments. Whoever opens a file has this name.
     pub fn argument<'b>(&'b self, owner: &'b str) -> Result<Argument<'b>, ScriptFault>
         ensures { IfOk result ArgumentFits }
     {
@@ -121,7 +121,7 @@ impl Operation<'_> {
         }
     }
 
-    /// That of an operation that has a name or a filehandle.
+    /// The argument of an operation that has a name or a filehandle.
     fn named_argument(&self) -> Result<Argument<'_>, ScriptFault>
         ensures { IfOk result ArgumentFits }
     {
@@ -137,7 +137,7 @@ impl Operation<'_> {
         }
     }
 
-    /// That of an operation that opens or writes a file.
+    /// The argument of an operation that opens or writes a file.
     fn file_argument<'b>(&'b self, owner: &'b str) -> Result<Argument<'b>, ScriptFault>
         ensures { IfOk result ArgumentFits }
     {
@@ -156,7 +156,7 @@ impl Operation<'_> {
     }
 }
 
-/// What the operations ask.
+/// The arguments of the operations.
 pub fn arguments_of<'a>(
     alloc: Global,
     operations: &'a [Operation<'_>],
@@ -171,7 +171,7 @@ pub fn arguments_of<'a>(
     Ok(arguments)
 }
 
-/// Reads operations that are parted by `;`; none where one has no form.
+/// Reads operations that are separated by `;`; None if one has no form.
 pub fn read_operations<'a>(
     alloc: Global,
     words: &[&'a str],
@@ -199,7 +199,7 @@ fn operation_of<'a>(alloc: Global, words: &[&'a str]) -> Result<Option<Operation
     }
 }
 
-/// The operation of a word alone.
+/// The operation of a single word.
 fn plain_operation<'a>(verb: &str) -> Option<Operation<'a>> {
     match verb {
         "root" => Some(Operation::Root),
@@ -213,7 +213,7 @@ fn plain_operation<'a>(verb: &str) -> Option<Operation<'a>> {
     }
 }
 
-/// The operation of a word and one word more.
+/// The operation of a word and one more word.
 fn operation_on<'a>(verb: &str, name: &'a str) -> Option<Operation<'a>> {
     match verb {
         "lookup" => Some(Operation::Lookup(name)),
@@ -226,7 +226,7 @@ fn operation_on<'a>(verb: &str, name: &'a str) -> Option<Operation<'a>> {
     }
 }
 
-/// The operation of a word, a name and one word more.
+/// The operation of a word, a name and one more word.
 fn operation_with<'a>(verb: &str, name: &'a str, word: &'a str) -> Option<Operation<'a>> {
     match verb {
         "mkdir" => Some(Operation::MakeDir {
@@ -249,7 +249,7 @@ fn operation_with<'a>(verb: &str, name: &'a str, word: &'a str) -> Option<Operat
     }
 }
 
-/// PUTFH of the bytes that hexadecimal digits spell, two of them each.
+/// PUTFH of the bytes that hexadecimal digits encode, two digits each.
 fn put_handle<'a>(alloc: Global, digits: &str) -> Result<Option<Operation<'a>>, AllocError> {
     if digits.is_empty() {
         return Ok(None);
@@ -261,7 +261,7 @@ fn put_handle<'a>(alloc: Global, digits: &str) -> Result<Option<Operation<'a>>, 
     }
 }
 
-/// WRITE of the bytes that hexadecimal digits spell, at least one.
+/// WRITE of the bytes that hexadecimal digits encode, at least one.
 fn write_bytes<'a>(
     alloc: Global,
     offset: &str,
@@ -295,7 +295,7 @@ fn stable_of(how: &str) -> Option<StableHow> {
     }
 }
 
-/// A number of octal digits alone.
+/// A number of octal digits only.
 fn octal(text: &str) -> Option<u32> {
     if !text.bytes().all(|byte| (b'0'..=b'7').contains(&byte)) {
         return None;

@@ -3,7 +3,7 @@
 use callers::{Caller, ScriptFault};
 use std::alloc::Global;
 
-/// What EXCHANGE_ID answers of a client.
+/// What EXCHANGE_ID returns about a client.
 #[derive(Clone, Copy)]
 pub struct Known {
     /// The client's number.
@@ -16,11 +16,11 @@ pub struct Known {
 #[derive(Drop)]
 pub struct User<S> {
     pub name: String,
-    /// What the server answered it last.
+    /// What the server last returned about it.
     pub known: Known,
     /// Whether it may send operations.
     pub has_session: bool,
-    /// The words for what its last record asks.
+    /// The words for what its last record asks for.
     pub words: Vec<&'static str>,
     pub caller: Caller<S>,
 }

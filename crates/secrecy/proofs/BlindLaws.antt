@@ -1,4 +1,4 @@
--- Each operation by its parts: its tests, the rights that it asks, and what it does.
+-- Each operation by its parts: its tests, the rights that it asks for, and what it does.
 use Rattle.std.proofs.Common.{◌≡◌, ◌+◌, ◌++◌, ◌==◌, ℕ, Bool, true, false, cond, not, ◌&&◌, ◌||◌, ◌-◌, min, List, [], ◌∷◌, Option, Some, None, length, map, drop, ◌⊎◌, inl, inr, refl, sym, ap, ap₂, ◌∙◌, subst}
 use Rattle.std.specs.Prelude.{nat_lt, nat_le, is_some, option_map}
 use Rattle.std.specs.List.{list_any}
@@ -337,7 +337,7 @@ module _ (limits : Limits) (secret : ℕ → Bool) (state : State) where
 
   -- What it does
 
-  -- the same answer, and the same but for these bytes
+  -- the same result, and the same except for these bytes
   record AsIf (one other : Stepped) : Type 0 where
     outcome : one.outcome ≡ other.outcome
     tree : hidden secret one.state.tree ≡ hidden secret other.state.tree
@@ -357,7 +357,7 @@ module _ (limits : Limits) (secret : ℕ → Bool) (state : State) where
         state = record { tree = hidden secret other.state.tree; changes = other.state.changes; opens = other.state.opens; context = context };
       }) is.context)
 
-  -- nothing but an answer
+  -- only an answer
   only_answers : (one other : Answer) → one ≡ other → AsIf (answered over one) (answered state other)
   only_answers one other same = record { outcome = ap Outcome.Done same; tree = hidden-twice secret here_is; changes = refl; opens = refl; context = refl }
 
@@ -633,7 +633,7 @@ module _ (limits : Limits) (secret : ℕ → Bool) (state : State) where
 pub each_is_blind : EachIsBlind
 each_is_blind limits secret state now operation may = blind_by limits secret state now operation may (secret (current state)) refl
 
--- One who may read them is told as many bytes
+-- A caller who may read them gets the same number of bytes
 
 pub record ReadsAlike (one other : Outcome) : Type 0 where
   pub is_end : Bool

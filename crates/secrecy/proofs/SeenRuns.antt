@@ -173,7 +173,7 @@ module _ (who : Onlooker) where
     abbrev pub IsOwn : InProgress → Type 0
     IsOwn request = (slot : List ℕ × ℕ) → request.slot ≡ Some slot → who.has_session slot.0 ≡ his
 
-    -- a request with other results of as many bytes
+    -- a request with other results, of the same number of bytes
     abbrev pub but : List ℕ → InProgress → InProgress
     but bytes request = record request { results = bytes }
 

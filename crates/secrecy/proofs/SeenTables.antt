@@ -424,7 +424,7 @@ module _ (who : Onlooker) where
       by_slots (slot ∷ slots) zero = refl
       by_slots (slot ∷ slots) (suc place) = by_slots slots place
 
-  -- what a SEQUENCE does, but for the bytes of a reply that is sent again
+  -- what a SEQUENCE does, except for the bytes of a reply that is sent again
   abbrev pub seen_begun : (his : Bool) → Begun → Begun
   seen_begun his (Refuses reason) = Refuses reason
   seen_begun his (Replays reply) = Replays (seen_bytes his reply)

@@ -10,7 +10,7 @@ use Rattle.model.specs.Operations.Need.{granted_on}
 use Rattle.model.specs.Operations.Operation.{Argument}
 use Rattle.model.specs.Operations.Step.{State, Stepped, does}
 
--- as many zeros for the bytes of a file
+-- a file of zeros of the same length
 abbrev pub blank : Content → Content
 blank (File bytes) = File (replicate (length bytes) 0)
 blank (Directory names) = Directory names
@@ -37,7 +37,7 @@ MayReadNone secret tree cred =
     (number : ℕ) → secret number ≡ true → granted_on (at number tree) cred read_data ≡ false
 
 -- Over the tree with zeros for these bytes, each operation has the same result, and leaves the same
--- opens, context and tree, but for these bytes.
+-- opens, context and tree, except for these bytes.
 abbrev pub EachIsBlind : Type 0
 EachIsBlind =
     (limits : Limits) (secret : ℕ → Bool) (state : State) (now : ℕ) (operation : Argument)

@@ -54,7 +54,7 @@ agrees_still keeps_word old new before after table (Err fault) changes keeps agr
 
 module _ (old new : FileSystem) (table : Table) (opens : Opens) (connections : Keyed Connection)
     (same : IsSameVolume old.volume new.volume) (changes : new.changes ≡ old.changes) where
-  -- all but the tree
+  -- all except the tree
   pub keeps_world : (tree : Tree) → (let with_tree : FileSystem → World = λ files. record (world_by (shared files table opens) connections) { tree = tree } in with_tree new ≡ with_tree old)
   keeps_world tree = broken (shared old table opens) (shared new table opens) connections connections same changes refl refl tree
 
@@ -70,7 +70,7 @@ module _ (old new : FileSystem) (table : Table) (opens : Opens) (connections : K
   Keeps recent left =
       Checkpoints (record { serving = serving_of old recent; volume = old.volume }) (record { serving = serving_of new left; volume = new.volume })
 
-  -- where it is done
+  -- if it is done
   pub checkpointed : new.volume.tree ≡ old.volume.tree → new.volume.seats ≡ old.volume.seats → old.volume.is_down ≡ false → new.volume.is_down ≡ false → KeepsRecent old.volume new.volume
       → AddsKept old.volume (kept_of old.volume) new.volume.history → MakesAtMost 396 old.volume new.volume → (recent : List Left) → IsReady old.volume recent → Keeps recent recent
   checkpointed trees seats up still_up keeps adds brief recent ready = record {
@@ -89,7 +89,7 @@ module _ (old new : FileSystem) (table : Table) (opens : Opens) (connections : K
     };
   }
 
-  -- where the device fails in it
+  -- if the device fails in it
   pub checkpoint_fails : old.volume.is_down ≡ false → new.volume.is_down ≡ true → AddsKept old.volume (kept_of old.volume) new.volume.history → MakesAtMost 396 old.volume new.volume
       → (event : Event) (recent : List Left) → IsReady old.volume recent → (left : List Left)
       × Breaks (record { serving = serving_of old recent; volume = old.volume }) event (record {
@@ -137,7 +137,7 @@ module _ (old new : FileSystem) (table : Table) (opens : Opens) (connections : K
     volume = files.volume;
   }
 
-  -- where it is done
+  -- if it is done
   pub flushed_all : new.volume.tree ≡ old.volume.tree → new.volume.seats ≡ old.volume.seats → table.seats ≡ old.volume.seats → old.volume.is_down ≡ false → new.volume.is_down ≡ false → new.waits ≡ false
       → AddsKept old.volume (kept_of old.volume) new.volume.history → MakesAtMost 396 old.volume new.volume → LeavesKept old.volume new.volume (kept_of old.volume) true
       → (recent : List Left) → IsReady old.volume recent → (after : List Left) × FlushesAll (seen_of old recent) (seen_of new after)

@@ -1,4 +1,5 @@
--- A server before a turn: what has to last is to be kept at once, or may wait. A caller can tell no difference.
+-- A server before a turn: what has to last is to be kept at once, or may wait. A caller cannot see
+-- a difference.
 use Rattle.std.proofs.Common.{◌≡◌, ℕ, Bool, List, Result, Ok, Err, IfOk, refl, sym, ap, ◌∙◌, subst}
 use Rattle.disk.specs.declared.device.Device.{Ghosts}
 use Rattle.model.specs.Server.Runs.{Event, Left}

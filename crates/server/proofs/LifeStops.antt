@@ -117,7 +117,7 @@ every_asked stopped up = every_freeing_is_asked (limits_of stopped) (stop_of sto
 pub every_ended : EveryEnded
 every_ended stopped up = frees_ended (limits_of stopped) (stop_of stopped _ (now_left stopped up)) up
 
--- Numbers, over runs: those of one run alone
+-- Numbers, over runs: those of one run only
 
 module _ (id : List ℕ) (slot : ℕ) where
   its_numbers : Stopped → List ℕ

@@ -98,7 +98,7 @@ same_seat a b =
 pub same_seats : (a b : Seats) → (a ≡ b) ⊎ (a ≢ b)
 same_seats a b = same_list (same_option same_seat) a b
 
--- What has to last: what has to by itself, and all where the seats change
+-- What has to last: what has to by itself, and all if the seats change
 
 unfoldable pub lasting_by : {after held : Seats} → (after ≡ held) ⊎ (after ≢ held) → (durable : Bool) → Bool
 lasting_by (inl same) durable = durable

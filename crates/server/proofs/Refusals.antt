@@ -1,4 +1,4 @@
--- How a connection's refusals are told.
+-- How a connection's refusals are reported.
 use Rattle.std.proofs.Common.{◌≡◌, ◌≤◌, ℕ, true, false, Result, Ok, Err, None, inr, ⊎_elim, refl, sym, ap, ◌∙◌}
 use Rattle.disk.specs.Cause.{IsCounted}
 use Rattle.model_tree.specs.Trees.Keyed.{at}

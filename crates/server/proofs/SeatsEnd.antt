@@ -75,7 +75,7 @@ named_so id name (first ∷ all) was gone = by_tests (named_so id name all) (is_
     by_tests later false true names is was gone = absurd (true≢false (sym is ∙ (or_parts (is_session id first) (list_any (is_session id) rest) gone).0))
     by_tests later false false names is was gone = later was (or_parts (is_session id first) (list_any (is_session id) rest) gone).1
 
--- What a turn does behind a result keeps the sessions
+-- What a turn does after a result keeps the sessions
 
 abbrev any_of : List ℕ → Table → Bool
 any_of id table = list_any (is_session id) table.sessions

@@ -66,7 +66,7 @@ pub undone : (state left : SharedState) (old new : Keyed world.Connection) → l
 undone state left old new files stays connections =
     ap (λ (s : SharedState). world_by s new) (stays ∙ ap (λ (f : FileSystem). record state { files = f }) files) ∙ ap (world_by state) connections
 
--- and where the device failed all of it but the tree
+-- and if the device failed, all of it except the tree
 pub broken : (state left : SharedState) (old new : Keyed world.Connection) → IsSameVolume state.files.volume left.files.volume → left.files.changes ≡ state.files.changes
     → left ≡ record state { files = left.files } → new ≡ old → (tree : Tree) → record (world_by left new) { tree = tree } ≡ record (world_by state old) { tree = tree }
 broken state left old new same changes stays connections tree =
@@ -76,7 +76,7 @@ broken state left old new same changes stays connections tree =
     ∙ (ap (λ (n : ℕ). record (world_by state new) { tree = tree; changes = n }) changes
     ∙ ap (λ (kept : Keyed world.Connection). record (world_by state kept) { tree = tree }) connections)))
 
--- a request that has begun goes on where it stands
+-- a request that has begun goes on from its progress
 pub gone_on_at : (old new : Keyed world.Connection) (number : ℕ) (before after : world.Connection) → at number old ≡ Some before → new ≡ with old number after
     → HasGoneOn (Some before) (Some after) → HasGoneOn (at number old) (at number new)
 gone_on_at old new number before after there written further =

@@ -30,7 +30,7 @@ pub numbers_rise : (slab : Slab Connection) → IsRising (connections_of slab)
 unfolding connections_of
 numbers_rise slab = rising 0 slab.slots
 
--- What stands at a number
+-- What is at a number
 
 at_slot : (key k : ℕ) (slots : List (Option Connection)) → at (key + k) (from key slots) ≡ option_map connection_view (get_or slots k None)
 at_slot key k [] = refl
@@ -202,7 +202,7 @@ unfolding connections_of
 without_slot old new n updates =
     removed 0 n old.slots new.slots updates.changed updates.others ∙ ap (λ (k : ℕ). without (from 0 old.slots) k) (zero-add n)
 
--- What a reference into the slab stands for, and what is written through it
+-- What a reference into the slab represents, and what is written through it
 
 module _ (slab : Slab Connection) (n : ℕ) where
   pub stands : (before : Connection) → Some before ≡ get slab n → at n (connections_of slab) ≡ Some (connection_view before)
@@ -249,7 +249,7 @@ module _ (slab : Slab Connection) (n : ℕ) where
         | inr apart ↦ updates.others k apart
       ])
 
-  -- what stands for the same is written
+  -- what represents the same is written
   pub rewrote : (before value : Connection) → Some before ≡ get slab n → connection_view value ≡ connection_view before
       → connections_of (with_value slab n value) ≡ connections_of slab
   rewrote before value is same =

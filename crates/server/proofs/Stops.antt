@@ -1,4 +1,5 @@
--- The calls of a server are a run of the machine, and what a crash within one leaves stands for what the machine may leave.
+-- The calls of a server are a run of the machine, and what a crash within one leaves represents
+-- what the machine may leave.
 use Rattle.std.proofs.Common.{◌≡◌, ◌<◌, ◌+◌, ◌^◌, ℕ, List, refl, sym, ap, ◌∙◌, subst, inl, arith, ⊎_elim}
 use Rattle.std.proofs.Math.Logic.{∥∥₁_elim, ∥∥₁_map}
 use Rattle.std.proofs.Props.{props}
@@ -138,7 +139,7 @@ every_stop stopped image left =
           (one.kept_is, (one.nodes_are, one.run_is));
     }
 
--- under a count, or as many more
+-- under a count, or a greater one
 stands_more : (sectors nodes run : ℕ) (good : Kept → Type 0) (kept : Kept) (image : Image) → good kept → StandsFor sectors nodes run kept image
     → StandsForGood sectors nodes run good image
 stands_more sectors nodes run good kept image is stands =
@@ -259,7 +260,7 @@ every_stamping = record {
       omega (arith, less, low, high);
 }
 
--- What is told of worlds and answers needs nothing of the device
+-- What holds of worlds and results needs nothing of the device
 traced : (first last : Seen) (calls : List ServerCall) → IsServed first calls last
     → (last.serving.world ≡ world_after first.serving.world calls) × AreTold first.serving.world calls
 traced first last calls Begins = (refl, tt)

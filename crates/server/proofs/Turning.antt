@@ -30,7 +30,7 @@ use Rattle.server.specs.Stages.{asked_at, in_progress_at, held_record, busy_with
 use Rattle.server.specs.declared.turn.Turn.{Turn}
 use Rattle.server.specs.declared.turn.Turn.TheVariants as turn
 
--- Nothing changes where a connection stays as it is
+-- Nothing changes if a connection stays as it is
 
 rising_rest : (least : ℕ) (entries : Keyed Connection) → IsAbove least entries → IsRising entries
 rising_rest least [] above = tt

@@ -63,7 +63,8 @@ happened_quietly old new recent kept are_kept old_down new_down waits event none
 pub may_be_left_from : (old : World) (left : List Left) (down waits : Bool) (event : Event) → down ≡ false → MayBeLeft (serving_by old left down waits) event (left_after (effect_of old event))
 may_be_left_from old left down waits event up = inr (subst (λ (b : Bool). IsAfterEvent old event b (left_after (effect_of old event))) (sym up) refl)
 
--- An event that leaves a crash some of what it might leave before, with the same seats, and what there is after it, and after what has to last only that: where the seats change, that is so
+-- An event that leaves a crash some of what it might leave before, with the same seats, and what
+-- there is after it, and after what has to last only that: if the seats change, that is so
 module _ (held : VolumeState) (before : Seats) (old : World) (recent : List Left) (left : List Kept) (down waits : Bool) (event : Event) (up : down ≡ false)
     (seated : (one : Left) → IsAmong recent one → one.seats ≡ before) where
   abbrev after : Kept
@@ -90,7 +91,7 @@ module _ (held : VolumeState) (before : Seats) (old : World) (recent : List Left
   ]
   seats_left (inr differs) lasting leaves one among = ap (λ (k : Kept). k.seats) (leaves.durable refl (kept_by one) (among_kept left one among))
 
--- what has to last is kept at once where the call does not defer
+-- what has to last is kept at once if the call does not defer
 pub kept_at_once : (lasting defers : Bool) → lasting ≡ true → defers ≡ false → (lasting && not defers) ≡ true
 kept_at_once true false one other = refl
 kept_at_once true true one other = absurd (false≢true (sym other))

@@ -1,4 +1,4 @@
--- What a connection stands for, and a turn of it by the definition.
+-- What a connection represents, and a turn of it by the definition.
 use Rattle.std.specs.Prelude.{◌≡◌, ◌+◌, ℕ, true, false, List, [], ◌∷◌, map, Option, Some, None}
 use Rattle.slab.specs.Slab.{Slab, entries}
 use Rattle.compound.specs.States.{SharedState, HasState, with_state}
@@ -69,7 +69,7 @@ HasGoneOn (Some (Busy request)) (Some (Replied reply)) = Unit {0}
 HasGoneOn (Some (Busy request)) _ = ⊥
 HasGoneOn _ _ = Unit {0}
 
--- a turn of a COMPOUND whose call stands in this record, by the definition
+-- a turn of a COMPOUND whose call is in this record, by the definition
 abbrev pub RecordSteps : (now : ℕ) → (old new : SharedState) → (request : List ℕ) → Begun → TurnEnd
     → Type 0
 RecordSteps now old new request begun done =

@@ -1,4 +1,4 @@
--- How a connection's refusal is told.
+-- How a connection's refusal is reported.
 use Rattle.compound.specs.declared.fault.Fault.{Fault}
 use Rattle.compound.specs.declared.fault.Fault.TheVariants as turns
 use Rattle.server.specs.declared.fault.ServerFault.{ServerFault}

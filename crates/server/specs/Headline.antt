@@ -1,4 +1,4 @@
--- What users of the server can rely on, from the bytes that come to the sectors that a crash
+-- What users of the server can rely on, from the bytes that arrive to the sectors that a crash
 -- leaves.
 use Rattle.std.specs.Prelude.{ℕ, List, [], ◌∷◌, slice_get, Some, ◌≡◌, ◌≢◌, ◌<◌, ◌≤◌, ◌+◌, ◌^◌}
 use Rattle.disk.specs.Moments.{Image, History, LeftSince, at_rest, moment, seen}
@@ -59,13 +59,13 @@ pub record Stopped : Type 0 where
   pub served : IsServed first calls old
   pub moves : Moves old event new
 
--- a map that the crash left
+-- an image that the crash left
 abbrev pub LeftBy : Stopped → Image → Type 0
 LeftBy stopped image =
     LeftSince stopped.new.volume.history (moment stopped.old.volume.history) image
 
--- What may have become of its device, and from which moment of that on a crash counts: power came
--- back to such a map, or stayed on, and mounts were begun.
+-- What may have become of its device, and from which moment of it on a crash counts: power came
+-- back to such an image, or stayed on, and mounts were begun.
 abbrev pub IsMountedAfter : Stopped → History → ℕ → Type 0
 IsMountedAfter stopped device from =
     Remounts stopped.first.volume.sectors stopped.new.volume.history
@@ -112,7 +112,8 @@ pub record IsCrashSafe (stopped : Stopped) (image : Image) : Type 0 where
 abbrev pub EveryStop : Type 0
 EveryStop = (stopped : Stopped) (image : Image) → LeftBy stopped image → IsCrashSafe stopped image
 
--- a later mount has such a pair, on a volume of as many nodes, under a greater restart count
+-- a later mount has such a pair, on a volume with the same number of nodes, under a greater restart
+-- count
 pub record HasGoodTree (stopped : Stopped) (again : VolumeState) : Type 0 where
   pub good : ∥ IsGoodKept stopped (kept_of again) ∥₁
   pub nodes : again.limits.nodes ≡ stopped.first.volume.limits.nodes
@@ -126,8 +127,8 @@ EveryRun =
     → IsMountedAfter stopped device from
     → IsFound stopped.first.volume.sectors device again → HasGoodTree stopped again
 
--- A new volume, and from which moment of its device on a crash counts: what a format leaves that
--- was answered Ok, or a map that a crash left of one.
+-- A new volume, and from which moment of its device on a crash counts: what a format that returned
+-- Ok leaves, or an image that a crash left of one.
 pub data IsNewVolume (sectors nodes : ℕ) : History → ℕ → Type 0 where
   Formatted : {device : History} → LeavesFresh sectors nodes device
       → IsNewVolume sectors nodes device (moment device)
@@ -148,7 +149,7 @@ EveryFirst =
     → IsNewVolume sectors nodes new since → Remounts sectors new since device from
     → IsFound sectors device first → BeginsFresh nodes first
 
--- Each map that a crash leaves stands for one of these, under this count or a greater one. So a
+-- Each image that a crash leaves represents one of these, under this count or a greater one. So a
 -- mount that is refused for what is there is refused as Worn, under the greatest count.
 pub record IsNotLost (sectors nodes run : ℕ) (good : Kept → Type 0) (device : History)
     (from : ℕ) : Type 0 where
@@ -197,13 +198,13 @@ pub record EveryStamping : Type 0 where
       → slice_get (executed_in new) j ≡ Some other → before one ≢ one.after
       → before other ≢ other.after → stamp_in old.run one < stamp_in new.run other
 
--- Whatever was answered OK, a reading too, was permitted by the lists of the tree that it was
--- answered from; so was the operation under way at the crash.
+-- Whatever succeeded, a reading too, was permitted by the lists of the tree that its result came
+-- from; so was the operation under way at the crash.
 abbrev pub EveryAnswer : Type 0
 EveryAnswer = (stopped : Stopped) (i : ℕ) (entry : Entry)
     → slice_get (executed_in stopped) i ≡ Some entry → IsPermittedAnswer entry
 
--- What a server that isn't stopped is and answers.
+-- What a server that isn't stopped is and returns.
 abbrev pub EveryTrace : Type 0
 EveryTrace = (first last : Seen) (calls : List ServerCall) → IsServed first calls last
     → (last.serving.world ≡ world_after first.serving.world calls)

@@ -1,6 +1,6 @@
 -- Exactly once over restarts, of a server on its device: RFC 8881, sections 2.10.6.1 and 2.10.6.5.
--- The seats that a crash leaves hold what was answered, and a session of an earlier run runs
--- nothing.
+-- The seats that a crash leaves hold the replies that were given, and a session of an earlier run
+-- runs nothing.
 use Rattle.std.specs.Prelude.{ℕ, false, true, ◌↔◌, List, [], ◌∷◌, ◌++◌, option_to_list, slice_get, find, Option, Some, ◌≡◌, ◌<◌, ◌⊎◌}
 use Rattle.std.specs.List.{list_any}
 use Rattle.disk.specs.Moments.{Image, History}
@@ -39,7 +39,8 @@ abbrev pub freed_in : Stopped → List (List ℕ)
 freed_in stopped = (history_in stopped).freed
     ++ freeing stopped.old.serving stopped.event stopped.old.serving.is_down
 
--- Seats that its crash left: those for which a map of it stands, or that a mount since then serves
+-- Seats that its crash left: those that an image of it represents, or that a mount since then
+-- serves
 pub data LeavesSeats (stopped : Stopped) : Seats → Type 0 where
   OnMap : {image : Image} {nodes run : ℕ} {kept : Kept} → LeftBy stopped image
       → StandsFor stopped.first.volume.sectors nodes run kept image → LeavesSeats stopped kept.seats
@@ -67,12 +68,12 @@ abbrev pub EveryFollows : Type 0
 EveryFollows = (stopped : Stopped) (left : Seats) → LeavesSeats stopped left → (next : ℕ)
     → stopped.run < next → AreSeats next left
 
--- A session of an earlier run is answered by what its seat holds and is refused all else, and it
--- runs nothing; and while the server is up a crash would leave the seats that it answers by.
+-- A session of an earlier run gets what its seat holds and is refused all else, and it runs
+-- nothing; and while the server is up a crash would leave the seats that its replies come from.
 abbrev pub EveryDead : Type 0
 EveryDead = (stopped : Stopped) → WasUp stopped → AnswersBySeats stopped.old.serving stopped.run
 
--- A session has a seat exactly where its CREATE_SESSION was answered with flag 1.
+-- A session has a seat exactly if its CREATE_SESSION returned flag 1.
 abbrev pub EverySits : Type 0
 EverySits = (stopped : Stopped) → WasUp stopped → (event : Event) (answer : CreateSessionAnswer)
     → MakesSession (table_in stopped) (effect_of stopped.old.serving.world event).table
@@ -81,7 +82,7 @@ EverySits = (stopped : Stopped) → WasUp stopped → (event : Event) (answer : 
     ↔ (has_seat answer.session (effect_of stopped.old.serving.world event).table.seats ≡ true)
 
 -- A turn that gives a request of a slot its reply lets the slot keep it, and a seat of the session
--- holds it then, if it is to: every reply, or only those that name a change which has to last.
+-- then holds it, if it is to: every reply, or only those that name a change that has to last.
 abbrev pub EveryStored : Type 0
 EveryStored = (stopped : Stopped) → WasUp stopped → (connection now : ℕ)
     → GivesHeld stopped.settings.holding
@@ -91,8 +92,8 @@ EveryStored = (stopped : Stopped) → WasUp stopped → (connection now : ℕ)
     (one stopped.old.serving.world connection now) connection
     (request_in (at connection stopped.old.serving.world.connections))
 
--- A seat goes by a DESTROY_SESSION of its session, or by a CREATE_SESSION for which it gives way,
--- that is done.
+-- A seat is freed by a DESTROY_SESSION of its session that is done, or by a CREATE_SESSION that is
+-- done and for which it gives way.
 abbrev pub EveryAsked : Type 0
 EveryAsked = (stopped : Stopped) → WasUp stopped → (event : Event) (id : List ℕ) (seat : Seat)
     → seat_of id stopped.old.serving.world.table.seats ≡ Some seat
@@ -106,7 +107,7 @@ IsNoMore id table =
     (list_any (is_session id) table.sessions ≡ false) × (has_seat id table.seats ≡ false)
 
 -- What ends has no seat: the session of a DESTROY_SESSION that is done, whichever run made it; each
--- session that was there before and is not after; and where a CREATE_SESSION makes a session, each
+-- session that was there before and is not after; and if a CREATE_SESSION makes a session, each
 -- whose seat its client is done with, also of an earlier run.
 pub record FreesEnded (old new : Table) (executed : Option Entry) : Type 0 where
   pub destroyed : (entry : Entry) (id : List ℕ) → executed ≡ Some entry
@@ -132,7 +133,7 @@ abbrev pub AreRuns : Stopped → List Stopped → Type 0
 AreRuns first [] = Unit {0}
 AreRuns first (next ∷ rest) = Follows first next × AreRuns next rest
 
--- the last of them, or the first where there is no other
+-- the last of them, or the first if there is no other
 abbrev pub last_of : Stopped → List Stopped → Stopped
 last_of first [] = first
 last_of first (next ∷ rest) = last_of next rest
@@ -164,7 +165,7 @@ EveryHeld = (first : Stopped) (rest : List Stopped) → AreRuns first rest
     → slice_get (history_in first).stored i ≡ Some one
     → ∥ (HoldsFrom left (stored_in first) i one ⊎ WasFreed one.session first rest left) ∥₁
 
--- A reply is given, or one to a later request of its slot, where it is asked for again: under the
+-- A reply, or one to a later request of its slot, is given when it is asked for again: under the
 -- number and by the uid that it is held for
 pub record IsGivenAgain (table : Table) (stored : List Stored) (i : ℕ) (one : Stored)
     : Type 0 where

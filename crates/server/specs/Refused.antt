@@ -11,7 +11,7 @@ use Rattle.server.specs.declared.fault.ServerFault.TheVariants as faults
 use Rattle.server.specs.declared.server.Server.{Server}
 use Rattle.server.specs.Views.{world_of, volume_of, waits_of, server_failures}
 
--- what a caller can tell of a server between two calls
+-- what a caller can observe of a server between two calls
 pub record View : Type 0 where
   pub world : World
   pub volume : VolumeState
@@ -34,7 +34,7 @@ IsUntouched old new =
     × (new.waits ≡ old.waits)
 
 -- What a call may do to the device, however it ends: the count of its failures does not fall, and
--- at most so many writes and syncs are made.
+-- at most `most` writes and syncs are made.
 pub record UsesDevice (keeps_word : Type 0) (most : ℕ) (old new : View) : Type 0 where
   pub later : old.failures ≤ new.failures
   pub brief : keeps_word → MakesAtMost most old.volume new.volume
@@ -46,7 +46,7 @@ connection_at server number = at number server.world.connections
 abbrev pub HasCause : (old new : View) → Type 0
 HasCause old new = (old.volume.is_down ≡ true) ⊎ IsCounted old.failures new.failures
 
--- all but the tree of a volume that failed, of which nothing is known
+-- all except the tree of a volume that failed, of which nothing is known
 abbrev pub KeepsWorld : (old new : View) → Type 0
 KeepsWorld old new = new.world ≡ record old.world { tree = new.world.tree }
 
@@ -62,8 +62,8 @@ RefusesTurn old new number faults.Device =
     KeepsWorld old new × HasCause old new × (new.volume.is_down ≡ true)
 RefusesTurn old new number faults.Full = ⊥
 
--- A checkpoint that was done, on any device: the server was up and is so, on the same volume, and the
--- device has not failed in it.
+-- A checkpoint that was done, on any device: the server was up and still is, on the same volume,
+-- and the device has not failed in it.
 pub record HasKept (old new : View) : Type 0 where
   pub up : old.volume.is_down ≡ false
   pub still_up : new.volume.is_down ≡ false
@@ -71,7 +71,7 @@ pub record HasKept (old new : View) : Type 0 where
   pub same : IsSameVolume old.volume new.volume
   pub world : KeepsWorld old new
 
--- one that is refused, for the device alone
+-- one that is refused, which only the device may cause
 pub record RefusesCheckpoint (old new : View) (fault : ServerFault) : Type 0 where
   pub told : fault ≡ faults.Device
   pub world : KeepsWorld old new
@@ -87,7 +87,7 @@ pub record HasRunOn (old new : View) (number : ℕ) : Type 0 where
   pub others : (other : ℕ) → (other ≡ number → ⊥)
       → connection_at new other ≡ connection_at old other
 
--- a hang-up; for want of memory it leaves what was run, and the connection stays
+-- a hang-up; if memory runs out it leaves what was run, and the connection stays
 abbrev pub RefusesHangUp : (old new : View) → (number : ℕ) → ServerFault → Type 0
 RefusesHangUp old new number faults.NoConnection =
     (connection_at old number ≡ None) × IsUntouched old new
@@ -97,9 +97,9 @@ RefusesHangUp old new number faults.Device = HasCause old new × (new.volume.is_
 RefusesHangUp old new number faults.Closed = ⊥
 RefusesHangUp old new number faults.Full = ⊥
 
--- A turn that was done. On any device the server was up and is so, on the same volume, the device
--- has not failed in it, the other connections are as they were, and a request that has begun has
--- gone on. Where the device keeps its word the world is that of the definition.
+-- A turn that was done. On any device the server was up and still is, on the same volume, the
+-- device has not failed in it, the other connections are as they were, and a request that has begun
+-- has gone on. If the device keeps its word, the world is that of the definition.
 pub record HasTurned (keeps_word : Type 0) (old new : View) (number now : ℕ) : Type 0 where
   pub up : old.volume.is_down ≡ false
   pub still_up : new.volume.is_down ≡ false

@@ -9,8 +9,8 @@ use Rattle.server.specs.Headline.{IsMounted}
 use Rattle.server.specs.Seen.{Seen, ServerCall, IsServed, IsTurned, IsSeenReady, count_of}
 use Rattle.model.specs.Sessions.Session.{Settings}
 
--- The turns of a hang-up are calls, as those of a run, and further calls can be made after them,
--- also where it was refused for memory
+-- The turns of a hang-up are calls, like those of a run, and further calls can be made after them,
+-- also if it was refused for memory
 abbrev pub HangUpIsCalls : Type 0
 HangUpIsCalls =
     (connection now : ℕ) (first old new : Seen) (calls : List ServerCall) → IsServed first calls old
@@ -36,7 +36,7 @@ IsIdle (Some (Waiting request)) = read_call request ≡ NoCall
 IsIdle (Some (Busy request)) = ⊥
 IsIdle connection = Unit {0}
 
--- Idle is told exactly then
+-- a turn is Idle exactly then
 abbrev pub OnlyIdle : Type 0
 OnlyIdle =
     (world : World) (number now : ℕ) → ((one world number now).turn ≡ Idle)

@@ -37,7 +37,7 @@ IsSeenReady seen = IsReady seen.volume seen.serving.left
 abbrev pub IsLeftBy : Serving → Kept → Type 0
 IsLeftBy serving kept = IsAmong serving.left (left_of kept)
 
--- each map that a crash leaves now stands for such a tree and seats
+-- each image that a crash leaves now represents such a tree and seats
 abbrev pub LeavesNow : Seen → Type 0
 LeavesNow seen = (image : Image) → Left seen.volume.history.now image
     → StandsForOne seen.volume (IsLeftBy seen.serving) image
@@ -57,10 +57,10 @@ pub record Moves (old : Seen) (event : Event) (new : Seen) : Type 0 where
   -- it makes at most 396 writes and syncs
   pub brief : MakesAtMost 396 old.volume new.volume
 
--- What a call answers
+-- What a call returns
 
 pub data Said : Type 0 where
-  -- so many bytes of the piece; none: Closed
+  -- the count of the bytes of the piece that were taken; none: Closed
   Took : Option ℕ → Said
   Turned : Turn → Said
   -- the reply's record
@@ -100,13 +100,13 @@ pub record GivesDown (old : Seen) (connection : ℕ) (said : Said) (new : Seen) 
   pub moves : Moves old (Takes connection) new
 
 -- A checkpoint is no event: content was moved on the device. A crash within it leaves what it may
--- have left before, whatever event it is taken for, and a crash after it nothing else.
+-- have left before, whichever event it is taken for, and a crash after it nothing else.
 pub record Checkpoints (old new : Seen) : Type 0 where
   pub serving : new.serving ≡ old.serving
   pub moves : (event : Event) → Moves old event new
   pub ready : IsSeenReady new
 
--- Nor is a flush of what waits one. A crash within it leaves what it might have left before, and a
+-- Nor is a flush of what waits. A crash within it leaves what it might have left before, and a
 -- crash after it only the newest.
 pub record FlushesAll (old new : Seen) : Type 0 where
   pub flushes : Flushes old.serving new.serving

@@ -1,4 +1,4 @@
--- What a connection does, and what has come over it.
+-- What a connection does, and what has arrived over it.
 use Rattle.std.specs.Prelude.{◌≡◌, ℕ, Bool, true, false, ◌&&◌, List, [], ◌∷◌, Option, Some, None, Result, Ok, Err}
 use Rattle.compound.specs.Views.{Asked, asks, resumed, fits_operations}
 use Rattle.compound.specs.Volumes.{fault_ending}
@@ -18,14 +18,14 @@ use Rattle.server.specs.declared.begun.Undone.{Undone}
 use Rattle.server.specs.declared.stage.Stage.{Stage}
 use Rattle.server.specs.declared.stage.Stage.TheVariants as stage
 
--- the COMPOUND that a call asks for, and whose it is, where the call stands in this record
+-- the COMPOUND that a call asks for, and whose it is, if the call is in this record
 abbrev pub asked_at : (request : List ℕ) → KeptCall → Asked
 asked_at request call = asks call.xid call.cred (compound_at request call.place)
 
 abbrev pub in_progress_at : (request : List ℕ) → Begun → InProgress
 in_progress_at request begun = resumed (asked_at request begun.call) begun.progress
 
--- it stands there, and can go on so
+-- it is in this record, and can go on with this progress
 abbrev pub fits_in : (request : List ℕ) → KeptCall → Progress → Bool
 fits_in request call progress =
     is_within request call.place && fits_operations (asked_at request call) progress

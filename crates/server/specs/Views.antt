@@ -1,4 +1,4 @@
--- What contracts see of a server: its world, and what stands on its device.
+-- What contracts see of a server: its world, and what is on its device.
 use Rattle.std.specs.Prelude.{ℕ, Bool, true, false, List, Option, Result, OnErr, ◌≡◌}
 use Rattle.std.specs.Global.{Vec}
 use Rattle.std.specs.Option.{option_map}
@@ -126,7 +126,7 @@ ServesAs defers old new event said = (recent : List Left) → IsReady (volume_of
 abbrev pub Serves : {D : Type 0} {g : Ghosts D} → (old new : Server D g) → Event → Said → Type 0
 Serves old new event said = ServesAs false old new event said
 
--- the same, but that what has to last may wait for the next flush
+-- the same, except that what has to last may wait for the next flush
 abbrev pub ServesLater : {D : Type 0} {g : Ghosts D} → (old new : Server D g) → Event → Said
     → Type 0
 ServesLater old new event said = ServesAs true old new event said
@@ -162,7 +162,7 @@ GivesReply old new connection said = (tree : Tree) (left : List Left)
     → LeavesNow (seen_down old tree left)
     → GivesDown (seen_down old tree left) connection said (seen_down new tree left)
 
--- so many turns of a connection, none of which defers, and then what comes
+-- turns of a connection, none of which defers, and then what comes
 abbrev pub Turning : {D : Type 0} {g : Ghosts D} → (old : Server D g) → (connection now : ℕ)
     → (Seen → Type 0) → Type 0
 Turning old connection now then = (recent : List Left) → IsReady (volume_of old) recent

@@ -1,4 +1,4 @@
--- How far a COMPOUND has come that has begun, as an operator may be told.
+-- The progress of a COMPOUND that has begun, as an operator may see it.
 use Rattle.std.specs.Prelude.{Option, Some, None}
 use Rattle.compound.specs.Ahead.{ahead_of}
 use Rattle.model.specs.Server.World.{Connection, InProgress, Busy}

@@ -8,7 +8,7 @@ use rpc::CompoundPlace;
 use std::alloc::Global;
 use xdr::Writer;
 
-/// What a call says, which its first turn reads. The COMPOUND's bytes stand in the record.
+/// What a call says, which its first turn reads. The COMPOUND's bytes are in the record.
 #[derive(Drop)]
 pub struct KeptCall {
     pub(crate) xid: u32,
@@ -16,7 +16,7 @@ pub struct KeptCall {
     pub(crate) place: CompoundPlace,
 }
 
-/// A COMPOUND that has begun: its call, and how far it has come.
+/// A COMPOUND that has begun: its call, and its progress.
 #[derive(Drop)]
 pub struct Begun {
     pub(crate) call: KeptCall,
@@ -47,7 +47,7 @@ impl Begun {
     ghost use Rattle.server.specs.Engines.{AltersFiles, BorrowsSame, KeepsRest, files_in, state_in};
     ghost use Rattle.server.specs.Stages.{CanGoOn, in_progress_at, undone_turn_ending};
 
-    /// A turn of the COMPOUND, whose call stands in this record.
+    /// A turn of the COMPOUND whose call is in this record.
     ///
     /// # Errors
     /// Those of `Running::step`.
@@ -99,7 +99,7 @@ impl KeptCall {
     ghost use Rattle.compound.specs.Views.{in_progress_of, asked_of, resumed};
     ghost use Rattle.server.specs.Stages.{asked_at, fits_in, left_of};
 
-    /// The COMPOUND that stands in this record, from where it has come to.
+    /// The COMPOUND that is in this record, continued from this progress.
     fn resume<'a>(&'a self, alloc: Global, request: &'a [u8], progress: Progress) -> Running<'a>
         requires { fits_in request.now self.now progress ≡ true }
         ensures asked { asked_of result ≡ asked_at request.now self.now }

@@ -5,11 +5,11 @@ ghost use Rattle.server.specs.LifeLaws.{EveryHeld, EveryStays, EveryFollows, Eve
 ghost use Rattle.server.specs.RunLaws.{HangUpIsCalls, IsBounded, NeverEmpty, OnlyIdle};
 
 /// Whatever bytes arrive on whatever connections, and wherever the server crashes: however often
-/// the volume is mounted since, in the same power cycle or after further crashes, and those mounts
-/// are refused, crash or end, the next mount that serves has the tree that a prefix of the
-/// executed operations gives, under a greater restart count. None of them is skipped and none is
-/// there in part; the prefix holds every change and COMMIT whose reply was handed out (an unstable
-/// write apart), and every change in it was permitted.
+/// the volume is mounted since, in the same power cycle or after further crashes, and whether those
+/// mounts are refused, crash or end, the next mount that serves has the tree that a prefix of the
+/// executed operations gives, under a greater restart count. No operation of that prefix is skipped
+/// or is there in part; the prefix holds every change and COMMIT whose reply was handed out (except
+/// an unstable write), and every change in it was permitted.
 ///
 /// `Server::mount` says that a run begins; `Server::{connect, feed, turn, turn_unflushed, flush,
 /// hangup, take_output}` that each call is one of the run, or leaves all as it was; and a mount,
@@ -18,19 +18,19 @@ pub fn every_run()
     ensures headline { EveryRun }
     // what a crash leaves is such a tree, and no other
     ensures stop { EveryStop }
-    // before the first run the empty root stands, and the first mount that serves has it
+    // before the first run there is the empty root, and the first mount that serves has it
     ensures first { EveryFirst }
-    // a tree stands between any two runs too, and no mount is refused as Damaged or NotVolume
+    // there is a tree between any two runs too, and no mount is refused as Damaged or NotVolume
     ensures never_lost { NeverLost }
-    // over every list of calls the world and each answer are the definition's
+    // over every list of calls the world and each result are the definition's
     ensures trace { EveryTrace }
     // runs one after another: each begins with a good tree of the one before, and counts rise
     ensures life { EveryLife }
     // the stamps of a run's changes rise, lost ones too, and from run to run
     ensures stamps { EveryStamping }
-    // nobody is answered OK what the lists deny him
+    // no operation succeeds that the lists deny to its caller
     ensures answers { EveryAnswer }
-    // Idle exactly where there is nothing to do
+    // Idle exactly when there is nothing to do
     ensures idle { OnlyIdle }
     ensures hang_up { HangUpIsCalls }
     // each call makes at most a stated number of writes and syncs
@@ -40,13 +40,14 @@ pub fn every_run()
 {}
 
 /// Exactly once over restarts, on sessions that have a seat, over any list of runs that follow one
-/// another: a reply that a slot was given is held by what a crash leaves until the slot's next is,
-/// or the seat was freed, and that was asked. A session of an earlier run is answered by what its
-/// seat holds and runs nothing, so a slot runs a number again only after the 2^32 - 1 others.
+/// another: a reply that a slot was given is held by what a crash leaves until the slot's next
+/// reply is, or the seat was freed, and a client asked for that. A session of an earlier run gets
+/// what its seat holds and runs nothing, so a slot runs a number again only after the 2^32 - 1
+/// others.
 pub fn every_life()
     // what was held in a run is held at the crash of each later one
     ensures held { EveryHeld }
-    // and is given again in each, to who asks for it again
+    // and is given again in each, to whoever asks for it again
     ensures retried { EveryRetried }
     // a seat that a run began with is left as it was, or was freed
     ensures stays { EveryStays }
@@ -54,7 +55,7 @@ pub fn every_life()
     ensures follows { EveryFollows }
     ensures dead { EveryDead }
     ensures once { EveryOnce }
-    // a session that was told that it persists has a seat, and no other
+    // a session has a seat exactly if it was reported as persistent
     ensures sits { EverySits }
     // no reply of a session that has a seat can be taken before the seat holds it
     ensures stored { EveryStored }

@@ -18,7 +18,7 @@ impl<D: Device> Server<D> {
     ghost use Rattle.server.specs.Headline.{BeginsServing};
     ghost use Rattle.server.specs.Views.{BeginsEmpty, MountsServer};
 
-    /// Makes the device a new volume of this many nodes, with an empty root: `Fs::format`.
+    /// Makes the device a new volume with this many nodes and an empty root: `Fs::format`.
     pub fn format(alloc: Global, device: &mut D, nodes: u32) -> Result<(), FormatFault>
         ensures { Formats D.keeps_word D.size D.failed D.history nodes
             device.old device.new result }
@@ -27,13 +27,13 @@ impl<D: Device> Server<D> {
     }
 
     /// Serves the volume on this device, without a client or a connection yet: `Fs::mount_seated`.
-    /// Every map that a crash leaves from then on has the new restart count. What the seats that
-    /// stand hold is answered whatever the settings say.
+    /// Every image that a crash leaves from then on has the new restart count. The replies that the
+    /// volume's seats hold are given again whatever the settings say.
     ///
     /// # Errors
     /// The device comes back with the reason. NotVolume, then Worn, by the first sector, and then
-    /// nothing was written; then Damaged exactly where no tree stands; Device where the device
-    /// failed, and Memory.
+    /// nothing was written; then Damaged exactly if there is no tree; Device if the device failed,
+    /// and Memory.
     pub fn mount(alloc: Global, device: D, settings: Settings) -> Result<Server<D>, Unmounted<D>>
         ensures world { IfOk result (BeginsEmpty (settings_of settings)) }
         ensures serves { IfOk result (MountsServer device) }
@@ -44,8 +44,8 @@ impl<D: Device> Server<D> {
         Server::mount_with(alloc, device, None, settings)
     }
 
-    /// The same, with a journal that keeps so many sectors in memory. Many connections at once work
-    /// on more sectors than one does.
+    /// The same, with a journal that keeps `cached` sectors in memory. Many connections at once
+    /// work on more sectors than one does.
     ///
     /// # Errors
     /// As `mount`.
@@ -64,7 +64,7 @@ impl<D: Device> Server<D> {
         Server::mount_with(alloc, device, Some(cached), settings)
     }
 
-    /// Mounts with as many sectors in memory as are asked, or as a journal keeps by itself.
+    /// Mounts with `cached` sectors in memory, or with as many as a journal keeps by default.
     fn mount_with(
         alloc: Global,
         device: D,

@@ -41,7 +41,7 @@ impl Connection {
     ghost use Rattle.rpc.specs.Assembly.{record_limits};
     ghost use Rattle.server.specs.Connections.{connection_view};
 
-    /// Nothing has come. All memory that its records need is taken here.
+    /// Nothing has come. All memory that its records need is allocated here.
     pub fn new(alloc: Global) -> Result<Connection, AllocError>
         ensures { IfOk result (λ connection. connection_view connection ≡ Quiet []) }
     {
@@ -53,9 +53,9 @@ impl Connection {
         })
     }
 
-    /// Takes the front of a piece up to the end of the first whole record, and answers how many
+    /// Takes the prefix of a piece up to the end of the first whole record, and returns how many
     /// bytes that is: 0 while a whole request or a reply waits, and `None` once the connection is
-    /// closed. A refused header closes it, and a whole record that is no call.
+    /// closed. A refused header closes it, and so does a whole record that is no call.
     #[tactic(auto, unfolding(crate::specs::Connections::connection_view, model::specs::Server::World::taken_at))]
     pub fn feed(&mut self, piece: &[u8]) -> Option<usize>
         ensures arrived { connection_view self.new

@@ -1,4 +1,4 @@
-//! A whole record: its call is answered at once, or its COMPOUND begins.
+//! A whole record: its call gets its reply at once, or its COMPOUND begins.
 
 ghost use Rattle.std.specs.Prelude.{◌≡◌, Some, [], true, false, IfOk, IfErr, OnErr};
 ghost use Rattle.model.specs.Wire.Record.{framed};
@@ -32,7 +32,7 @@ pub enum Opened {
     Begins(Begun),
 }
 
-/// The first turn of a whole record: its call is answered at once, or the first operation of its
+/// The first turn of a whole record: its call gets its reply at once, or the first operation of its
 /// COMPOUND runs, in the memory that an earlier one left.
 pub fn first_turn<D: Device>(
     request: &[u8],
@@ -49,7 +49,7 @@ pub fn first_turn<D: Device>(
     ensures follows { IfOk result (λ done. can_follow (Some request.now) done ≡ true) }
     // Refused
     ensures back { OnErr result (KeepsRest engine.old engine.new) }
-    // In every answer
+    // In every result
     ensures volume { AltersFiles engine.old engine.new (TurnGives (state_in engine.old)
         (λ world number. called world number engine.old.moment (rpc.read_call request.now)))
         (ending result) }
@@ -72,8 +72,8 @@ pub fn first_turn<D: Device>(
     }
 }
 
-/// Reads the call of a whole record, and tests it. All memory for its reply is taken here, or from
-/// `results_buffer`.
+/// Reads the call of a whole record, and tests it. All memory for its reply is allocated here, or
+/// comes from `results_buffer`.
 pub fn open(
     alloc: Global,
     run: u32,

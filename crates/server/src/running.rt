@@ -36,7 +36,7 @@ impl Connection {
         // Refused
         ensures back { OnErr result ((connection_view self.new ≡ connection_view self.old)
             × KeepsRest engine.old engine.new) }
-        // In every answer
+        // In every result
         ensures volume { AltersFiles engine.old engine.new (TurnGives (state_in engine.old)
             (λ world number. turned world number engine.old.moment
             (Some (connection_view self.old)))) (ending result) }
@@ -67,7 +67,7 @@ impl Connection {
         requires goes_on { (request : List ℕ) × (self.old.assembler ≡ Holds request)
             × CanGoOn (files_in engine.old).volume.run request begun }
         requires up { (files_in engine.old).volume.is_down ≡ false }
-        // What it answers
+        // What it returns
         ensures turn { D.keeps_word → IfOk result (λ done. Leads (λ world number.
             turned world number engine.old.moment
             (Some (busy_with (held_record self.old.assembler) begun)))
@@ -99,7 +99,7 @@ impl Connection {
         }
     }
 
-    /// Goes on after a step, and says what the turn was. With the reply the record goes.
+    /// Goes on after a step, and returns what the turn was. With the reply, the record is released.
     fn settle(&mut self, done: TurnEnd) -> Turn
         requires holds { (request : List ℕ) × (self.old.assembler ≡ Holds request) }
         requires follows { can_follow (held_record self.old.assembler) done ≡ true }

@@ -70,7 +70,8 @@ impl<D: Device> Server<D> {
         self.table.seats()
     }
 
-    /// Whether there is a session of this id. The seat of a session that this run has not is dead.
+    /// Whether there is a session of this id. The seat of a session that is not of this run is
+    /// dead.
     pub fn has_session(&self, id: &[u8; 16]) -> bool
         ensures { result ≡ list_any (is_session id.now) (world_of self.now).table.sessions }
     {
@@ -114,8 +115,8 @@ impl<D: Device> Server<D> {
         self.opens.len()
     }
 
-    /// The device, as it is now: clients, sessions and connections are gone, and what stands on it
-    /// is the next mount's.
+    /// The device, as it is now: clients, sessions and connections are gone, and what is on it is
+    /// there for the next mount.
     pub fn into_device(self) -> D
         ensures history { D.history result ≡ (volume_of self).history }
         ensures size { D.size result ≡ (volume_of self).sectors }
@@ -124,7 +125,7 @@ impl<D: Device> Server<D> {
         self.fs.into_device()
     }
 
-    /// The device, to look at.
+    /// The device, for inspection.
     pub fn device(&self) -> &D
         ensures history { D.history result.now ≡ (volume_of self.now).history }
         ensures size { D.size result.now ≡ (volume_of self.now).sectors }
@@ -136,8 +137,8 @@ impl<D: Device> Server<D> {
     /// A new connection, and its number.
     ///
     /// # Errors
-    /// Device where the file system is down; Full where there are 16 connections; Memory. Nothing
-    /// changed then.
+    /// Device if the file system is down; Full if there are 16 connections; Memory. Nothing changed
+    /// then.
     pub fn connect(&mut self) -> Result<usize, ServerFault>
         ensures ok { D.keeps_word
             → IfOk result (λ conn. Serves self.old self.new (runs.Connects conn) Done) }
@@ -165,12 +166,12 @@ impl<D: Device> Server<D> {
         Ok(self.connections.insert(connection)?)
     }
 
-    /// Takes the front of a piece up to the end of the connection's first whole record, and answers
-    /// how many bytes that is; none while a whole request or a reply waits.
+    /// Takes the prefix of a piece up to the end of the connection's first whole record, and
+    /// returns how many bytes that is; none while a whole request or a reply waits.
     ///
     /// # Errors
-    /// Device where the file system is down; NoConnection; Closed where the piece brings a refused
-    /// header or ends a record that is no call, and from then on. It takes no memory.
+    /// Device if the file system is down; NoConnection; Closed if the piece brings a refused header
+    /// or ends a record that is no call, and from then on. It allocates no memory.
     pub fn feed(&mut self, conn: usize, piece: &[u8]) -> Result<usize, ServerFault>
         ensures ok { D.keeps_word → IfOk result (λ n.
             Serves self.old self.new (runs.Arrives conn piece.now) (Took (Some n))) }
@@ -201,13 +202,13 @@ impl<D: Device> Server<D> {
         Ok(taken)
     }
 
-    /// Gives the connection a turn at this moment, in nanoseconds since 1970: one operation of its
+    /// Gives the connection a turn at this time, in nanoseconds since 1970: one operation of its
     /// request runs, or after the last one a seat holds the reply. A change is kept on the device
     /// before its result is there, and a reply that a seat is to hold before it can be taken.
     ///
     /// # Errors
-    /// Device where the file system is down, or goes down in this call: then no reply tells of the
-    /// operation. NoConnection; Closed where the connection was closed; Memory, and then nothing
+    /// Device if the file system is down, or goes down in this call: then no reply reports the
+    /// operation. NoConnection; Closed if the connection was closed; Memory, and then nothing
     /// changed and the request stays.
     pub fn turn(&mut self, conn: usize, now: u64) -> Result<Turn, ServerFault>
         // Done
@@ -323,7 +324,7 @@ impl<D: Device> Server<D> {
     /// nothing waits, nothing is done.
     ///
     /// # Errors
-    /// Device where the file system is down, or goes down in this call: then no reply tells of what
+    /// Device if the file system is down, or goes down in this call: then no reply reports what
     /// waited.
     pub fn flush(&mut self) -> Result<(), ServerFault>
         // Done
@@ -415,11 +416,11 @@ impl<D: Device> Server<D> {
     }
 
     /// A checkpoint, for when no reply is due: copies home what the commit record names, and clears
-    /// that, so that the next change waits for two syncs, and not for four. Nothing that a client
-    /// can tell changes, and a crash leaves what it might have left before.
+    /// that, so that the next change waits for two syncs instead of four. Nothing that a client can
+    /// observe changes, and a crash leaves what it might have left before.
     ///
     /// # Errors
-    /// Device where the file system is down, or goes down in this call.
+    /// Device if the file system is down, or goes down in this call.
     pub fn checkpoint(&mut self) -> Result<(), ServerFault>
         // Done
         ensures ok { D.keeps_word → OnOk result (Keeps self.old self.new) }
@@ -442,7 +443,7 @@ impl<D: Device> Server<D> {
         }
     }
 
-    /// Hands out the connection's reply record, once; None where there is no reply, and on every
+    /// Hands out the connection's reply record, once; None if there is no reply, and on every
     /// connection while something waits for [`Server::flush`]. A server that is down does so too.
     ///
     /// # Errors

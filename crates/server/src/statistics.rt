@@ -11,7 +11,7 @@ use compound::Ahead;
 use disk::Device;
 use fs::Room;
 
-/// How far a COMPOUND has come that has begun.
+/// The progress of a COMPOUND that has begun.
 #[derive(Clone, Copy)]
 pub struct UnderWay {
     /// How many of its operations have their results.
@@ -41,7 +41,7 @@ impl<D: Device> Server<D> {
         self.fs.change_count()
     }
 
-    /// How far the connection's COMPOUND has come, if one has begun.
+    /// The progress of the connection's COMPOUND, if one has begun.
     pub fn under_way(&self, conn: usize) -> Option<UnderWay>
         ensures { result ≡ under_way (connection_at (view self.now) conn) }
     {
@@ -58,7 +58,7 @@ impl Connection {
     ghost use Rattle.server.specs.Connections.{connection_view};
     ghost use Rattle.server.specs.Way.{under_way};
 
-    /// How far its COMPOUND has come, if one has begun.
+    /// The progress of its COMPOUND, if one has begun.
     fn under_way(&self) -> Option<UnderWay>
         ensures { result ≡ under_way (Some (connection_view self.now)) }
     {
@@ -74,7 +74,7 @@ impl Begun {
     ghost use Rattle.server.specs.Stages.{fits_in, in_progress_at};
     ghost use Rattle.server.specs.Way.{way_of};
 
-    /// How far the COMPOUND has come, whose call stands in this record.
+    /// The progress of the COMPOUND whose call is in this record.
     fn under_way(&self, request: &[u8]) -> UnderWay
         requires { fits_in request.now self.now.call self.now.progress ≡ true }
         ensures { result ≡ way_of (in_progress_at request.now self.now) }

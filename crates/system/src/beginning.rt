@@ -9,7 +9,7 @@ use std::io::ErrorKind;
 use std::rt::Files;
 use std::{env, io};
 
-/// What stands for a standard stream that is closed.
+/// The file that is opened in place of a standard stream that is closed.
 const NOTHING: &str = "/dev/null";
 
 /// What a program begins with.
@@ -47,8 +47,8 @@ impl From<AllocError> for Unbegun {
     }
 }
 
-/// Reads the words of the command line. While what it answers is there, no file that is opened
-/// takes the place of a standard stream that is closed.
+/// Reads the words of the command line. As long as the result exists, no file that is opened takes
+/// the place of a standard stream that is closed.
 pub fn begin<R>(rt: &R) -> Result<Begun, Unbegun>
 where
     R: Files<File = File> + Env + AllocGlobal,

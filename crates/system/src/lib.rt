@@ -1,4 +1,4 @@
-//! What the programs ask of the system, and how they tell what came of it.
+//! What the programs ask of the system, and how they report the outcome.
 #![tactic(auto)]
 
 mod beginning;

@@ -1,4 +1,4 @@
-//! How a program tells what came of it: its exit status, and a line on its standard error.
+//! How a program reports its outcome: its exit status, and a line on its standard error.
 
 use std::fmt::Display;
 use std::io::Write;
@@ -25,7 +25,7 @@ where
     }
 }
 
-/// Tells which words there may be. Answers the exit status.
+/// Prints which words there may be. Returns the exit status.
 pub fn tell_usage<E: Write>(err: &mut E, usage: &str) -> u8 {
     let _ = writeln!(err, "usage: {usage}");
     USAGE

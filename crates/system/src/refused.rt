@@ -27,7 +27,7 @@ pub enum Refused {
     Damaged,
     /// A volume that was mounted as often as can be counted.
     Worn,
-    /// 16 connections stand already.
+    /// There are 16 connections already.
     Full,
     /// The server has no such connection.
     NoConnection,

@@ -11,8 +11,8 @@ pub struct VolumeSize {
 }
 
 impl VolumeSize {
-    /// The size of two words, in decimal digits; None if one of them is no such number, or beyond
-    /// what any volume has.
+    /// The size that two words give, in decimal digits; None if one of them is no such number, or
+    /// no volume has this size.
     pub fn parse(sectors: &str, nodes: &str) -> Option<VolumeSize> {
         let size = VolumeSize {
             sectors: decimal(sectors)?,

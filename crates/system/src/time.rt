@@ -13,7 +13,7 @@ pub trait WallClock {
     ghost use Rattle.std.specs.Prelude.{IfOk};
     ghost use Rattle.std.specs.declared.time.SystemTime.{SystemTime};
 
-    // The times that it may show, where they are known.
+    // The times that it may show, if they are known.
     ghost shows: { Self → SystemTime → Type 0 } = { λ _ _. Unit {0} };
 
     /// The time of day.
@@ -33,7 +33,7 @@ impl<C: Clock> WallClock for C {
 /// The moment, in nanoseconds since 1970.
 ///
 /// # Errors
-/// Io: the clock cannot be read, or shows what cannot be counted so.
+/// Io: the clock cannot be read, or shows 2^64 nanoseconds or more.
 pub fn moment<C: WallClock>(clock: &C) -> Result<u64, Refused>
     ensures { IfOk result (IsMoment (C.shows clock.now)) }
 {
@@ -41,7 +41,7 @@ pub fn moment<C: WallClock>(clock: &C) -> Result<u64, Refused>
     nanos_of(time).ok_or(Refused::Io)
 }
 
-/// The time in nanoseconds since 1970, if there are fewer than 2^64.
+/// The time in nanoseconds since 1970, if it is below 2^64.
 fn nanos_of(time: SystemTime) -> Option<u64>
     ensures { MatchOption result (2 ^ 64 ≤ system_time_nanos time)
         (λ nanos. nanos ≡ system_time_nanos time) }

@@ -73,7 +73,7 @@ pub fn begins_as_volume<R>(rt: &R, file: &str) -> Result<bool, Refused>
 where
     R: Files<File = File>,
 {
-    // To open a pipe for reading waits for its writer.
+    // Opening a pipe for reading waits for its writer.
     if !is_file(rt, file)? {
         return Ok(false);
     }
@@ -89,11 +89,11 @@ where
     }
 }
 
-/// The volume in a file, which nobody else has meanwhile.
+/// The volume in a file, which nobody else uses meanwhile.
 ///
 /// # Errors
-/// Open where the file is not there, may not be written, is no file, or is locked; NotVolume where
-/// it is not one of whole sectors; Memory.
+/// Open if the file is not there, may not be written, is no file, or is locked; NotVolume if its
+/// size is not a whole number of sectors; Memory.
 pub fn open_volume<R>(rt: &R, file: &str) -> Result<FileDevice, Refused>
 where
     R: Files<File = File> + AllocGlobal,
@@ -101,7 +101,7 @@ where
     whole(FileDevice::open(rt, rt.alloc(), file)?)
 }
 
-/// The volume in a file, to read alone.
+/// The volume in a file, only to be read.
 ///
 /// # Errors
 /// As [`open_volume`]; the file may be one that may not be written.
@@ -109,7 +109,7 @@ pub fn open_volume_to_read<R>(rt: &R, file: &str) -> Result<FileDevice, Refused>
 where
     R: Files<File = File> + AllocGlobal,
 {
-    // To open a pipe for reading waits for its writer.
+    // Opening a pipe for reading waits for its writer.
     if !is_file(rt, file)? {
         return Err(Refused::Open);
     }
@@ -123,7 +123,7 @@ fn is_file<R: Files>(rt: &R, file: &str) -> Result<bool, Refused> {
     }
 }
 
-/// The device, if its file is one of whole sectors.
+/// The device, if the size of its file is a whole number of sectors.
 fn whole(device: FileDevice) -> Result<FileDevice, Refused> {
     if device.is_whole() {
         Ok(device)

@@ -1,5 +1,4 @@
-//! Tests of a file system over memory: its operations, and what stands on the sectors of its
-//! volume.
+//! Tests of a file system over memory: its operations, and what is on the sectors of its volume.
 #![tactic(auto)]
 
 #[cfg(test)]

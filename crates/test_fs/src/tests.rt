@@ -1,5 +1,5 @@
-//! What no contract says: what stands after mounts of version 1 and their crashes, which images a
-//! mount refuses, and that nothing is refused where there is room.
+//! What no contract says: what is there after mounts of version 1 and their crashes, which images a
+//! mount refuses, and that nothing is refused if there is room.
 
 mod caches;
 mod drivers;

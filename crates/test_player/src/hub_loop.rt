@@ -1,4 +1,4 @@
-//! The loop of rows over sockets: that of the program, over a clock that does not go.
+//! The loop of rows over sockets: that of the program, over a stopped clock.
 
 use crate::device::{RowDevice, Uncounted};
 use crate::host::holding_of;
@@ -15,7 +15,7 @@ use test_rows::{Choices, Difference, Loop, Refusal, TrialDevice};
 /// The moment of each turn, as of those on the server itself.
 const MOMENT_NANOS: u64 = 5;
 
-/// A clock that does not go.
+/// A clock that is stopped.
 #[derive(Drop)]
 struct Still;
 

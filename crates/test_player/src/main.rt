@@ -13,7 +13,7 @@ use run::{run, run_again};
 use std::env;
 use std::process::ExitCode;
 
-/// The exit status where a file cannot be read or has no form.
+/// The exit status if a file cannot be read or has no form.
 const REFUSED: u8 = 2;
 
 fn main(rt: HostRuntime) -> ExitCode {
@@ -27,7 +27,7 @@ fn main(rt: HostRuntime) -> ExitCode {
     }
 }
 
-/// Plays the files that the words of the command line name. Whether all went as written.
+/// Plays the files that the words of the command line name. Returns whether all went as written.
 fn play_words(rt: &HostRuntime) -> anyhow::Result<bool> {
     let words: Vec<String> = env::args(rt)?.skip(1).collect(rt.alloc())?;
     match words.as_slice() {

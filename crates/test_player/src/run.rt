@@ -13,15 +13,15 @@ use test_rows::{
 /// How the name of a file of cases ends. Every other file has rows.
 const CASES: &str = ".cases";
 
-/// Where rows are played, and how a line says so.
+/// The places at which rows are played, and how a line says so.
 const PLACES: [(Place, &str); 3] = [
     (Place::Server, ""),
     (Place::Sockets, ", over sockets"),
     (Place::Shared, ", with shared flushes"),
 ];
 
-/// Plays the files, whose rows may name the records of the file `shared`, and prints a line for each row
-/// and case. Whether all went as written.
+/// Plays the files, whose rows may name the records of the file `shared`, and prints a line for
+/// each row and case. Returns whether all went as written.
 pub fn run(rt: &HostRuntime, shared: &str, files: &[String]) -> Result<bool> {
     let records = read_text(rt, shared)?;
     let mut as_written = true;
@@ -51,7 +51,8 @@ fn read_text<R: Files + AllocGlobal>(rt: &R, file: &str) -> Result<String> {
 }
 
 /// Plays the rows of one file, each on the server itself, with one more try of each call that is
-/// refused because memory ran out. A line is printed before each. Whether all went as written.
+/// refused because memory ran out. A line is printed before each. Returns whether all went as
+/// written.
 pub fn run_again(rt: &HostRuntime, shared: &str, file: &str) -> Result<bool> {
     let (records, text) = (read_text(rt, shared)?, read_text(rt, file)?);
     let sheet = read_rows(rt, (shared, &records), (file, &text))?;
@@ -127,7 +128,8 @@ fn play_cases(rt: &HostRuntime, file: &str, cases: &[Case<'_>]) -> Result<bool> 
     Ok(as_written)
 }
 
-/// Prints how a row or a case went, and where it was played. Whether it went as written.
+/// Prints how a row or a case went, and at which place it was played. Returns whether it went as
+/// written.
 fn print_outcome<R: Print>(
     rt: &R,
     file: &str,
@@ -163,7 +165,7 @@ fn print_crashes<R: Print>(
     }
 }
 
-/// Prints how a row went, and how many calls came again. Whether it went as written.
+/// Prints how a row went, and how many calls were repeated. Returns whether it went as written.
 fn print_again<R: Print>(
     rt: &R,
     file: &str,

@@ -34,7 +34,7 @@ pub enum Turn {
     Answered,
 }
 
-/// A call returns what is wanted.
+/// A call returns what is expected.
 pub fn expect(wanted: Answer, got: Answer) -> Result<(), Difference> {
     if wanted == got {
         Ok(())

@@ -25,7 +25,7 @@ pub enum Difference {
         wanted: Words,
         got: Words,
     },
-    /// A call of a server is answered otherwise.
+    /// A call of a server returns something else.
     Answer {
         wanted: Answer,
         got: Answer,
@@ -49,17 +49,17 @@ pub enum Difference {
         wanted: usize,
         got: usize,
     },
-    /// A file is not as another one.
+    /// A file differs from another one.
     Bytes,
     /// There is a file that was to be absent.
     Present,
     /// A file has fewer bytes than are to be changed.
     Short,
-    /// The device did not crash where it was to.
+    /// The device did not crash when it was to.
     NoCrash,
     /// A call of the device failed, and no call of the server failed with it.
     Unreturned,
-    /// A mount finds a state that a crash may not leave: what it answers to the looks.
+    /// A mount finds a state that a crash may not leave: its replies to the looks.
     State(Answers),
     /// A mount after a mount that crashed finds another state.
     OtherState,
@@ -199,7 +199,7 @@ pub fn placed<T: Drop>(line: u32, outcome: Result<T, Difference>) -> Result<T, D
     }
 }
 
-/// The reply is the one that is wanted.
+/// The reply is the expected one.
 pub fn expect_reply(alloc: Global, wanted: &[u8], got: Vec<u8>) -> Result<(), Difference> {
     if got.as_slice() == wanted {
         return Ok(());
@@ -210,7 +210,7 @@ pub fn expect_reply(alloc: Global, wanted: &[u8], got: Vec<u8>) -> Result<(), Di
     })
 }
 
-/// A text or a file has the length that is wanted.
+/// A text or a file has the expected length.
 pub fn expect_length(wanted: usize, got: usize) -> Result<(), Difference> {
     if wanted == got {
         Ok(())

@@ -67,7 +67,7 @@ pub fn connect<H: Host>(served: &mut Served<H>) -> Result<(), Difference> {
     Ok(())
 }
 
-/// Takes a step, where calls that meet come in the order of this number.
+/// Takes a step; calls that meet come in the order of this number.
 pub fn take<H: Host>(
     alloc: Global,
     served: &mut Served<H>,
@@ -140,7 +140,7 @@ fn drip<H: Host>(
     Ok(())
 }
 
-/// Hands in a record, which is answered or closes the connection.
+/// Hands in a record, which gets a reply or closes the connection.
 fn send<H: Host>(
     served: &mut Served<H>,
     connection: usize,
@@ -173,7 +173,7 @@ pub fn run_to_reply<H: Host>(served: &mut Served<H>, connection: usize) -> Resul
     expect(Answer::Turned(Turn::Answered), got)
 }
 
-/// Gives a turn, which does what is wanted.
+/// Gives a turn, which does what is expected.
 fn turn<H: Host>(
     served: &mut Served<H>,
     connection: usize,
@@ -277,7 +277,7 @@ fn go_round<H: Host>(
     Ok(())
 }
 
-/// Hands in bytes that close the connection, which stays so.
+/// Hands in bytes that close the connection, which stays closed.
 fn close<H: Host>(
     served: &mut Served<H>,
     connection: usize,

@@ -16,13 +16,13 @@ pub enum Fault {
     Word,
     /// A step has no form.
     Step,
-    /// A step names a record that does not stand above it.
+    /// A step names a record that is not above it.
     Unknown,
     /// A record has a gap that its step does not fill.
     Gap,
-    /// A record has not that number of bytes.
+    /// A record does not have that number of bytes.
     Short,
-    /// After `\` there are no two hexadecimal digits.
+    /// After `\` there are not two hexadecimal digits.
     Escape,
 }
 

@@ -1,6 +1,6 @@
 //! Numbers in the words of a file.
 
-/// A number of nothing but decimal digits.
+/// A number of decimal digits only.
 pub fn decimal(text: &str) -> Option<u32> {
     if text.starts_with('+') {
         return None;
@@ -8,7 +8,7 @@ pub fn decimal(text: &str) -> Option<u32> {
     u32::from_str_radix(text, 10).ok()
 }
 
-/// A number of nothing but hexadecimal digits.
+/// A number of hexadecimal digits only.
 pub fn hexadecimal(text: &str) -> Option<u32> {
     if text.starts_with('+') {
         return None;

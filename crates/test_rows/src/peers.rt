@@ -20,7 +20,7 @@ pub fn write(peer: &TcpStream, bytes: &[u8]) -> io::Result<()> {
     peer.write_all(bytes)
 }
 
-/// Takes what came to a peer; whether its connection has ended.
+/// Takes what came to a peer. Returns whether its connection has ended.
 pub fn has_ended(peer: &TcpStream, bytes: &mut Vec<u8>) -> io::Result<bool> {
     let mut peer = peer;
     match peer.read_to_end(bytes) {

@@ -23,7 +23,7 @@ const WHOLE: usize = usize::MAX;
 /// The sizes of the pieces of records that meet over sockets.
 const PIECES: [usize; 4] = [WHOLE, 64, 7, 1];
 
-/// Where a row is played.
+/// The place at which a row is played.
 #[derive(Clone, Copy, PartialEq, Eq)]
 pub enum Place {
     /// On the server itself.
@@ -34,10 +34,10 @@ pub enum Place {
     Shared,
 }
 
-/// What is done where a call is refused because memory ran out.
+/// What is done if a call is refused because memory ran out.
 #[derive(Clone, Copy, PartialEq, Eq)]
 pub enum Patience {
-    /// It is another answer than the row has.
+    /// It is a difference from the row.
     None,
     /// It is made once more.
     Once,
@@ -62,11 +62,12 @@ pub trait Stage: Sized + Drop {
 
     fn take(self, rt: &HostRuntime, step: &Step) -> Result<Self, Difference>;
 
-    /// Nothing is left over. How many calls came again.
+    /// Nothing is left over. Returns how many calls were repeated.
     fn end(self) -> Result<u32, Difference>;
 }
 
-/// Plays a row in each order in which records that meet arrive. How many calls came again.
+/// Plays a row in each order in which records that meet arrive. Returns how many calls were
+/// repeated.
 pub fn play_row<H: Host, L: Loop>(
     rt: &HostRuntime,
     row: &Row<'_>,
@@ -90,7 +91,7 @@ pub fn play_row<H: Host, L: Loop>(
     Ok(again)
 }
 
-/// Plays a row over sockets, in pieces of each size where records meet.
+/// Plays a row over sockets, in pieces of each size if records meet.
 fn play_in_pieces<H: Host, L: Loop>(
     rt: &HostRuntime,
     row: &Row<'_>,
@@ -147,7 +148,7 @@ fn format<H: Host>(
     }
 }
 
-/// Whether a call that was refused so is made once more.
+/// Whether a call that was refused with this fault is made once more.
 pub fn comes_again(fault: Refusal, patience: Patience) -> bool {
     fault == Refusal::Memory && patience == Patience::Once
 }

@@ -1,4 +1,4 @@
-//! A server as a row is played on it, and the calls that come again because memory ran out.
+//! A server as a row is played on it, and the calls that are repeated because memory ran out.
 
 use crate::answer::Answer;
 use crate::difference::Difference;
@@ -14,12 +14,12 @@ use std::alloc::Global;
 pub struct Served<H: Host> {
     host: H,
     patience: Patience,
-    /// How many calls came again.
+    /// How many calls were repeated.
     again: u32,
 }
 
 impl<H: Host> Served<H> {
-    /// Mounts a device. It comes back where that is refused.
+    /// Mounts a device. It comes back if that is refused.
     pub fn mount(
         alloc: Global,
         device: TrialDevice,
@@ -58,7 +58,7 @@ impl<H: Host> Served<H> {
         self.host.run()
     }
 
-    /// How many calls came again.
+    /// How many calls were repeated.
     pub fn again(&self) -> u32 {
         self.again
     }
@@ -141,7 +141,7 @@ impl<H: Host> Served<H> {
         }
     }
 
-    /// Whether a call that was refused so is made once more.
+    /// Whether a call that was refused with this fault is made once more.
     fn comes_again(&mut self, fault: Option<Refusal>) -> bool {
         let is_again = fault.is_some_and(|fault| comes_again(fault, self.patience));
         if is_again {
@@ -151,7 +151,7 @@ impl<H: Host> Served<H> {
     }
 }
 
-/// Mounts a device once more, if that was refused because memory ran out, and is to come again.
+/// Mounts a device once more, if that was refused because memory ran out, and is to be repeated.
 fn mount_again<H: Host>(
     alloc: Global,
     unmounted: Unmounted,

@@ -12,7 +12,7 @@ use std::alloc::Global;
 use std::net::{SocketAddr, TcpStream};
 use std::time::Duration;
 
-/// How long the loop waits for the system, where it has nothing to do.
+/// How long the loop waits for the system, if it has nothing to do.
 const WAIT_MILLIS: u64 = 50;
 
 /// More rounds of the loop than a record takes.
@@ -31,7 +31,7 @@ pub trait Loop: Sized + Drop {
     /// The address to which peers connect.
     fn address(&self) -> SocketAddr;
 
-    /// Goes one round, which waits so long for the system where there is nothing to do. Whether
+    /// Goes one round, which waits at most for `timeout` if there is nothing to do. Returns whether
     /// there is more to do at once.
     fn go_on(&mut self, timeout: Duration) -> Result<bool, Refusal>;
 }
@@ -163,7 +163,7 @@ impl<L: Loop> Sockets<L> {
         Ok(self.peers.get(connection).ok_or(Refusal::NoConnection)?)
     }
 
-    /// A round of the loop, which waits for the system where there is nothing else to do.
+    /// A round of the loop, which waits for the system if there is nothing else to do.
     fn go_on(&mut self) -> Result<(), Difference> {
         let timeout = if self.goes_on {
             Duration::ZERO
@@ -206,8 +206,8 @@ impl<L: Loop> Sockets<L> {
         Ok(())
     }
 
-    /// The loop goes on until that number of bytes came, or the connection ended. What came, and whether
-    /// it ended.
+    /// The loop goes on until `count` bytes came, or the connection ended. Returns what came, and
+    /// whether it ended.
     fn receive(&mut self, connection: usize, count: usize) -> Result<(Vec<u8>, bool), Difference> {
         let mut bytes = Vec::new(self.alloc);
         for _ in 0..MAX_ROUNDS {
@@ -227,7 +227,7 @@ impl<L: Loop> Sockets<L> {
         expect_reply(self.alloc, reply, bytes)
     }
 
-    /// A record is answered, or closes the connection.
+    /// A record gets a reply, or closes the connection.
     fn send(&mut self, connection: usize, record: &[u8]) -> Result<(), Difference> {
         self.write(connection, record)?;
         let (bytes, ended) = self.receive(connection, 1)?;
@@ -245,13 +245,13 @@ impl<L: Loop> Sockets<L> {
         expect(CLOSED, if ended { CLOSED } else { Answer::NoReply })
     }
 
-    /// A record is not answered yet.
+    /// A record gets no reply yet.
     fn wait(&mut self, connection: usize, record: &[u8]) -> Result<(), Difference> {
         self.feed(connection, record)?;
         expect_none(self.alloc, self.peer(connection)?)
     }
 
-    /// Records come piece by piece, and are answered.
+    /// Records come piece by piece, and get their replies.
     fn meet(&mut self, calls: &[Call]) -> Result<(), Difference> {
         let calls = in_order(self.alloc, calls, self.arrival.order)?;
         let longest = calls.iter().map(|call| call.record.len()).max();

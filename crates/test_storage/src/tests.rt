@@ -1,4 +1,4 @@
-//! What no contract says: that calls succeed, what stands in a file, and what a crash leaves.
+//! What no contract says: that calls succeed, what is in a file, and what a crash leaves.
 
 mod drivers;
 mod files;

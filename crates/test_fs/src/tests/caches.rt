@@ -1,5 +1,5 @@
 //! Files enough for more sectors than a journal keeps: one that keeps one sector and one that keeps
-//! 64 answer the same, and leave the same sectors.
+//! 64 return the same, and leave the same sectors.
 
 ghost use Rattle.std.specs.Prelude.{◌≤◌, length};
 ghost use Rattle.fs.specs.Opening.{type_of};
@@ -19,7 +19,7 @@ const FILES: u32 = 200;
 /// The number of the root.
 const ROOT: u64 = 1;
 
-/// When all is done, in nanoseconds since 1970.
+/// When everything is done, in nanoseconds since 1970.
 const NOW: u64 = 5;
 
 /// The attribute mode, and 644 as its value.
@@ -81,7 +81,7 @@ fn write(
     Ok(())
 }
 
-/// Puts the bytes of a file behind others, and whether they were all.
+/// Appends the bytes of a file, and whether they were all.
 fn read(fs: &mut Fs<&mut Disk>, number: u64, out: &mut Vec<u8>) -> Result<(), Fail> {
     let is_end = fs.read(&caller(), number, Ok(()), 0, 100, out)?;
     out.push(u8::from(is_end))?;
@@ -94,7 +94,7 @@ fn remove(fs: &mut Fs<&mut Disk>, name: &[u8]) -> Result<u64, FsFault> {
     Ok(removed.after)
 }
 
-/// What a file system answers.
+/// What a file system returns.
 #[derive(Drop)]
 struct Told {
     numbers: Vec<u64>,
@@ -133,7 +133,7 @@ fn remove_all(alloc: Global, fs: &mut Fs<&mut Disk>, told: &mut Told) -> Result<
     Ok(())
 }
 
-/// What a file system answers whose journal keeps so many sectors.
+/// What a file system returns whose journal keeps `cached` sectors.
 fn work(alloc: Global, disk: &mut Disk, cached: NonZeroUsize) -> Result<Told, Fail> {
     let mut fs = match Fs::mount_cached(alloc, disk, cached) {
         Ok(fs) => fs,
@@ -150,7 +150,7 @@ fn work(alloc: Global, disk: &mut Disk, cached: NonZeroUsize) -> Result<Told, Fa
     Ok(told)
 }
 
-/// The answers, and the sectors in the end.
+/// What the calls return, and the sectors in the end.
 fn worked(alloc: Global, cached: usize) -> Result<(Told, Image), Fail> {
     let mut disk = formatted(alloc, 1_024, 300)?;
     let cached = NonZeroUsize::new(cached).unwrap_or(NonZeroUsize::MIN);
@@ -162,7 +162,8 @@ fn worked(alloc: Global, cached: usize) -> Result<(Told, Image), Fail> {
 fn a_cache_changes_nothing_of_200_files(rt: HostRuntime) -> Result<(), Fail> {
     let (one, sectors) = worked(rt.alloc(), 1)?;
     let (many, others) = worked(rt.alloc(), 64)?;
-    // Four bytes, and twice six of them, each time with one that says whether there are more.
+    // Four bytes, and twice six of them, each time with a byte that says whether the file ends
+    // there.
     assert!(rt;
         one.bytes.len() == 19 * FILES as usize,
         "other bytes than were written"

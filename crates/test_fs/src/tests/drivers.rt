@@ -1,5 +1,5 @@
-//! The calls of a file system and of a device. Each stands here once, with no contract: a call
-//! brings all that it promises into the proof of its caller.
+//! The calls of a file system and of a device. Each is here once, with no contract: a call brings
+//! all that it promises into the proof of its caller.
 
 use super::sectors::Image;
 use disk::{Call, CallKind, CrashDevice, Device, FaultDevice, MemDevice, SECTOR, Stop};
@@ -37,8 +37,8 @@ pub(super) fn formatted(alloc: Global, sectors: u32, nodes: u32) -> Result<Disk,
     Ok(disk)
 }
 
-/// Mounts a disk, whatever stands on it, by a journal that keeps one sector, and leaves it. The
-/// run, or why it was refused.
+/// Mounts a disk, whatever it holds, with a journal that keeps one sector, and leaves it. Returns
+/// the run, or why it was refused.
 pub(super) fn try_mount(alloc: Global, disk: &mut Disk) -> Result<u32, MountFault> {
     match Fs::mount_cached(alloc, disk, NonZeroUsize::MIN) {
         Ok(fs) => Ok(fs.restart_count()),
@@ -46,14 +46,14 @@ pub(super) fn try_mount(alloc: Global, disk: &mut Disk) -> Result<u32, MountFaul
     }
 }
 
-/// Whether a tree stands on a disk.
+/// Whether a disk holds a tree.
 pub(super) fn check(alloc: Global, disk: &mut Disk) -> Result<(), MountFault> {
     let mut disk = disk;
     Fs::check(alloc, &mut disk)?;
     Ok(())
 }
 
-/// What a check and a mount both answer, if they answer the same, and neither writes to what it
+/// What a check and a mount both return, if they return the same, and neither writes to what it
 /// refuses.
 pub(super) fn judge(alloc: Global, disk: Disk) -> Option<Result<(), MountFault>> {
     let mut disk = disk;

@@ -7,8 +7,8 @@
 use super::sectors::Volume;
 
 /// Of 16 nodes they are those of the sectors 148 (the root), 163, 162, 161, 160 and 159. From 164
-/// on stand the block of the root and its run sector, those of `a` and of `b`, two blocks of `f`
-/// and its run sector, and the first block of `g`, its run sector and its other block.
+/// on there are the block of the root and its run sector, those of `a` and of `b`, two blocks of
+/// `f` and its run sector, and the first block of `g`, its run sector and its other block.
 pub(super) const OF_16_NODES: Volume = (256, OF_16);
 
 pub(super) const OF_64_NODES: Volume = (256, OF_64);

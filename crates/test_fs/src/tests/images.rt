@@ -1,8 +1,7 @@
-//! Volumes with bytes that are other ones: those on which no tree stands are refused, and nothing
-//! is written to them.
+//! Volumes with changed bytes: those that hold no tree are refused, and nothing is written to them.
 //!
-//! A line of a text is such a volume, after its name: what is put into a good one, as
-//! `sectors::put_all` has it.
+//! A line of a text is such a volume, after its name: what is put into a good one, in the form of
+//! `sectors::put_all`.
 
 use super::drivers::{Disk, NO_CALL, disk_of, judge};
 use super::filling::OF_16_NODES;
@@ -105,8 +104,8 @@ a session twice: @109 534553530000000100000003 00000000 00000002 0*7 01
 at the last place: @136 534553530000000100000003 00000000 00000002 0*7 01
 a seat beside a mark: @147 4d49475200000010";
 
-/// Of version 1, where 13 of the 16 places are moved, which have the nodes of the sectors 148, 159
-/// and 160.
+/// Of version 1, with 13 of the 16 places moved, which have the nodes of the sectors 148, 159 and
+/// 160.
 const MOVING_FAULTS: &str = "no mark: @147 0000000000000000
 the mark of no places: @147 0*7 00
 of a place too few: @147 0*7 0c
@@ -135,7 +134,7 @@ fn put_line(image: &mut Image, line: &str) {
     }
 }
 
-/// Each is taken, or refused so.
+/// Each is taken, or refused with this fault.
 fn expect(
     rt: &impl Abort,
     alloc: Global,
@@ -161,7 +160,7 @@ fn seated(alloc: Global) -> Result<Image, AllocError> {
     Ok(image)
 }
 
-/// Of version 1, of which so many places are moved.
+/// Of version 1, with `moved` places moved.
 fn moving(alloc: Global, moved: u8) -> Result<Image, AllocError> {
     let mut image = volume_image(alloc, OF_16_NODES)?;
     take_back(&mut image, 16, moved);
@@ -200,7 +199,7 @@ fn faults_of_a_seat_are_refused(rt: HostRuntime) -> Result<(), Fail> {
     expect(&rt, rt.alloc(), &good, SEAT_FAULTS, DAMAGED)
 }
 
-/// Of version 1, of which none, some and all places are moved.
+/// Of version 1, with none, some and all places moved.
 #[test]
 fn a_seat_in_version_1_is_refused(rt: HostRuntime) -> Result<(), Fail> {
     for moved in [0, 4, 16] {

@@ -1,5 +1,5 @@
 //! Mounts of version 1: wherever one crashes, and whatever call of the device fails, the same tree
-//! stands, and in the end it has version 2.
+//! is there, and in the end it has version 2.
 
 use super::drivers::{NO_CALL, check, disk_of, image_of, try_mount};
 use super::filling::{OF_16_NODES, OF_64_NODES};
@@ -18,11 +18,11 @@ const MAX_PLACES: usize = 100;
 /// The landings of nothing and of everything are among the first of more than six sectors.
 const FEW: usize = 4;
 
-/// The first sector of what a tree stands on, the bitmap.
+/// The first sector that represents a tree, the bitmap.
 const TREE: usize = 98;
 
-/// Where a volume is between version 1 and version 2: its version, how many places are moved, as
-/// its mark tells, and how many sectors the gate names.
+/// How far a volume is from version 1 to version 2: its version, how many places are moved, as its
+/// mark says, and how many sectors the gate names.
 type Place = [u8; 3];
 
 /// Gives each sector that the gate names what the log has for it.
@@ -48,7 +48,7 @@ fn move_node(bytes: &mut [u8; SECTOR]) {
     }
 }
 
-/// Leaves what a tree stands on, with each node in form two.
+/// Leaves the sectors that represent a tree, with each node in form two.
 fn keep_tree(image: &mut Image) {
     for (number, bytes) in image.iter_mut().enumerate() {
         if number < TREE || number == MARK {
@@ -59,7 +59,7 @@ fn keep_tree(image: &mut Image) {
     }
 }
 
-/// Where the volume is, and its tree.
+/// How far the migration of the volume is, and its tree.
 fn read_image(alloc: Global, image: &Image) -> Result<(Place, Image), AllocError> {
     let mut tree = copy_image(alloc, image)?;
     settle(&mut tree);
@@ -94,7 +94,7 @@ fn expect_check(alloc: Global, image: &Image) -> Result<(), Fail> {
     need(answer.is_ok() && is_unchanged, "a check")
 }
 
-/// What a mount answered and left, and how many writes and syncs it made.
+/// What a mount returned and left, and how many writes and syncs it made.
 #[derive(Drop)]
 struct Left {
     answer: Result<u32, MountFault>,
@@ -129,7 +129,7 @@ fn crash(alloc: Global, before: &Image, step: u64) -> Result<CrashDevice, Fail> 
     }
 }
 
-/// What stands on the sectors when this lands.
+/// What is on the sectors when this lands.
 fn land(alloc: Global, crashed: &CrashDevice, landing: &[Landed]) -> Result<Image, Fail> {
     let mut device = crashed.landed(alloc, landing)?;
     image_of(alloc, &mut device)
@@ -180,7 +180,7 @@ impl Trial {
         )
     }
 
-    /// The whole mount. How many writes and syncs it takes.
+    /// The whole mount. Returns how many writes and syncs it takes.
     fn finish(&self, before: &Image) -> Result<usize, Fail> {
         let left = mount(self.alloc, before, NO_CALL)?;
         self.expect_end(before, &left)?;
@@ -210,8 +210,8 @@ impl Trial {
         Ok(())
     }
 
-    /// A mount that crashes within this step, and so many of the landings. What a crash before a
-    /// step leaves is among what one within it may leave.
+    /// A mount that crashes within this step, and at most `most` of the landings. What a crash
+    /// before a step leaves is among what one within it may leave.
     fn crash(&mut self, before: &Image, step: u64, most: usize) -> Result<(), Fail> {
         let crashed = crash(self.alloc, before, step)?;
         let landings = landings(self.alloc, &crashed.unsynced(self.alloc)?)?;
@@ -246,8 +246,8 @@ impl Trial {
             .any(|([one, other, _], _)| *one == version && *other == mark)
     }
 
-    /// A mount of which one call fails, or none where there are not so many. After it the next
-    /// mount ends it all.
+    /// A mount of which this call fails, or none if there is no such call. After it the next mount
+    /// ends it all.
     fn fail(&self, before: &Image, kind: CallKind, number: u64) -> Result<bool, Fail> {
         let left = mount(self.alloc, before, (kind, number))?;
         if left.answer == Err(MountFault::Device) {
@@ -259,7 +259,7 @@ impl Trial {
         Ok(false)
     }
 
-    /// One call of this kind fails, each in its turn. How many there are.
+    /// One call of this kind fails, each in its turn. Returns how many there are.
     fn fail_each(&self, before: &Image, kind: CallKind) -> Result<usize, Fail> {
         for number in 0..MAX_CALLS {
             if !self.fail(before, kind, number as u64)? {
@@ -282,7 +282,7 @@ impl Trial {
     }
 }
 
-/// The volume of `filling` with 16 nodes, as a migration left it that has moved so many.
+/// The volume of `filling` with 16 nodes, as a migration that has moved `moved` places left it.
 fn moving(alloc: Global, moved: u8) -> Result<Image, AllocError> {
     let mut image = volume_image(alloc, OF_16_NODES)?;
     take_back(&mut image, 16, moved);
@@ -308,7 +308,7 @@ fn a_migration_goes_on_from_each_mark(rt: HostRuntime) -> Result<(), Fail> {
     Ok(())
 }
 
-/// A migration of so many places was found with these marks of each version, and with no other.
+/// A migration of `nodes` places was found with exactly these marks of each version.
 fn expect_marks(trial: &Trial, nodes: u8) -> Result<(), Fail> {
     for mark in 0..=u8::MAX {
         let is_end = mark == 0 || mark == nodes;
@@ -343,7 +343,7 @@ fn crashes_of_a_migration(rt: HostRuntime) -> Result<(), Fail> {
     expect_marks(&trial, 64)
 }
 
-/// All of the 64 nodes are used, so that a transaction has as many sectors as it may have.
+/// All of the 64 nodes are used, so that a transaction has the most sectors that it may have.
 #[test]
 fn crashes_of_the_migration_of_64_nodes(rt: HostRuntime) -> Result<(), Fail> {
     try_crashes(rt.alloc(), &volume_image(rt.alloc(), WIDE)?, 64)

@@ -5,8 +5,8 @@ use std::alloc::{AllocError, Global};
 
 pub(super) type Image = Vec<[u8; SECTOR]>;
 
-/// A volume: how many sectors it has, and what stands in those that are not zero, as `put_all` has
-/// it. Payload sectors are left out, since the gate is closed.
+/// A volume: how many sectors it has, and what is in those that are not zero, in the form of
+/// `put_all`. Payload sectors are left out, since the gate is closed.
 pub(super) type Volume = (usize, &'static str);
 
 /// The sector of a mark, and the first one of the node table.
@@ -29,7 +29,7 @@ pub(super) fn copy_image(alloc: Global, image: &[[u8; SECTOR]]) -> Result<Image,
     Ok(copy)
 }
 
-/// A byte of a sector, 0 where there is none.
+/// A byte of a sector, 0 if there is none.
 pub(super) fn byte_at(image: &[[u8; SECTOR]], sector: usize, place: usize) -> u8 {
     let found = image.get(sector).and_then(|bytes| bytes.get(place));
     found.copied().unwrap_or(0)
@@ -41,7 +41,7 @@ fn put_byte(image: &mut [[u8; SECTOR]], sector: usize, place: usize, byte: u8) {
     }
 }
 
-/// The number of decimal digits, 0 where there is none.
+/// The number of decimal digits, 0 if there is none.
 fn number(digits: &str) -> usize {
     usize::from_str_radix(digits, 10).unwrap_or(0)
 }
@@ -53,7 +53,7 @@ fn hex_byte(digits: &str, place: usize) -> u8 {
     u8::from_str_radix(pair, 16).unwrap_or(0)
 }
 
-/// Puts bytes into a sector. The place behind them.
+/// Puts bytes into a sector. Returns the place after them.
 fn put_hex(image: &mut [[u8; SECTOR]], sector: usize, place: usize, digits: &str) -> usize {
     let mut at = place;
     for i in 0..digits.len() / 2 {
@@ -63,8 +63,8 @@ fn put_hex(image: &mut [[u8; SECTOR]], sector: usize, place: usize, digits: &str
     at
 }
 
-/// Puts what a text says: `@N` begins sector N, `0*N` leaves so many bytes as they are, and any
-/// other word is bytes in hexadecimal digits.
+/// Puts what a text says: `@N` begins sector N, `0*N` leaves N bytes as they are, and any other
+/// word is bytes in hexadecimal digits.
 pub(super) fn put_all(image: &mut [[u8; SECTOR]], text: &str) {
     let mut sector = 0usize;
     let mut place = 0usize;

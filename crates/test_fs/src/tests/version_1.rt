@@ -21,8 +21,8 @@ fn take_node_back(bytes: &mut [u8; SECTOR]) {
     }
 }
 
-/// Makes of a volume of version 2, whose gate is closed, one of version 1 of which a migration has
-/// moved so many places of the table.
+/// Makes a volume of version 2, whose gate is closed, one of version 1 of which a migration has
+/// moved `moved` places of the table.
 pub(super) fn take_back(image: &mut Image, nodes: u8, moved: u8) {
     let first = NODES.saturating_add(usize::from(moved));
     let end = NODES.saturating_add(usize::from(nodes));
@@ -39,7 +39,7 @@ pub(super) fn take_back(image: &mut Image, nodes: u8, moved: u8) {
     }
 }
 
-/// The mark of a migration that has moved so many places.
+/// The mark of a migration that has moved `moved` places.
 fn put_mark(bytes: &mut [u8; SECTOR], moved: u8) {
     bytes[0] = b'M';
     bytes[1] = b'I';

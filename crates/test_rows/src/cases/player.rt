@@ -110,7 +110,7 @@ fn expect_status(wanted: u8, got: u8) -> Result<(), Difference> {
     }
 }
 
-/// Tells the first line in which texts differ.
+/// Reports the first line in which texts differ.
 fn compare(alloc: Global, stream: Stream, wanted: &[u8], got: &[u8]) -> Result<(), Difference> {
     if wanted == got {
         return Ok(());

@@ -86,7 +86,7 @@ pub enum Way {
     Serves(Vec<Peer>),
 }
 
-/// A peer of a server: what it sends, after which it only reads, and what it is answered.
+/// A peer of a server: what it sends, after which it only reads, and the reply that it gets.
 #[derive(Drop)]
 pub struct Peer {
     pub sends: Vec<u8>,
@@ -94,7 +94,7 @@ pub struct Peer {
 }
 
 impl Step<'_> {
-    /// What goes by this stream, where the step has such.
+    /// The text of this stream, if the step has one.
     pub fn text(&mut self, stream: Stream) -> Option<&mut Vec<u8>> {
         match (self, stream) {
             (Step::Runs { texts, .. }, _) => Some(texts.by(stream)),
@@ -103,7 +103,7 @@ impl Step<'_> {
         }
     }
 
-    /// Takes in what a peer of the command does.
+    /// Adds what a peer of the command does.
     pub fn go_on(&mut self, alloc: Global, verb: &str, words: &str) -> Result<(), Fault> {
         match self {
             Step::Runs {

@@ -10,7 +10,7 @@ pub struct Aftermath {
     pub trials: Trials,
     /// What is asked after each crash.
     pub looks: Vec<Look>,
-    /// What may then be answered.
+    /// The states that may then be found, by their replies.
     pub states: Vec<State>,
     /// What a restart is asked after a failure.
     pub sequel: Option<Sequel>,
@@ -32,7 +32,7 @@ pub struct Trials {
 pub enum Mark {
     /// The next state too.
     Stands,
-    /// None that is older than the newest one but this number.
+    /// None that is older than the one `but` states before the newest.
     Lasts { but: usize },
     /// The crashes begin here.
     Begins,
@@ -42,7 +42,7 @@ pub enum Mark {
 #[derive(Drop)]
 pub struct Look {
     pub record: Pattern,
-    /// Its reply, where each state has the same.
+    /// Its reply, if each state has the same.
     pub reply: Option<Pattern>,
 }
 
@@ -105,7 +105,7 @@ impl Aftermath {
 }
 
 impl State {
-    /// Whether these are its answers in this run.
+    /// Whether these are its replies in this run.
     pub fn is(&self, alloc: Global, answers: &[Vec<u8>], run: u32) -> Result<bool, Fault> {
         for (reply, answer) in self.replies.iter().zip(answers) {
             if reply.spell(alloc, run)?.as_slice() != answer.as_slice() {
@@ -116,8 +116,8 @@ impl State {
     }
 }
 
-/// Adds what `RECORD` or `RECORD REPLY` says. The states, which have a reply to each, stand below
-/// all looks.
+/// Adds what `RECORD` or `RECORD REPLY` says. The states, which have a reply to each look without
+/// one, come after all looks.
 pub fn add_look(
     alloc: Global,
     records: &Records<'_>,
@@ -183,7 +183,7 @@ pub fn add_sequel(
 #[derive(Clone, Copy, PartialEq)]
 pub struct Left {
     pub first: usize,
-    /// Behind the last one.
+    /// The number after the last one.
     pub end: usize,
 }
 

@@ -2,7 +2,7 @@
 
 use std::alloc::{AllocError, Global};
 
-/// A record, how many operations run until it is answered, and its reply.
+/// A record, how many operations run until its reply, and that reply.
 #[derive(Drop)]
 pub struct Call {
     pub connection: usize,

@@ -8,7 +8,7 @@ use crate::fault::Fault;
 use crate::number::decimal;
 use std::alloc::Global;
 
-/// What is asked after each front of a record, of another connection.
+/// What is asked on another connection after each prefix of a record.
 #[derive(Drop)]
 struct Question {
     connection: usize,
@@ -16,7 +16,7 @@ struct Question {
     reply: Vec<u8>,
 }
 
-/// The fronts of a record, and what is asked after each.
+/// The prefixes of a record, and what is asked after each.
 #[derive(Drop)]
 struct Cuts<'a> {
     alloc: Global,
@@ -65,7 +65,8 @@ fn question_of(alloc: Global, records: &Records<'_>, words: &[&str]) -> Result<Q
 }
 
 impl Cuts<'_> {
-    /// Adds the front of this length, as a record of its own and as it is, and the question.
+    /// Adds the prefix of this length, once with a header of its own and once as it is, and the
+    /// question.
     fn add(
         &self,
         records: &Records<'_>,
@@ -94,7 +95,7 @@ impl Cuts<'_> {
         self.add_last(Step::Feeds { connection, record }, row)
     }
 
-    /// Adds a step, that the connection is dropped after it, and that there is a new one.
+    /// Adds a step; after it the connection is dropped, and a new one is made.
     fn add_last(&self, step: Step, row: &mut Row<'_>) -> Result<(), Fault> {
         let connection = self.connection;
         row.add(self.line, step)?;
@@ -104,7 +105,7 @@ impl Cuts<'_> {
 }
 
 impl Question {
-    /// One turn that is asked, and its reply.
+    /// One turn that asks, and its reply.
     fn ask(&self) -> Result<Step, Fault> {
         Ok(Step::Asks(Call {
             connection: self.connection,
@@ -115,7 +116,7 @@ impl Question {
     }
 }
 
-/// How many bytes a front has after the header.
+/// How many bytes a prefix has after the header.
 fn length_of(word: &str) -> Result<usize, Fault> {
     match decimal(word) {
         Some(length) => Ok(length as usize),

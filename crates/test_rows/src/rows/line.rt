@@ -13,7 +13,7 @@ pub enum Line<'a> {
     More(&'a str),
 }
 
-/// Reads a line without its end; none where it has no form.
+/// Reads a line without its end; None if it has no form.
 pub fn read_line(text: &str) -> Option<Line<'_>> {
     let text = match text.split_once("#") {
         Some((front, _)) => front,

@@ -108,7 +108,7 @@ impl<'a> Records<'a> {
     }
 }
 
-/// A record whose gaps are filled when it is asked or compared.
+/// A record whose gaps are filled when it is sent or compared.
 #[derive(Drop)]
 pub struct Pattern {
     parts: Vec<Part>,

@@ -12,7 +12,7 @@ use std::alloc::Global;
 pub struct Row<'a> {
     pub name: &'a str,
     pub(crate) steps: Vec<Placed>,
-    /// Whether it wants each change to be kept in its turn.
+    /// Whether it needs each change to be kept in its turn.
     pub(crate) unshared: bool,
     /// How many of the steps are `tries`.
     pub(crate) tried: u32,

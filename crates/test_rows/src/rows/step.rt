@@ -24,7 +24,7 @@ pub enum Step {
         connection: usize,
         record: Vec<u8>,
     },
-    /// Hands in a record, which is answered, whatever the reply, or closes the connection.
+    /// Hands in a record, which gets some reply or closes the connection.
     Sends {
         connection: usize,
         record: Vec<u8>,
@@ -44,13 +44,13 @@ pub enum Step {
     Asks(Call),
     /// The same of records that arrive together.
     Meets(Vec<Call>),
-    /// Hands in a record, which is not answered yet.
+    /// Hands in a record, which gets no reply yet.
     Waits {
         connection: usize,
         record: Vec<u8>,
     },
-    /// Hands in bytes that close the connection, which stays so: each later piece and turn is
-    /// answered Closed.
+    /// Hands in bytes that close the connection, which stays closed: each later piece and turn is
+    /// refused with Closed.
     Closes {
         connection: usize,
         record: Vec<u8>,
@@ -71,7 +71,7 @@ pub enum Step {
     },
     /// Mounts the volume again, and connects again.
     Restarts(Choices),
-    /// As `Asks`; where the device crashes or fails, the reply is taken only then.
+    /// As `Asks`; if the device crashes or fails, the reply is taken only then.
     Leaves(Call),
     /// Hands in a record, and runs a number of operations, whose changes may wait for a flush. The last
     /// one gives a reply, which is not handed out yet.

@@ -107,7 +107,7 @@ impl Device for CachedDevice {
         }
     }
 
-    /// What is written anew is forgotten no more.
+    /// What is written again is no longer forgotten.
     fn write(&mut self, n: u32, content: &[u8; SECTOR]) -> Result<(), DiskFault> {
         if n >= self.sectors {
             return Err(DiskFault::Range);
@@ -140,7 +140,7 @@ fn newest(forgotten: &[Update], n: u32) -> Option<&Update> {
     forgotten.iter().find(|update| update.target == n)
 }
 
-/// Begins a sync. If it is the one that fails, whether what it was to fix is on the disk.
+/// Begins a sync. If it is the one that fails, returns whether what it was to fix is on the disk.
 fn begin_sync(lapse: &mut Option<Lapse>) -> Option<bool> {
     let Lapse { number, lands } = (*lapse)?;
     *lapse = match number.checked_sub(1) {

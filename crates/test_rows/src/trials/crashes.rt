@@ -101,7 +101,7 @@ impl<'a> Trial<'a> {
     }
 
     /// Plays the row to its end. From then on a trial begins with what that leaves, and has no
-    /// steps but the mount.
+    /// steps except the mount.
     fn settle<H: Host>(&mut self) -> Result<(), Differs> {
         let life = self.live::<H>(self.steps, lasting(self.alloc, self.at_rest()?))?;
         self.volume = disk_of(life.device);

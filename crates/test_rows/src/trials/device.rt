@@ -30,7 +30,7 @@ pub fn crashing(alloc: Global, device: MemDevice, stop: Stop) -> TrialDevice {
     over(CachedDevice::new(alloc, CrashDevice::new(device, stop), None))
 }
 
-/// One of which no call fails but those of the inner one.
+/// One of which no call fails except those of the inner one.
 pub fn over(device: CachedDevice) -> TrialDevice {
     FaultDevice::new(device, CallKind::Sync, NO_CALL)
 }

@@ -7,7 +7,8 @@ use std::alloc::{AllocError, Global};
 #[derive(Drop)]
 pub struct Tried {
     alloc: Global,
-    /// How many syncs came before them: the same ones after as many give the same contents.
+    /// How many syncs came before them: the same landings after the same number of syncs give the
+    /// same contents.
     syncs: usize,
     landings: Vec<Vec<Landed>>,
     /// The mounts of these landings that crashed.
@@ -31,7 +32,7 @@ impl Tried {
         }
     }
 
-    /// Whether this landing of a crashed device was not tried yet. From now on it is.
+    /// Whether this landing of a crashed device was not tried yet. From now on it counts as tried.
     pub fn adds(&mut self, crashed: &CrashDevice, landing: &[Landed]) -> Result<bool, AllocError> {
         let syncs = count_syncs(crashed.calls());
         if syncs != self.syncs {
@@ -47,7 +48,7 @@ impl Tried {
         Ok(true)
     }
 
-    /// Whether no mount of these landings went so. From now on one did.
+    /// Whether no mount of these landings went like this. From now on one did.
     pub fn adds_mount(&mut self, course: Course) -> Result<bool, AllocError> {
         if self.mounts.contains(&course) {
             return Ok(false);

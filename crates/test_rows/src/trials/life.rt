@@ -58,7 +58,7 @@ fn not_mounted(left: Left, unmounted: Unmounted) -> Result<Life, Difference> {
     })
 }
 
-/// Takes the steps. What they leave, and whether the device failed.
+/// Takes the steps. Returns what they leave, and whether the device failed.
 fn live_on<H: Host>(
     alloc: Global,
     steps: &[Placed],
@@ -92,7 +92,7 @@ fn expect_no_reply<H: Host>(served: &mut Served<H>, step: &Step) -> Result<(), D
     Ok(())
 }
 
-/// Takes a step. Whether the device failed.
+/// Takes a step. Returns whether the device failed.
 fn try_step<H: Host>(
     alloc: Global,
     served: &mut Served<H>,
@@ -110,7 +110,7 @@ fn try_step<H: Host>(
     Ok(unless_failed(outcome)?.is_none())
 }
 
-/// What came of a call; none if the device failed.
+/// What a call returned; None if the device failed.
 pub fn unless_failed<T: Drop>(outcome: Result<T, Difference>) -> Result<Option<T>, Difference> {
     match outcome {
         Ok(value) => Ok(Some(value)),

@@ -37,7 +37,7 @@ pub fn find_in<H: Host>(
     }
 }
 
-/// Asks each look. The answers to those whose reply a state has.
+/// Asks each look. Returns the replies that differ by state.
 fn look_all<H: Host>(
     alloc: Global,
     looks: &[Look],
@@ -52,7 +52,7 @@ fn look_all<H: Host>(
     Ok(answers)
 }
 
-/// Asks a look. The answer, unless each state has the same, which is compared.
+/// Asks a look. Returns the reply, unless each state has the same, which is then compared.
 pub fn look_at<H: Host>(
     alloc: Global,
     look: &Look,

@@ -1,5 +1,5 @@
-//! The calls of devices and of sectors, each of which stands here once, with no contract: a call
-//! brings all that it promises into the proof of its caller.
+//! The calls of devices and of sectors, each of which is here once, with no contract: a call brings
+//! all that it promises into the proof of its caller.
 
 use disk::{CrashDevice, Device, DiskFault, Landed, MemDevice, SECTOR, Stop};
 use std::alloc::Global;
@@ -17,7 +17,7 @@ pub(super) fn change(sector: &mut [u8; SECTOR], bytes: &[(usize, u8)]) {
     }
 }
 
-/// Puts bytes into a sector from a place on, where they fit.
+/// Puts bytes into a sector from a place on, if they fit.
 pub(super) fn put(sector: &mut [u8; SECTOR], at: usize, bytes: &[u8]) {
     if at < SECTOR && bytes.len() <= SECTOR - at {
         sector[at..at + bytes.len()].copy_from_slice(bytes);
@@ -33,7 +33,7 @@ pub(super) fn stopping(alloc: Global, sectors: u32, stop: Stop) -> Result<CrashD
     Ok(CrashDevice::new(memory(alloc, sectors)?, stop))
 }
 
-/// What is found where the power goes and this lands.
+/// What is found if the power goes and this lands.
 pub(super) fn landed(
     device: &CrashDevice,
     alloc: Global,

@@ -1,4 +1,4 @@
-//! Volumes' files: what stands in one, and which are refused.
+//! Volumes' files: what is in one, and which are refused.
 
 use super::drivers::{byte_of, fill, sync};
 use disk::{CallKind, Counts, Device, DiskFault, Failure, FileDevice};
@@ -10,7 +10,7 @@ use std::os::unix::fs::MetadataExt;
 use std::process::Abort;
 use std::test::Fail;
 
-/// What is asked of a device.
+/// A call of a device.
 #[derive(Clone, Copy)]
 enum Ask {
     Sectors,
@@ -22,7 +22,7 @@ enum Ask {
     Byte(u32),
 }
 
-/// What is answered: a number, 0 where none is asked.
+/// What a call returns: a number, 0 if it asks for none.
 type Answer = Result<u64, DiskFault>;
 
 fn answer<D: Device>(device: &mut D, ask: Ask) -> Answer {
@@ -123,7 +123,7 @@ fn write_and_read(
     Ok([before, bytes_of(&mut device)?])
 }
 
-// what is written, by its sector, and what then stands in the first sectors
+// what is written, by its sector, and what is then in the first sectors
 const GATHERED: [(&[(u32, u8)], [u8; 4]); 6] = [
     (&[], [0, 0, 0, 0]),
     // neighbours, by rising number
@@ -155,7 +155,7 @@ fn a_file_gives_what_was_written_last(rt: HostRuntime) -> Result<(), Fail> {
     Ok(())
 }
 
-// fails where a sector is not filled with its number
+// fails if a sector is not filled with its number
 fn read_numbers(device: &mut FileDevice) -> Result<(), Fail> {
     for n in 0..200_u8 {
         if byte_of(device, u32::from(n))? != n {

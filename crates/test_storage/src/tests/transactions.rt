@@ -1,5 +1,5 @@
 //! The journal: that calls succeed, how many syncs they take, what is read once, and what a crash
-//! within a format leaves. Of a log in front, and of one behind what transactions write.
+//! within a format leaves. With the log before what transactions write, and with one after it.
 
 mod behind;
 mod caching;

@@ -1,4 +1,4 @@
-//! A client as the tests use it. Each of its calls stands here once, since it brings all that it
+//! A client as the tests use it. Each of its calls is here once, since it brings all that it
 //! promises to its caller.
 //!
 //! Records are written as words of four bytes in hex, the header first; leading zeros may be left
@@ -48,16 +48,16 @@ pub(super) enum Ask {
     Root,
 }
 
-/// What a call of the client answered.
+/// What a call of the client returned.
 #[derive(Clone, Copy, PartialEq)]
 pub(super) enum Told {
     /// A record was made.
     Made,
-    /// So many results.
+    /// This number of results.
     Results(usize),
     Io,
     Rpc,
-    /// The operation at this place was refused by this status, after so many results.
+    /// The operation at this place was refused with this status, after this number of results.
     Status(usize, u32, usize),
     Garbled,
     Memory,
@@ -138,7 +138,7 @@ fn create_a() -> Argument<'static>
     })
 }
 
-/// What a call that makes no results answered.
+/// What a call that makes no results returned.
 fn told_of(made: Result<(), ClientFault<'_>>) -> Told {
     match made {
         Ok(()) => Told::Made,

@@ -74,7 +74,7 @@ impl Write for Slow<'_> {
     }
 }
 
-/// A stream that gives these bytes and has room for so many.
+/// A stream that gives these bytes and has room for `room` bytes.
 fn slow_stream(alloc: Global, gives: &[u8], room: usize) -> Slow<'_> {
     Slow {
         gives,
@@ -92,7 +92,7 @@ enum Sends {
     Kept,
 }
 
-/// What is sent over which streams, and what comes of it.
+/// What is sent over which streams, and the outcome.
 #[derive(Clone, Copy)]
 struct Turn<'a> {
     sends: Sends,
@@ -123,7 +123,7 @@ impl<'a> Turn<'a> {
         }
     }
 
-    /// Nothing is read, and no result is told.
+    /// Nothing is read, and no result is reported.
     fn unread(sends: Sends, gives: &'a [u8], told: Told, written: &'a [u8]) -> Turn<'a> {
         Turn {
             left: gives,
@@ -145,7 +145,7 @@ fn send<R: Read, W: Write>(
     }
 }
 
-/// Whether it comes so where the streams take and give all at once.
+/// Whether this is the outcome if the streams take and give all at once.
 fn comes(alloc: Global, client: &mut Client, turn: &Turn<'_>) -> bool {
     let mut reader = turn.gives;
     let mut writer = Vec::new(alloc);
@@ -153,8 +153,8 @@ fn comes(alloc: Global, client: &mut Client, turn: &Turn<'_>) -> bool {
     told == turn.told && reader == turn.left && writer.as_slice() == turn.written
 }
 
-/// Whether it comes so where they are slow, and the writer fails after so many bytes. Nothing is
-/// read before a flush.
+/// Whether this is the outcome if they are slow, and the writer fails after `room` bytes. Nothing
+/// is read before a flush.
 fn comes_slowly(alloc: Global, client: &mut Client, turn: &Turn<'_>, room: usize) -> bool {
     let mut reader = slow_stream(alloc, turn.gives, 0);
     let mut writer = slow_stream(alloc, &[], room);
@@ -215,8 +215,8 @@ fn a_request_is_exchanged(rt: HostRuntime) -> Result<(), Fail> {
     Ok(())
 }
 
-/// Whether a record is kept where the reader ends after this front of the reply, and where it then
-/// fails there.
+/// Whether a record is kept if the reader ends after this prefix of the reply, and if it then fails
+/// there.
 fn outlasts_readers(alloc: Global, front: &[u8], worked: &Dialogue) -> Result<bool, Fail> {
     let record = worked.record.as_slice();
     let ends = Turn::unanswered(Sends::New, front, Told::Io, record);
@@ -240,7 +240,7 @@ fn a_reader_that_ends_or_fails_is_io(rt: HostRuntime) -> Result<(), Fail> {
     Ok(())
 }
 
-/// Whether a record is kept where the writer fails after this front of it, before anything is read.
+/// Whether a record is kept if the writer fails after this prefix of it, before anything is read.
 fn outlasts_writer(alloc: Global, front: &[u8], worked: &Dialogue) -> Result<bool, Fail> {
     let fails = Turn::unread(Sends::New, &worked.answer, Told::Io, front);
     let mut client = new_client(alloc)?;
@@ -260,7 +260,7 @@ fn a_writer_that_fails_is_io(rt: HostRuntime) -> Result<(), Fail> {
     Ok(())
 }
 
-/// Whether a record is kept where these bytes come in the place of its reply.
+/// Whether a record is kept if these bytes come in the place of its reply.
 fn outlasts_others(alloc: Global, bytes: &[u8], worked: &Dialogue) -> Result<bool, Fail> {
     let others = Turn::unanswered(Sends::New, bytes, Told::Garbled, &worked.record);
     let mut client = new_client(alloc)?;
@@ -282,7 +282,7 @@ fn other_records_are_garbled(rt: HostRuntime) -> Result<(), Fail> {
     Ok(())
 }
 
-/// A reply after so many empty fragments.
+/// A reply after `empty` empty fragments.
 fn behind_empty(alloc: Global, empty: u8) -> Result<Vec<u8>, Fail> {
     let mut bytes = Vec::new(alloc);
     bytes.resize(4 * usize::from(empty), 0)?;
@@ -290,7 +290,7 @@ fn behind_empty(alloc: Global, empty: u8) -> Result<Vec<u8>, Fail> {
     Ok(bytes)
 }
 
-/// What is told of it.
+/// What the client reports of it.
 fn told_after(alloc: Global, empty: u8) -> Result<Told, Fail> {
     let mut client = new_client(alloc)?;
     let bytes = behind_empty(alloc, empty)?;

@@ -11,7 +11,7 @@ use std::test::*;
 /// Number 2 of slot 0: PUTROOTFH.
 const NUMBER_2: &str = "80000070 5 0 2 186a3 4 1 1 14 0 0 7 7 0 0 0 0 1 2 35 1 1 0 1 2 0 0 1 18";
 
-/// Replies to MAKE_A that answer it.
+/// Replies to MAKE_A that the client accepts.
 const ANSWERS: [(&str, Told); 7] = [
     // the directory is there
     (
@@ -52,7 +52,7 @@ const OTHERS: [(&str, Told); 14] = [
         "80000030 4 1 0 0 0 0 2724 1 61000000 1 35 2724",
         Told::Garbled,
     ),
-    // a result more than was asked, and a front of what was asked
+    // a result more than was asked for, and a prefix of what was asked for
     (
         "8000009c 4 1 0 0 0 0 0 0 5
         35 0 1 1 0 1 1 0 7 7 0 18 0 6 0 1 0 1 1 1 2 0 2 a 0 8 1 1 18 0",
@@ -82,7 +82,7 @@ const OTHERS: [(&str, Told); 14] = [
     ("4 4 80000028 1 0 0 0 0 2724 0 1 35 2724", Told::Garbled),
 ];
 
-/// What is asked of a client, or replied to it, and what it tells.
+/// What a client is asked for, or the reply that it gets, and what it reports.
 #[derive(Clone, Copy)]
 enum Step<'a> {
     Request(Ask, Told),
@@ -157,7 +157,7 @@ fn are_told(
     Ok(true)
 }
 
-/// Whether a new client tells this.
+/// Whether a new client reports this.
 fn tells(alloc: Global, front: &[Step<'_>], rest: &[Step<'_>]) -> Result<bool, Fail> {
     let mut client = new_client(alloc)?;
     are_told(alloc, &mut client, front, rest)
@@ -178,7 +178,7 @@ fn a_client_waits(rt: HostRuntime) -> Result<(), Fail> {
     Ok(())
 }
 
-/// Whether a reply that is told so answers a record.
+/// Whether a reply with this report is accepted as the reply to a record.
 fn is_answer(alloc: Global, words: &str, told: Told) -> Result<bool, Fail> {
     let steps = [
         Step::Request(Ask::MakeA, Told::Made),
@@ -197,7 +197,7 @@ fn replies_answer_a_record(rt: HostRuntime) -> Result<(), Fail> {
     Ok(())
 }
 
-/// Whether bytes that are told so leave a record waiting, which is answered then.
+/// Whether bytes with this report leave a record waiting, which then gets its reply.
 fn leave_it_waiting(alloc: Global, words: &str, told: Told) -> Result<bool, Fail> {
     let steps = [
         Step::Request(Ask::MakeA, Told::Made),

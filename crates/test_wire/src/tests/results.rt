@@ -31,7 +31,7 @@ const RESULTS: &str = "9 0 2 0 12 c 1ed 1 37000000
 
 const COUNT: usize = 5;
 
-// The calls stand here once, since each brings all that it promises to its caller.
+// The calls are here once, since each brings all that it promises to its caller.
 
 fn write(w: &mut Writer, call: Argument<'_>) -> Result<(), Refusal>
     requires { ArgumentFits call }
@@ -76,12 +76,12 @@ fn results_are_written_back(rt: HostRuntime) -> Result<(), Fail> {
     Ok(())
 }
 
-/// Mode and owner behind their bitmap and their length, and alone.
+/// Mode and owner after their bitmap and their length, and only the values.
 const GIVEN: &str = "2 0 12 c 1ed 1 37000000";
 
 const VALUES: &str = "1ed 1 37000000";
 
-/// The values that stand after their bitmap.
+/// The values that come after their bitmap.
 fn given_in(alloc: Global, bytes: &[u8]) -> Result<Vec<Value<'_>>, Refusal> {
     values_of(alloc, &Attributes::read(&mut Reader::new(bytes))?)
 }

@@ -15,8 +15,8 @@ const STEPS: [Step<'static>; 5] = [
     Step::Checkpoint,
 ];
 
-// so many of the steps: the syncs since the mount, what the gate names then, and what fills sector
-// 200 after another mount
+// the first steps, by their number: the syncs since the mount, what the gate then names, and what
+// fills sector 200 after another mount
 const ROWS: [(usize, u64, &[u32], u8); 4] = [
     (1, 0, &[], 0),
     (2, 2, &[200], 1),
@@ -39,7 +39,7 @@ fn the_later_content_counts(rt: HostRuntime) -> Result<(), Fail> {
     Ok(())
 }
 
-// the log has room for 48 sectors: the flush that wants the 49th copies home what it names
+// the log has room for 48 sectors: the flush that needs the 49th copies home what it names
 #[test]
 fn a_full_log_is_copied_home(rt: HostRuntime) -> Result<(), Fail> {
     let mut device = memory(rt.alloc(), SECTORS)?;

@@ -52,7 +52,7 @@ impl<D: Device> Device for Counting<D> {
     ghost holds_sectors = { λ keeps counting n there. D.holds_sectors keeps counting.device n there };
 }
 
-// what the steps answer, and how often the device read this sector
+// whether the steps return what is expected, and how often the device read this sector
 fn reads_of(
     alloc: Global,
     cached: usize,
@@ -81,7 +81,7 @@ const BETWEEN: [(Step<'static>, u8); 3] = [
     (Step::Byte(200), 0),
 ];
 
-// how many sectors are kept, steps with their answers, and how often a sector is then read
+// how many sectors are kept, steps with what they return, and how often a sector is then read
 type Row = (usize, &'static [(Step<'static>, u8)], usize, u64);
 
 const ROWS: [Row; 7] = [

@@ -34,7 +34,7 @@ fn answer<D: Device>(held: &mut Held<D>, alloc: Global, step: Step<'_>) -> Resul
     }
 }
 
-/// A call, and what is answered.
+/// A call, and what it returns.
 type Row<'a> = (Step<'a>, Result<u8, Refused>);
 
 fn play<D: Device>(rt: &impl Abort, alloc: Global, held: &mut Held<D>, rows: &[Row<'_>]) {
@@ -43,7 +43,7 @@ fn play<D: Device>(rt: &impl Abort, alloc: Global, held: &mut Held<D>, rows: &[R
     }
 }
 
-/// So many sectors from this one on.
+/// `count` sectors from this one on.
 fn sectors_from(alloc: Global, first: u32, count: u32) -> Result<Vec<u32>, AllocError> {
     let mut sectors = Vec::new(alloc);
     for i in 0..count {

@@ -32,7 +32,7 @@ const NEW: u8 = 8;
 // the sectors in use before it, each with what fills it: two of the payload among them
 const IN_USE: [(u32, u8); 6] = [(0, OLD), (2, 3), (3, 4), (98, 1), (150, 6), (255, 1)];
 
-// the device as it stands where nothing unsynced lands, up to a crash
+// the device as it is if nothing unsynced lands, up to a crash
 fn restarted(alloc: Global, device: &CrashDevice, stop: Stop) -> Result<CrashDevice, DiskFault> {
     Ok(CrashDevice::new(landed(device, alloc, &[])?, stop))
 }
@@ -114,7 +114,7 @@ impl Trial {
         Ok(())
     }
 
-    // Up to six unsynced sectors, and where all are unsynced, the landings that matter; else
+    // If there are up to six unsynced sectors, or all are unsynced, the landings that matter; else
     // nothing and everything.
     fn stop(
         &mut self,
@@ -134,7 +134,7 @@ impl Trial {
     }
 }
 
-// what stands on a device where nothing unsynced lands
+// what is on a device if nothing unsynced lands
 fn contents(alloc: Global, device: &CrashDevice) -> Result<Contents, Fail> {
     Ok(mounted(alloc, landed(device, alloc, &[])?)?)
 }

@@ -31,7 +31,7 @@ const STEPS: [Step<'static>; 21] = [
     Step::Flush,
 ];
 
-// so many of the steps: the syncs since the mount, and what the gate names then
+// the first steps, by their number: the syncs since the mount, and what the gate then names
 const ROWS: [(usize, u64, &[u32]); 9] = [
     (10, 0, &[]),
     (11, 2, &[200]),
@@ -39,13 +39,13 @@ const ROWS: [(usize, u64, &[u32]); 9] = [
     (14, 4, &[200, 201]),
     (16, 8, &[200]),
     (17, 9, &[200]),
-    // the gate is closed, once; so the same sector again takes two syncs, and not four
+    // the gate is closed, once; so the same sector again takes two syncs instead of four
     (18, 11, &[]),
     (19, 11, &[]),
     (21, 13, &[200]),
 ];
 
-// a gate that names these, and zeros for none
+// a gate that names these sectors, or zeros if there are none
 pub(super) fn gate_of(targets: &[u32]) -> [u8; SECTOR] {
     let mut sector = filled(0);
     if targets.is_empty() {

@@ -14,7 +14,7 @@ use std::num::NonZeroUsize;
 /// The first sector that a transaction may write.
 const FIRST_TARGET: u32 = 98;
 
-/// The smallest log, behind what transactions write. It may name a sector again.
+/// The smallest log, after what transactions write. It may name a sector again.
 const BEHIND: LogArea = LogArea {
     first: 208,
     sectors: 48,
@@ -22,7 +22,7 @@ const BEHIND: LogArea = LogArea {
     once: false,
 };
 
-/// What is asked of a journal.
+/// A call of a journal.
 #[derive(Clone, Copy)]
 pub(super) enum Step<'a> {
     /// A transaction that fills these sectors with this.
@@ -85,7 +85,7 @@ impl<D: Device> Held<D> {
         }
     }
 
-    /// The same, by a journal that keeps so many sectors.
+    /// The same, by a journal that keeps `cached` sectors.
     pub(super) fn mount_cached(
         alloc: Global,
         device: D,
@@ -103,7 +103,7 @@ impl<D: Device> Held<D> {
         }
     }
 
-    /// The same, with the log behind.
+    /// The same, with the log after what transactions write.
     pub(super) fn mount_behind(alloc: Global, device: D) -> Result<Held<D>, JournalFault> {
         if device.sectors() != SECTORS {
             return Err(JournalFault::Damaged);
@@ -118,7 +118,7 @@ impl<D: Device> Held<D> {
         }
     }
 
-    /// Makes these calls, and drops what they answer.
+    /// Makes these calls, and ignores what they return.
     pub(super) fn take_all(
         &mut self,
         alloc: Global,
@@ -130,7 +130,7 @@ impl<D: Device> Held<D> {
         Ok(())
     }
 
-    /// Makes a call, which answers 0 where no byte is asked.
+    /// Makes a call, which returns 0 unless it asks for a byte.
     pub(super) fn take(&mut self, alloc: Global, step: Step<'_>) -> Result<u8, JournalFault> {
         match step {
             Step::Apply(to, byte) => self.apply(alloc, to, byte),

@@ -51,7 +51,7 @@ returns-in_ok-values-in-Ok-list g c = record {
       (c.in-Ok-list.ensures.step state now c.args.arguments.now.dir_count (is_on fs request _ _ c.args.self.now.ready.run c.in-Ok.ensures.ok.0 (c.in-Ok.ensures.ok.1 ∙ sym c.listing.ensures.directory) there))));
 }
 
--- Where it is not done
+-- If it is not done
 
 pub tell_fault-requires : goal.tell_fault-requires
 unfolding in_progress_of

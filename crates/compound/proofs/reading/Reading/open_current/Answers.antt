@@ -96,7 +96,7 @@ returns-in-Err-open_current-clause-gives g c = record {
       c.share_of.result (open_type_view c.args.how.now) c.creates-create.result c.in-Ok.ensures.ok.1 (sym c.share_of.ensures.access) (sym c.share_of.ensures.deny) c.requires c.creates-create.ensures state there known)))));
 }
 
--- It is opened, where the reply has room
+-- It is opened, if the reply has room
 
 pub returns-then-not-has_opened_room-clause-gives : goal.returns-then-not-has_opened_room-clause-gives
 unfolding in_progress_of

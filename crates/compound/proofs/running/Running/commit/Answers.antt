@@ -55,7 +55,7 @@ returns-in-Err g c = λ arguments. record {
   };
 }
 
--- Where it is done
+-- If it is done
 
 pub returns-in-Ok-commit : goal.returns-in-Ok-commit
 unfolding in_progress_of
@@ -99,7 +99,7 @@ returns-in-Ok-commit g c = λ arguments. record {
   };
 }
 
--- Where it is not
+-- If it is not
 
 pub tell_fault-requires : goal.tell_fault-requires
 unfolding in_progress_of

@@ -10,7 +10,7 @@ use Rattle.compound.proofs.running.Running.create.Goals as goal
 pub returns-in-NewDirectory : goal.returns-in-NewDirectory
 returns-in-NewDirectory g c = rw c.in-NewDirectory.is c.create_directory.ensures
 
--- nothing else than a directory is made
+-- only a directory is made
 pub returns-in-OtherType : goal.returns-in-OtherType
 returns-in-OtherType g c = record {
   same = record { fs = refl; table = refl; opens = refl };

@@ -109,7 +109,7 @@ returns-in_err-put_seats-in-Ok-New g c = record {
   };
 }
 
--- A kept result is answered again
+-- A kept result is sent again
 
 pub returns-in-Ok-Again : goal.returns-in-Ok-Again
 unfolding in_progress_of

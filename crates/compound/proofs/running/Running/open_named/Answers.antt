@@ -63,7 +63,7 @@ returns-in-Err g c = record {
   };
 }
 
--- Where there is no memory
+-- If there is no memory
 
 pub returns-in_err-asked : goal.returns-in_err-asked
 returns-in_err-asked g c = record {
@@ -95,7 +95,7 @@ returns-in_err-reserve g c = record {
   };
 }
 
--- Where it is done
+-- If it is done
 
 pub give_open-requires-clause-serial : goal.give_open-requires-clause-serial
 give_open-requires-clause-serial g c = (c.limits.result.now.opens, sym c.is_full-is_full.ensures.is ∙ c.in-Ok-open_file.ensures.full)
@@ -177,7 +177,7 @@ returns-in-Ok-open_file g c = record {
   };
 }
 
--- Where it is not
+-- If it is not
 
 pub tell_fault-requires : goal.tell_fault-requires
 unfolding in_progress_of

@@ -71,7 +71,7 @@ returns-in_err-values g c = record {
   };
 }
 
--- Where it is done
+-- If it is done
 
 pub returns-in_ok-finish-in-Ok-read : goal.returns-in_ok-finish-in-Ok-read
 unfolding in_progress_of
@@ -128,7 +128,7 @@ returns-in_err-finish-in-Ok-read g c = record {
   };
 }
 
--- Where it is not
+-- If it is not
 
 pub tell_fault-requires : goal.tell_fault-requires
 unfolding in_progress_of

@@ -52,7 +52,7 @@ returns-in-Err g c = record {
   };
 }
 
--- Where it is done
+-- If it is done
 
 pub returns-in-Ok-rename : goal.returns-in-Ok-rename
 unfolding in_progress_of
@@ -99,7 +99,7 @@ returns-in-Ok-rename g c = record {
   };
 }
 
--- Where it is not
+-- If it is not
 
 pub tell_fault-requires : goal.tell_fault-requires
 unfolding in_progress_of

@@ -57,7 +57,7 @@ returns-in-Err g c = record {
   };
 }
 
--- Where they are set
+-- If they are set
 
 pub returns-in-Ok-set_attributes : goal.returns-in-Ok-set_attributes
 unfolding in_progress_of
@@ -103,7 +103,7 @@ returns-in-Ok-set_attributes g c = record {
   };
 }
 
--- Where they are not
+-- If they are not
 
 pub tell_fault-requires : goal.tell_fault-requires
 unfolding in_progress_of

@@ -56,7 +56,7 @@ returns-in-Err g c = record {
   };
 }
 
--- Where it is done
+-- If it is done
 
 pub returns-in-Ok-write : goal.returns-in-Ok-write
 unfolding in_progress_of
@@ -105,7 +105,7 @@ returns-in-Ok-write g c = record {
   };
 }
 
--- Where it is not
+-- If it is not
 
 pub tell_fault-requires : goal.tell_fault-requires
 unfolding in_progress_of
