@@ -81,7 +81,7 @@ impl Running<'_> {
         requires up { (fs_of fs.old).volume.is_down ≡ false }
         requires run { (in_progress_of self).context.run ≡ (fs_of fs.old).volume.run }
         requires agrees { D.keeps_word → Agrees (fs_of fs.old) (table_of table.old) }
-        // Done
+        // If it succeeds
         ensures step { D.keeps_word
             → IfOk result (RequestSteps now (shared_of fs.old table.old opens.old)
             (shared_of fs.new table.new opens.new) (asked_of self.entry)
@@ -90,11 +90,11 @@ impl Running<'_> {
             Agrees (fs_of fs.new) (table_of table.new)) }
         ensures goes_on { IfOk result (RequestGoesOn (fs_of fs.old).volume.run (asked_of self.entry)
             (in_progress_of self.entry)) }
-        // Not done
+        // If it fails
         ensures back { IfErr result (λ undone. undone.progress ≡ self.entry.progress) }
         ensures others { OnErr result ((table_of table.new ≡ table_of table.old)
             × (opens_of opens.new ≡ opens_of opens.old)) }
-        // In any case
+        // However it ends
         ensures volume { AltersFs fs.old fs.new (TurnGives (shared_of fs.old table.old opens.old)
             (λ world number. stepped_on world number now (in_progress_of self.entry)))
             (undone_step_ending result) }

@@ -115,7 +115,7 @@ impl CrashDevice {
         // It has no record yet
         ensures calls { IfOk result (λ device. calls_of device ≡ []) }
         ensures failures { IfOk result (λ device. failures_of device ≡ 0) }
-        // Refused
+        // If it fails
         ensures memory { OnErr result (result ≡ Err DiskFault.Memory) }
     {
         let mut sectors = self.device.fixed_sectors(alloc)?;
@@ -167,7 +167,7 @@ impl Device for CrashDevice {
     /// Reads every sector that is there, until the device has stopped.
     fn read(&mut self, n: u32, content: &mut [u8; SECTOR]) -> Result<(), DiskFault>
         ensures ok { OnOk result (content.new ≡ seen (crash_history self.old).now n) }
-        // Refused
+        // If it fails
         ensures range { IsErrOf result DiskFault.Range ↔ (crash_size self.old ≤ n) }
         ensures untouched { IsErrOf result DiskFault.Range → content.new ≡ content.old }
         // It only reads
@@ -190,14 +190,14 @@ impl Device for CrashDevice {
     fn write(&mut self, n: u32, content: &[u8; SECTOR]) -> Result<(), DiskFault>
         ensures ok { OnOk result (crash_history self.new
             ≡ wrote (record { target = n; content = content.now }) (crash_history self.old)) }
-        // Refused
+        // If it fails
         ensures err { OnErr result ((crash_history self.new ≡ crash_history self.old)
             ⊎ (crash_history self.new ≡ wrote (record { target = n; content = content.now })
             (crash_history self.old))) }
         ensures untouched { IsErrOf result DiskFault.Range
             → (crash_history self.new ≡ crash_history self.old) × IsSameCourse self.old self.new }
         ensures range { IsErrOf result DiskFault.Range ↔ (crash_size self.old ≤ n) }
-        // In any case
+        // However it ends
         ensures size { crash_size self.new ≡ crash_size self.old }
         ensures cause { HasCause (crash_failures self.old) (crash_failures self.new) result }
         // By the step at which it stops
@@ -222,10 +222,10 @@ impl Device for CrashDevice {
     /// The step at which the device stops returns `Fault`, and so does each one after it.
     fn sync(&mut self) -> Result<(), DiskFault>
         ensures ok { OnOk result (crash_history self.new ≡ synced (crash_history self.old)) }
-        // Refused
+        // If it fails
         ensures err { OnErr result (crash_history self.new ≡ crash_history self.old) }
         ensures not_range { IsErrOf result DiskFault.Range → ⊥ }
-        // In any case
+        // However it ends
         ensures size { crash_size self.new ≡ crash_size self.old }
         ensures cause { HasCause (crash_failures self.old) (crash_failures self.new) result }
         // By the step at which it stops

@@ -32,7 +32,7 @@ pub trait Device: Drop {
     /// The newest content of sector `n`. After `Fault` the buffer may hold anything.
     fn read(&mut self, n: u32, content: &mut [u8; SECTOR]) -> Result<(), DiskFault>
         ensures ok { keeps_word → OnOk result (content.new ≡ seen (history self.old).now n) }
-        // Refused
+        // If it fails
         ensures range { IsErrOf result DiskFault.Range ↔ (size self.old ≤ n) }
         ensures untouched { IsErrOf result DiskFault.Range → content.new ≡ content.old }
         // It only reads
@@ -47,23 +47,23 @@ pub trait Device: Drop {
         ensures ok { keeps_word → OnOk result
             (history self.new ≡ wrote (record { target = n; content = content.now })
             (history self.old)) }
-        // Refused
+        // If it fails
         ensures err { keeps_word → OnErr result ((history self.new ≡ history self.old)
             ⊎ (history self.new ≡ wrote (record { target = n; content = content.now })
             (history self.old))) }
         ensures range { IsErrOf result DiskFault.Range ↔ (size self.old ≤ n) }
         ensures untouched { IsErrOf result DiskFault.Range → history self.new ≡ history self.old }
-        // In any case
+        // However it ends
         ensures size { size self.new ≡ size self.old }
         ensures cause { HasCause (failed self.old) (failed self.new) result };
 
     /// Fixes what reads give: after it every crash leaves that.
     fn sync(&mut self) -> Result<(), DiskFault>
         ensures ok { keeps_word → OnOk result (history self.new ≡ synced (history self.old)) }
-        // Refused
+        // If it fails
         ensures err { keeps_word → OnErr result (history self.new ≡ history self.old) }
         ensures not_range { IsErrOf result DiskFault.Range → ⊥ }
-        // In any case
+        // However it ends
         ensures size { size self.new ≡ size self.old }
         ensures cause { HasCause (failed self.old) (failed self.new) result };
 

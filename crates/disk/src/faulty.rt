@@ -103,7 +103,7 @@ impl<D: Device> Device for FaultDevice<D> {
     fn read(&mut self, n: u32, content: &mut [u8; SECTOR]) -> Result<(), DiskFault>
         ensures ok { D.keeps_word → OnOk result
             (content.new ≡ seen (D.history (inner_of self.old)).now n) }
-        // Refused
+        // If it fails
         ensures range { IsErrOf result DiskFault.Range ↔ (D.size (inner_of self.old) ≤ n) }
         ensures untouched { IsErrOf result DiskFault.Range → content.new ≡ content.old }
         // It only reads
@@ -129,7 +129,7 @@ impl<D: Device> Device for FaultDevice<D> {
         ensures ok { D.keeps_word → OnOk result (D.history (inner_of self.new)
             ≡ wrote (record { target = n; content = content.now })
             (D.history (inner_of self.old))) }
-        // Refused
+        // If it fails
         ensures err { D.keeps_word → OnErr result
             ((D.history (inner_of self.new) ≡ D.history (inner_of self.old))
             ⊎ (D.history (inner_of self.new) ≡ wrote (record { target = n; content = content.now })
@@ -137,7 +137,7 @@ impl<D: Device> Device for FaultDevice<D> {
         ensures range { IsErrOf result DiskFault.Range ↔ (D.size (inner_of self.old) ≤ n) }
         ensures untouched { IsErrOf result DiskFault.Range
             → D.history (inner_of self.new) ≡ D.history (inner_of self.old) }
-        // In any case
+        // However it ends
         ensures size { D.size (inner_of self.new) ≡ D.size (inner_of self.old) }
         ensures cause { HasCause (faulty_failures (D.failed (inner_of self.old)) (plan_of self.old))
             (faulty_failures (D.failed (inner_of self.new)) (plan_of self.new)) result }
@@ -156,11 +156,11 @@ impl<D: Device> Device for FaultDevice<D> {
     fn sync(&mut self) -> Result<(), DiskFault>
         ensures ok { D.keeps_word → OnOk result
             (D.history (inner_of self.new) ≡ synced (D.history (inner_of self.old))) }
-        // Refused
+        // If it fails
         ensures err { D.keeps_word → OnErr result
             (D.history (inner_of self.new) ≡ D.history (inner_of self.old)) }
         ensures not_range { IsErrOf result DiskFault.Range → ⊥ }
-        // In any case
+        // However it ends
         ensures size { D.size (inner_of self.new) ≡ D.size (inner_of self.old) }
         ensures cause { HasCause (faulty_failures (D.failed (inner_of self.old)) (plan_of self.old))
             (faulty_failures (D.failed (inner_of self.new)) (plan_of self.new)) result }

@@ -120,7 +120,7 @@ impl FileDevice {
         ensures uncalled { IfOk result (λ device. IsUncalled device) }
         ensures gathered { IfOk result (λ device. (n : ℕ) → gathered device n ≡ None) }
         ensures may_write { IfOk result (λ device. IsTrue (file_may_write device)) }
-        // Refused
+        // If it fails
         ensures err { OnErr result (IsUnopened result) }
     {
         let run = Run::new(alloc)?;
@@ -210,10 +210,10 @@ impl FileDevice {
     fn hand_over(&mut self, call: CallKind) -> Result<(), DiskFault>
         ensures ok { OnOk result ((n : ℕ) → gathered self.new n ≡ None) }
         ensures begins { OnOk result (BeginsAnew self.new) }
-        // Refused
+        // If it fails
         ensures err { OnErr result ((n : ℕ) → gathered self.new n ≡ gathered self.old n) }
         ensures not_range { IsErrOf result DiskFault.Range → ⊥ }
-        // In any case
+        // However it ends
         ensures size { file_size self.new ≡ file_size self.old }
         ensures may_write { file_may_write self.new ≡ file_may_write self.old }
         ensures counts { file_counts self.new ≡ file_counts self.old }
@@ -259,10 +259,10 @@ impl Device for FileDevice {
             → (result ≡ Ok tt) × (content.new ≡ newest)) }
         // It only reads
         ensures gathered { (m : ℕ) → gathered self.new m ≡ gathered self.old m }
-        // Refused
+        // If it fails
         ensures range { IsErrOf result DiskFault.Range ↔ (file_size self.old ≤ n) }
         ensures untouched { IsErrOf result DiskFault.Range → content.new ≡ content.old }
-        // In any case
+        // However it ends
         ensures size { file_size self.new ≡ file_size self.old }
         ensures may_write { file_may_write self.new ≡ file_may_write self.old }
         ensures cause { HasCause (file_failures self.old) (file_failures self.new) result }
@@ -290,13 +290,13 @@ impl Device for FileDevice {
     fn write(&mut self, n: u32, content: &[u8; SECTOR]) -> Result<(), DiskFault>
         ensures newest { OnOk result (gathered self.new n ≡ Some content.now) }
         ensures others { (m : ℕ) → m ≢ n → KeepsOrHandsOver self.old self.new m }
-        // Refused
+        // If it fails
         ensures err { OnErr result ((m : ℕ) → gathered self.new m ≡ gathered self.old m) }
         ensures range { IsErrOf result DiskFault.Range ↔ (file_size self.old ≤ n) }
         ensures may_not { n < file_size self.old → file_may_write self.old ≡ false
             → (result ≡ Err DiskFault.Fault) × (file_last_failure self.new
             ≡ Some (record { call = CallKind.Write; kind = ErrorKind.PermissionDenied })) }
-        // In any case
+        // However it ends
         ensures size { file_size self.new ≡ file_size self.old }
         ensures may_write { file_may_write self.new ≡ file_may_write self.old }
         ensures cause { HasCause (file_failures self.old) (file_failures self.new) result }
@@ -320,9 +320,9 @@ impl Device for FileDevice {
     fn sync(&mut self) -> Result<(), DiskFault>
         ensures handed { OnOk result ((n : ℕ) → gathered self.new n ≡ None) }
         ensures kept { (n : ℕ) → KeepsOrHandsOver self.old self.new n }
-        // Refused
+        // If it fails
         ensures not_range { IsErrOf result DiskFault.Range → ⊥ }
-        // In any case
+        // However it ends
         ensures size { file_size self.new ≡ file_size self.old }
         ensures may_write { file_may_write self.new ≡ file_may_write self.old }
         ensures cause { HasCause (file_failures self.old) (file_failures self.new) result }

@@ -39,7 +39,7 @@ impl MemDevice {
         // It has no record yet
         ensures calls { IfOk result (λ device. calls_of device ≡ []) }
         ensures failures { IfOk result (λ device. failures_of device ≡ 0) }
-        // Refused
+        // If it fails
         ensures memory { OnErr result (result ≡ Err DiskFault.Memory) }
     {
         MemDevice::with_sectors(alloc, zeros(alloc, sectors as usize)?)
@@ -55,7 +55,7 @@ impl MemDevice {
         // It has no record yet
         ensures calls { IfOk result (λ device. calls_of device ≡ []) }
         ensures failures { IfOk result (λ device. failures_of device ≡ 0) }
-        // Refused
+        // If it fails
         ensures memory { OnErr result (result ≡ Err DiskFault.Memory) }
     {
         let first = copied(alloc, &sectors)?;
@@ -80,7 +80,7 @@ impl MemDevice {
         ensures few { size_of self.now < 2 ^ 32 }
         ensures fixed { IfOk result (λ rows. (n : ℕ) → image_of rows.items n
             ≡ (history_of self.now).now.fixed n) }
-        // Refused
+        // If it fails
         ensures memory { OnErr result (result ≡ Err DiskFault.Memory) }
     {
         let mut rows = copied(alloc, &self.first)?;
@@ -133,7 +133,7 @@ impl Device for MemDevice {
     /// Every sector that is there is read.
     fn read(&mut self, n: u32, content: &mut [u8; SECTOR]) -> Result<(), DiskFault>
         ensures ok { OnOk result (content.new ≡ seen (history_of self.old).now n) }
-        // Refused
+        // If it fails
         ensures range { IsErrOf result DiskFault.Range ↔ (size_of self.old ≤ n) }
         ensures untouched { IsErrOf result DiskFault.Range → content.new ≡ content.old }
         // It only reads
@@ -155,10 +155,10 @@ impl Device for MemDevice {
     fn write(&mut self, n: u32, content: &[u8; SECTOR]) -> Result<(), DiskFault>
         ensures ok { OnOk result (history_of self.new
             ≡ wrote (record { target = n; content = content.now }) (history_of self.old)) }
-        // Refused
+        // If it fails
         ensures err { OnErr result (history_of self.new ≡ history_of self.old) }
         ensures range { IsErrOf result DiskFault.Range ↔ (size_of self.old ≤ n) }
-        // In any case
+        // However it ends
         ensures size { size_of self.new ≡ size_of self.old }
         ensures cause { HasCause (failures_of self.old) (failures_of self.new) result }
     {

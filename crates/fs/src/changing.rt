@@ -228,14 +228,14 @@ impl<D: Device> Fs<D> {
         // A change that may be made
         requires up { (fs_of self.old).volume.is_down ≡ false }
         requires planned { IsPlanned (fs_of self.old) edits.now }
-        // In any case
+        // However it ends
         ensures volume { AltersFs self.old self.new
             (IsEdited (fs_of self.old).volume edits.now) (fs_ending result) }
-        // Done
+        // If it succeeds
         ensures shows { OnOk result (ShowsTree D.keeps_word
             (edited_by (fs_of self.old).volume edits.now) (fs_of self.new).volume.tree) }
         ensures counted { OnOk result ((fs_of self.new).changes ≡ (fs_of self.old).changes + 1) }
-        // Refused
+        // If it fails
         ensures only { IfErr result (λ fault.
             (fault ≡ FsFault.Memory) ⊎ (fault ≡ FsFault.Device)) }
     {
@@ -249,15 +249,15 @@ impl<D: Device> Fs<D> {
         // A change that may be made
         requires up { (fs_of self.old).volume.is_down ≡ false }
         requires planned { IsPlanned (fs_of self.old) edits.now }
-        // In any case
+        // However it ends
         ensures volume { AltersFs self.old self.new
             (IsTree (fs_of self.old).volume
             (edited_by (fs_of self.old).volume edits.now)) (fs_ending result) }
-        // Done
+        // If it succeeds
         ensures shows { OnOk result (ShowsTree D.keeps_word
             (edited_by (fs_of self.old).volume edits.now) (fs_of self.new).volume.tree) }
         ensures counted { OnOk result ((fs_of self.new).changes ≡ (fs_of self.old).changes + 1) }
-        // Refused
+        // If it fails
         ensures only { IfErr result (λ fault.
             (fault ≡ FsFault.Memory) ⊎ (fault ≡ FsFault.Device)) }
     {

@@ -231,7 +231,7 @@ impl<D: Device> Fs<D> {
             → MakesAtMost 198 (fs_of self.old).volume (fs_of self.new).volume }
         ensures shows { OnOk result (ShowsTree D.keeps_word (fs_of self.old).volume.tree
             (fs_of self.new).volume.tree) }
-        // Refused
+        // If it fails
         ensures down { IsErrOf result FsFault.Down ↔ ((fs_of self.old).volume.is_down ≡ true) }
         ensures refuses { IfErr result (λ fault.
             (fault ≡ FsFault.Device) ⊎ (fault ≡ FsFault.Down)) }
@@ -257,7 +257,7 @@ impl<D: Device> Fs<D> {
             (KeepsRecent (fs_of self.old).volume (fs_of self.new).volume) }
         ensures changes { (fs_of self.new).changes ≡ (fs_of self.old).changes }
         ensures waits { (fs_of self.new).waits ≡ (fs_of self.old).waits }
-        // Refused
+        // If it fails
         ensures down { IsErrOf result FsFault.Down ↔ ((fs_of self.old).volume.is_down ≡ true) }
         ensures refuses { IfErr result (λ fault.
             (fault ≡ FsFault.Device) ⊎ (fault ≡ FsFault.Down)) }
@@ -282,7 +282,7 @@ impl<D: Device> Fs<D> {
         ensures shows { OnOk result (ShowsTree D.keeps_word (fs_of self.old).volume.tree
             (fs_of self.new).volume.tree) }
         ensures changes { (fs_of self.new).changes ≡ (fs_of self.old).changes }
-        // Refused
+        // If it fails
         ensures down { IsErrOf result FsFault.Down ↔ ((fs_of self.old).volume.is_down ≡ true) }
         ensures refuses { IfErr result (λ fault. (fault ≡ FsFault.Memory)
             ⊎ ((fault ≡ FsFault.Device) ⊎ (fault ≡ FsFault.Down))) }

@@ -95,7 +95,7 @@ impl<D: Device> Fs<D> {
             (MakesTree (fs_of self.old) cred.now asked.entry.parent now
             (new_directory asked.entry.name.now (given_of asked.entry.attributes)))
             (fs_ending result) }
-        // Room, and refusals
+        // If the reply has no room
         ensures room { MindsRoom has_room (fs_of self.old).volume.is_down result }
     {
         if self.is_down() {
@@ -123,7 +123,7 @@ impl<D: Device> Fs<D> {
         ensures step { (state : State) → IsOn (fs_of self.now) cred.now asked.entry.parent state
             → IfOk result (λ planned. MakesDirBy (fs_of self.now) state now asked.entry.name.now
             (given_of asked.entry.attributes) planned.edits.items planned.created) }
-        // Refused
+        // If it fails
         ensures refused { (state : State) → IsOn (fs_of self.now) cred.now asked.entry.parent state
             → IfErr result (λ refusal. IsNotDone (fs_of self.now) state now
             (new_directory asked.entry.name.now (given_of asked.entry.attributes))

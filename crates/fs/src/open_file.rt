@@ -84,7 +84,7 @@ impl<D: Device> Fs<D> {
         // Opened
         ensures opened { IfOk result (IsOpened (fs_of self.old) asked.entry) }
         ensures full { OnOk result (is_full ≡ false) }
-        // Room, and refusals
+        // If the reply has no room
         ensures room { MindsRoom (has_open_room (fs_of self.old) asked.entry room)
             (fs_of self.old).volume.is_down result }
     {
@@ -123,7 +123,7 @@ impl<D: Device> Fs<D> {
         ensures opened { IfOk result (λ planned.
             IsOpened (fs_of self.now) asked.entry planned.opened) }
         ensures full { OnOk result (is_full ≡ false) }
-        // Refused
+        // If it fails
         ensures refused { (state : State) (arguments : OpenArguments)
             → IsOn (fs_of self.now) cred.now asked.entry.directory state
             → IsOpening (fs_of self.now) state asked.entry is_full arguments
@@ -189,7 +189,7 @@ impl<D: Device> Fs<D> {
         ensures opened { IfOk result (λ planned.
             IsOpened (fs_of self.now) asked.entry planned.opened) }
         ensures full { OnOk result (is_full ≡ false) }
-        // Refused
+        // If it fails
         ensures refused { (state : State) (arguments : OpenArguments)
             → IsPlaced (fs_of self.now) cred.now asked.entry is_full state arguments
             → IfErr result (λ refusal. IsNotDone (fs_of self.now) state now
@@ -360,7 +360,7 @@ impl<D: Device> Fs<D> {
             (type_of asked.entry.how)) }
         ensures opened { IfOk result (λ planned. (is_full ≡ false)
             × IsOpened (fs_of self.now) asked.entry planned.opened) }
-        // Refused
+        // If it fails
         ensures refused { (state : State) (arguments : OpenArguments)
             → IsPlaced (fs_of self.now) cred.now asked.entry is_full state arguments
             → IfErr result (λ refusal. IsNotDone (fs_of self.now) state now

@@ -86,7 +86,7 @@ impl<D: Device> Fs<D> {
         ensures volume { AltersFs self.old self.new
             (MakesTree (fs_of self.old) cred.now directory now (Argument.Remove name.now))
             (fs_ending result) }
-        // Room, and refusals
+        // If the reply has no room
         ensures room { MindsRoom has_room (fs_of self.old).volume.is_down result }
         ensures memory { is_stamp_left (fs_of self.old).changes ≡ false
             → ¬ IsErrOf result FsFault.Memory }
@@ -118,7 +118,7 @@ impl<D: Device> Fs<D> {
         ensures step { (state : State) → IsOn (fs_of self.now) cred.now directory state
             → IfOk result (λ planned. RemovesBy (fs_of self.now) state now name.now
             planned.edits.items planned.removed) }
-        // Refused
+        // If it fails
         ensures refused { (state : State) → IsOn (fs_of self.now) cred.now directory state
             → IfErr result (λ refusal. IsNotDone (fs_of self.now) state now
             (Argument.Remove name.now) (fault_of refusal)) }

@@ -184,7 +184,7 @@ impl<D: Device> Fs<D> {
         ensures volume { AltersFs self.old self.new
             (RenamesTree (fs_of self.old) cred.now asked.entry.from asked.entry.to now
             (arguments_of asked.entry)) (fs_ending result) }
-        // Room, and refusals
+        // If the reply has no room
         ensures room { MindsRoom has_room (fs_of self.old).volume.is_down result }
     {
         if self.is_down() {
@@ -220,7 +220,7 @@ impl<D: Device> Fs<D> {
             asked.entry.to state
             → IfOk result (RenamesAsPlanned (fs_of self.now) state now
             (arguments_of asked.entry)) }
-        // Refused
+        // If it fails
         ensures refused { (state : State) → IsOnBoth (fs_of self.now) cred.now asked.entry.from
             asked.entry.to state → IfErr result (λ refusal. IsNotDone (fs_of self.now) state now
             (Argument.Rename (arguments_of asked.entry)) (fault_of refusal)) }
@@ -314,7 +314,7 @@ impl<D: Device> Fs<D> {
             asked.entry.to state → IfOk result (λ planned. MatchOption planned.edits ⊥ (λ edits.
             IsMoved (fs_of self.now) state now (arguments_of asked.entry) edits.items
             planned.renamed)) }
-        // Refused
+        // If it fails
         ensures refused { (state : State) → IsOnBoth (fs_of self.now) cred.now asked.entry.from
             asked.entry.to state → IfErr result (λ refusal. IsNotDone (fs_of self.now) state now
             (Argument.Rename (arguments_of asked.entry)) (fault_of refusal)) }

@@ -116,7 +116,7 @@ impl<D: Device> Fs<D> {
             result }
         ensures volume { AltersFs self.old self.new
             (SetsTree (fs_of self.old) cred.now now asked.entry) (fs_ending result) }
-        // Room, and refusals
+        // If the reply has no room
         ensures room { MindsRoom has_room (fs_of self.old).volume.is_down result }
     {
         if self.is_down() {
@@ -149,7 +149,7 @@ impl<D: Device> Fs<D> {
             → IsOn (fs_of self.now) cred.now asked.entry.number state
             → IsSetting state asked.entry arguments
             → IfOk result (SetsAsPlanned (fs_of self.now) state now arguments) }
-        // Refused
+        // If it fails
         ensures refused { (state : State) (arguments : SetAttrArguments)
             → IsOn (fs_of self.now) cred.now asked.entry.number state
             → IsSetting state asked.entry arguments

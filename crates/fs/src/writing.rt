@@ -68,7 +68,7 @@ impl<D: Device> Fs<D> {
         ensures volume { AltersFs self.old self.new
             (WritesTree (fs_of self.old) cred.now number now verdict asked.entry)
             (fs_ending result) }
-        // Room, and refusals
+        // If the reply has no room
         ensures room { MindsRoom has_room (fs_of self.old).volume.is_down result }
         // Without a stamp no memory is needed: it is refused with SERVERFAULT or NOSPC
         ensures memory { is_stamp_left (fs_of self.old).changes ≡ false
@@ -109,7 +109,7 @@ impl<D: Device> Fs<D> {
             → IsWriting state verdict asked.entry arguments
             → IfOk result (λ edits. WritesBy (fs_of self.now) state now arguments
             (length (bytes_taken (fs_of self.now) asked.entry)) edits) }
-        // Refused
+        // If it fails
         ensures refused { (state : State) (arguments : WriteArguments)
             → IsOn (fs_of self.now) cred.now number state
             → IsWriting state verdict asked.entry arguments
@@ -166,14 +166,14 @@ impl<D: Device> Fs<D> {
         // A change that may be made
         requires up { (fs_of self.old).volume.is_down ≡ false }
         requires planned { IsPlanned (fs_of self.old) edits.now }
-        // In any case
+        // However it ends
         ensures volume { AltersFs self.old self.new
             (IsWrittenTree (fs_of self.old).volume edits.now is_stable) (fs_ending result) }
-        // Done
+        // If it succeeds
         ensures shows { OnOk result (ShowsTree D.keeps_word
             (edited_by (fs_of self.old).volume edits.now) (fs_of self.new).volume.tree) }
         ensures counted { OnOk result ((fs_of self.new).changes ≡ (fs_of self.old).changes + 1) }
-        // Refused
+        // If it fails
         ensures only { IfErr result (λ fault.
             (fault ≡ FsFault.Memory) ⊎ (fault ≡ FsFault.Device)) }
     {
@@ -197,7 +197,7 @@ impl<D: Device> Fs<D> {
             → Commits D.keeps_word (fs_of self.old) (fs_of self.new) state now arguments result }
         ensures volume { AltersFs self.old self.new
             (IsTree (fs_of self.old).volume (fs_of self.old).volume.tree) (fs_ending result) }
-        // Room, and refusals
+        // If the reply has no room
         ensures room { MindsRoom has_room (fs_of self.old).volume.is_down result }
     {
         if self.is_down() {

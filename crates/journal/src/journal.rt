@@ -115,7 +115,7 @@ impl<D: Device> Journal<D> {
         ensures cost { D.keeps_word → OnOk result (moment (D.history device.new)
             ≡ moment (D.history device.old) + (D.size device.old + 4)) }
         ensures size { D.size device.new ≡ D.size device.old }
-        // Refused
+        // If it fails
         ensures failures { FailsCounted (D.failed device.old) (D.failed device.new) result }
         ensures refuses { IfErr result (λ fault. fault ≡ JournalFault.Fault) }
     {
@@ -144,7 +144,7 @@ impl<D: Device> Journal<D> {
         ensures cost { D.keeps_word → OnOk result (moment (D.history device.new)
             ≡ moment (D.history device.old) + (D.size device.old + 4)) }
         ensures size { D.size device.new ≡ D.size device.old }
-        // Refused
+        // If it fails
         ensures failures { FailsCounted (D.failed device.old) (D.failed device.new) result }
         ensures refuses { IfErr result (λ fault. fault ≡ JournalFault.Fault) }
     {
@@ -168,7 +168,7 @@ impl<D: Device> Journal<D> {
         ensures mounted { D.keeps_word → IfOk result (λ journal.
             HasRecovered (in_front (D.size device)) (D.history device) (log_of journal)) }
         ensures closed { IfOk result (λ journal. recorded_sectors journal ≡ []) }
-        // Refused
+        // If it fails
         ensures back { IfErr result (JournalComesBack D.size D.failed device) }
         ensures refused { D.keeps_word → IfErr result (λ refused.
             IsRecoveryRefused (in_front (D.size device)) (D.history device)
@@ -195,7 +195,7 @@ impl<D: Device> Journal<D> {
         ensures mounted { D.keeps_word → IfOk result (λ journal.
             HasRecovered (in_front (D.size device)) (D.history device) (log_of journal)) }
         ensures closed { IfOk result (λ journal. recorded_sectors journal ≡ []) }
-        // Refused
+        // If it fails
         ensures back { IfErr result (JournalComesBack D.size D.failed device) }
         ensures refused { D.keeps_word → IfErr result (λ refused.
             IsRecoveryRefused (in_front (D.size device)) (D.history device)
@@ -225,7 +225,7 @@ impl<D: Device> Journal<D> {
         ensures mounted { D.keeps_word → IfOk result (λ journal.
             HasRecovered area (D.history device) (log_of journal)) }
         ensures closed { IfOk result (λ journal. recorded_sectors journal ≡ []) }
-        // Refused
+        // If it fails
         ensures back { IfErr result (JournalComesBack D.size D.failed device) }
         ensures refused { D.keeps_word → IfErr result (λ refused. IsRecoveryRefused area
             (D.history device) (D.history refused.device) refused.fault) }
@@ -270,7 +270,7 @@ impl<D: Device> Journal<D> {
         // Nothing is written, on any device
         ensures untouched { IfOk result (λ view. (view_of view).history ≡ D.history device.old) }
         ensures same_device { IfOk result (λ view. name_of view ≡ device.entry.ghost_name) }
-        // Refused
+        // If it fails
         ensures back { IfErr result (λ refused. IsUnread D.size D.failed D.history
             device.old refused.device.now refused.fault) }
         ensures same_back { IfErr result (λ refused.
@@ -302,7 +302,7 @@ impl<D: Device> Journal<D> {
         // Nothing is written, on any device
         ensures untouched { IfOk result (λ view. (view_of view).history ≡ D.history device.old) }
         ensures same_device { IfOk result (λ view. name_of view ≡ device.entry.ghost_name) }
-        // Refused
+        // If it fails
         ensures back { IfErr result (λ refused. IsUnread D.size D.failed D.history
             device.old refused.device.now refused.fault) }
         ensures same_back { IfErr result (λ refused.
@@ -366,7 +366,7 @@ impl<D: Device> Journal<D> {
             { is_down = (log_of self.new).is_down } }
         ensures contents { contents (log_of self.new) ≡ contents (log_of self.old) }
         ensures shown { recorded_sectors self.new ≡ recorded_sectors self.old }
-        // Refused
+        // If it fails
         ensures untouched { IsErrOf result JournalFault.Down → content.new ≡ content.old }
         ensures answers { AnswersByDevice (log_of self.old) (log_of self.new)
             (journal_failures self.old) (journal_failures self.new) result }
@@ -409,7 +409,7 @@ impl<D: Device> Journal<D> {
         ensures shown { recorded_sectors self.new ≡ recorded_sectors self.old }
         ensures area { (log_of self.new).area ≡ (log_of self.old).area }
         ensures size { (log_of self.new).size ≡ (log_of self.old).size }
-        // Refused
+        // If it fails
         ensures answers { AnswersByDevice (log_of self.old) (log_of self.new)
             (journal_failures self.old) (journal_failures self.new) result }
         ensures refuses { IfErr result
@@ -442,7 +442,7 @@ impl<D: Device> Journal<D> {
             (log_of self.old) (log_of self.new)) }
         ensures closed { OnOk result (recorded_sectors self.new ≡ []) }
         ensures nothing { recorded_sectors self.old ≡ [] → log_of self.new ≡ log_of self.old }
-        // Refused
+        // If it fails
         ensures answers { AnswersByDevice (log_of self.old) (log_of self.new)
             (journal_failures self.old) (journal_failures self.new) result }
         ensures refuses { IfErr result
@@ -475,7 +475,7 @@ impl<D: Device> Journal<D> {
         ensures shown { recorded_sectors self.new ≡ recorded_sectors self.old }
         ensures ok { D.keeps_word → OnOk result (log_of self.new ≡ record (log_of self.old)
             { history = rewritten (recorded_sectors self.old) (log_of self.old).history }) }
-        // Refused
+        // If it fails
         ensures answers { AnswersByDevice (log_of self.old) (log_of self.new)
             (journal_failures self.old) (journal_failures self.new) result }
         ensures refuses { IfErr result
@@ -532,7 +532,7 @@ impl<D: Device> Journal<D> {
         requires up { (log_of self.old).is_down ≡ false }
         requires short { length updates.now ≤ MAX_UPDATES }
         requires fit { AreTargets (log_of self.old).area.end (targets updates.now) }
-        // In any case
+        // However it ends
         ensures part { IsPart D.keeps_word (log_of self.old) (log_of self.new)
             (journal_failures self.old) (journal_failures self.new) result }
         // It is flushed if and only if there is no room
@@ -578,7 +578,7 @@ impl<D: Device> Journal<D> {
         ensures gate { OnOk result (GoesThroughFirst D.keeps_word updates.items
             (recorded_sectors self.old) (recorded_sectors self.new) (log_of self.old)
             (log_of self.new)) }
-        // Refused
+        // If it fails
         ensures too_many { (log_of self.old).is_down ≡ false
             → IsErrOf result JournalFault.TooMany ↔ (max_updates < length updates.items) }
         ensures unchanged { IsErrOf result JournalFault.TooMany
@@ -614,7 +614,7 @@ impl<D: Device> Journal<D> {
         ensures moved { D.keeps_word → (log_of self.new).is_down ≡ false
             → Moved (log_of self.old).list (log_of self.old) (log_of self.new) }
         ensures nothing { (log_of self.old).list ≡ [] → log_of self.new ≡ log_of self.old }
-        // Refused
+        // If it fails
         ensures answers { AnswersByDevice (log_of self.old) (log_of self.new)
             (journal_failures self.old) (journal_failures self.new) result }
         ensures refuses { IfErr result

@@ -99,7 +99,7 @@ pub(crate) fn read_gate<D: Device>(
     ensures reads { (D.history device.new ≡ D.history device.old)
         × (D.size device.new ≡ D.size device.old) }
     ensures small { area.end < 2 ^ 32 }
-    // Refused
+    // If it fails
     ensures damaged { D.keeps_word → IsErrOf result JournalFault.Damaged → (to : List ℕ)
         → ¬ NamesTargets area (seen (D.history device.old).now 1) to }
     ensures failures { FaultsCounted (D.failed device.old) (D.failed device.new) result }

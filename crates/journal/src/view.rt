@@ -72,7 +72,7 @@ impl<'a, D: Device> View<'a, D> {
         ensures view { view_of self.new ≡ record (view_of self.old)
             { is_down = (view_of self.new).is_down } }
         ensures same_reference { name_of self.new ≡ name_of self.old }
-        // Refused
+        // If it fails
         ensures untouched { IsErrOf result JournalFault.Down → content.new ≡ content.old }
         ensures answers { AnswersByDevice (view_of self.old) (view_of self.new)
             (view_failures self.old) (view_failures self.new) result }

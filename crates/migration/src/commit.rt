@@ -23,7 +23,7 @@ pub(crate) fn commit<D: Device>(
     ensures ok { OnOk result (HasCommitted D.keeps_word (updates.items ∷ [])
         (log_of journal.old) (log_of journal.new)) }
     ensures settled { D.keeps_word → OnOk result (IsSettled (log_of journal.new)) }
-    // Refused
+    // If it fails
     ensures failures { FailsCounted (journal_failures journal.old) (journal_failures journal.new)
         result }
     ensures refuses { IfErr result (λ fault. fault ≡ JournalFault.Fault) }
@@ -46,7 +46,7 @@ pub(crate) fn commit_all<D: Device>(
     ensures ok { OnOk result (HasCommitted D.keeps_word
         (map (λ updates. updates.items) transactions.items)
         (log_of journal.old) (log_of journal.new)) }
-    // Refused
+    // If it fails
     ensures failures { FailsCounted (journal_failures journal.old) (journal_failures journal.new)
         result }
     ensures refuses { IfErr result (λ fault. fault ≡ JournalFault.Fault) }

@@ -42,7 +42,7 @@ pub fn clear<D: Device>(journal: &mut Journal<D>, updates: Vec<Update>) -> Resul
         (HasCleared (log_of journal.old) (log_of journal.new)) }
     ensures settled { D.keeps_word → OnOk result (IsSettled (log_of journal.new)) }
     ensures place { StaysInPlace (log_of journal.old) (log_of journal.new) }
-    // Refused
+    // If it fails
     ensures later { journal_failures journal.old ≤ journal_failures journal.new }
     ensures cause { OnErr result
         (IsCounted (journal_failures journal.old) (journal_failures journal.new)) }

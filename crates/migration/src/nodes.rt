@@ -43,7 +43,7 @@ pub fn migrate<D: Device>(
     ensures steps { D.keeps_word → OnOk result (moment (log_of journal.old).history + 2
         ≤ moment (log_of journal.new).history) }
     ensures place { StaysInPlace (log_of journal.old) (log_of journal.new) }
-    // Refused
+    // If it fails
     ensures memory { IsErrOf result MigrationFault.Memory
         → log_of journal.new ≡ log_of journal.old }
     ensures later { journal_failures journal.old ≤ journal_failures journal.new }

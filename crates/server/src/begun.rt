@@ -59,16 +59,16 @@ impl Begun {
     ) -> Result<TurnEnd, Undone>
         requires goes_on { CanGoOn (files_in engine.old).volume.run request.now self }
         requires up { (files_in engine.old).volume.is_down ≡ false }
-        // Done
+        // If it succeeds
         ensures step { D.keeps_word
             → IfOk result (RecordSteps engine.old.moment (state_in engine.old)
             (state_in engine.new) request.now self) }
         ensures goes_on { IfOk result
             (RecordGoesOn (files_in engine.old).volume.run request.now self) }
-        // Not done
+        // If it fails
         ensures back { IfErr result (λ undone. undone.begun ≡ self) }
         ensures others { OnErr result (KeepsRest engine.old engine.new) }
-        // In any case
+        // However it ends
         ensures volume { AltersFiles engine.old engine.new (TurnGives (state_in engine.old)
             (λ world number. stepped_on world number engine.old.moment
             (in_progress_at request.now self))) (undone_turn_ending result) }

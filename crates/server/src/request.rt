@@ -47,9 +47,9 @@ pub fn first_turn<D: Device>(
         (left_by_turn (Some request.now) done) (turn_of_end done)) }
     ensures stays { IfOk result (IsLeftInRun (files_in engine.old).volume.run) }
     ensures follows { IfOk result (λ done. can_follow (Some request.now) done ≡ true) }
-    // Refused
+    // If it fails
     ensures back { OnErr result (KeepsRest engine.old engine.new) }
-    // In every result
+    // However it ends
     ensures volume { AltersFiles engine.old engine.new (TurnGives (state_in engine.old)
         (λ world number. called world number engine.old.moment (rpc.read_call request.now)))
         (ending result) }

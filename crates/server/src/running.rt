@@ -33,10 +33,10 @@ impl Connection {
         ensures further { OnOk result
             (HasGoneOn (Some (connection_view self.old)) (Some (connection_view self.new))) }
         ensures run { IsOfRun (files_in engine.old).volume.run (connection_view self.new) }
-        // Refused
+        // If it fails
         ensures back { OnErr result ((connection_view self.new ≡ connection_view self.old)
             × KeepsRest engine.old engine.new) }
-        // In every result
+        // However it ends
         ensures volume { AltersFiles engine.old engine.new (TurnGives (state_in engine.old)
             (λ world number. turned world number engine.old.moment
             (Some (connection_view self.old)))) (ending result) }
@@ -77,11 +77,11 @@ impl Connection {
             (Some (busy_with (held_record self.old.assembler) begun))
             (Some (connection_view self.new))) }
         ensures run { IsOfRun (files_in engine.old).volume.run (connection_view self.new) }
-        // Refused
+        // If it fails
         ensures back { OnErr result
             ((connection_view self.new ≡ busy_with (held_record self.old.assembler) begun)
             × KeepsRest engine.old engine.new) }
-        // In any case
+        // However it ends
         ensures volume { AltersFiles engine.old engine.new (TurnGives (state_in engine.old)
             (λ world number. turned world number engine.old.moment
             (Some (busy_with (held_record self.old.assembler) begun)))) (ending result) }

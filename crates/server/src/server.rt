@@ -143,7 +143,7 @@ impl<D: Device> Server<D> {
         ensures ok { D.keeps_word
             → IfOk result (λ conn. Serves self.old self.new (runs.Connects conn) Done) }
         ensures fresh { IfOk result (λ conn. can_connect (world_of self.old) conn ≡ true) }
-        // Refused
+        // If it fails
         ensures device { IsErrOf result ServerFault.Device ↔ ((volume_of self.old).is_down ≡ true) }
         ensures full { IsErrOf result ServerFault.Full
             → length (world_of self.old).connections ≡ most_connections }
@@ -177,7 +177,7 @@ impl<D: Device> Server<D> {
             Serves self.old self.new (runs.Arrives conn piece.now) (Took (Some n))) }
         ensures closed { D.keeps_word → IsErrOf result ServerFault.Closed
             → Serves self.old self.new (runs.Arrives conn piece.now) (Took None) }
-        // Refused
+        // If it fails
         ensures device { IsErrOf result ServerFault.Device ↔ ((volume_of self.old).is_down ≡ true) }
         ensures no_connection { IsErrOf result ServerFault.NoConnection
             → connection_at (view self.old) conn ≡ None }
@@ -211,17 +211,17 @@ impl<D: Device> Server<D> {
     /// operation. NoConnection; Closed if the connection was closed; Memory, and then nothing
     /// changed and the request stays.
     pub fn turn(&mut self, conn: usize, now: u64) -> Result<Turn, ServerFault>
-        // Done
+        // If it succeeds
         ensures ok { D.keeps_word → IfOk result (λ turn.
             Serves self.old self.new (runs.Turns conn now) (Turned (turn_view turn))) }
         ensures turned { OnOk result
             (HasTurned D.keeps_word (view self.old) (view self.new) conn now) }
         ensures waits { waits_of self.new ≡ waits_of self.old }
-        // The device fails in it
+        // If the device fails in it
         ensures fails { D.keeps_word → (volume_of self.old).is_down ≡ false
             → IsErrOf result ServerFault.Device
             → ServerFails self.old self.new (runs.Turns conn now) }
-        // Refused
+        // If it fails
         ensures refused { IfErr result (RefusesTurn (view self.old) (view self.new) conn) }
         ensures is_down { (volume_of self.old).is_down ≡ true
             → IsErrOf result ServerFault.Device × IsUntouched (view self.old) (view self.new) }
@@ -243,17 +243,17 @@ impl<D: Device> Server<D> {
     /// # Errors
     /// Those of `turn`.
     pub fn turn_unflushed(&mut self, conn: usize, now: u64) -> Result<Turn, ServerFault>
-        // Done
+        // If it succeeds
         ensures ok { D.keeps_word → IfOk result (λ turn.
             ServesLater self.old self.new (runs.Turns conn now) (Turned (turn_view turn))) }
         ensures turned { OnOk result
             (HasTurned D.keeps_word (view self.old) (view self.new) conn now) }
         ensures waits { LetsWait self.old self.new result }
-        // The device fails in it
+        // If the device fails in it
         ensures fails { D.keeps_word → (volume_of self.old).is_down ≡ false
             → IsErrOf result ServerFault.Device
             → ServerFails self.old self.new (runs.Turns conn now) }
-        // Refused
+        // If it fails
         ensures refused { IfErr result (RefusesTurn (view self.old) (view self.new) conn) }
         ensures is_down { (volume_of self.old).is_down ≡ true
             → IsErrOf result ServerFault.Device × IsUntouched (view self.old) (view self.new) }
@@ -280,18 +280,18 @@ impl<D: Device> Server<D> {
 
     /// A turn, in which what has to last is kept or waits.
     fn take_turn(&mut self, conn: usize, now: u64) -> Result<Turn, ServerFault>
-        // Done
+        // If it succeeds
         ensures ok { D.keeps_word → IfOk result (λ turn. ServesAs (files_of self.old).defers
             self.old self.new (runs.Turns conn now) (Turned (turn_view turn))) }
         ensures turned { OnOk result
             (HasTurned D.keeps_word (view self.old) (view self.new) conn now) }
         ensures waits { LetsWait self.old self.new result
             × ((files_of self.old).defers ≡ false → waits_of self.new ≡ waits_of self.old) }
-        // The device fails in it
+        // If the device fails in it
         ensures fails { D.keeps_word → (volume_of self.old).is_down ≡ false
             → IsErrOf result ServerFault.Device
             → ServerFails self.old self.new (runs.Turns conn now) }
-        // Refused
+        // If it fails
         ensures refused { IfErr result (RefusesTurn (view self.old) (view self.new) conn) }
         ensures is_down { (volume_of self.old).is_down ≡ true
             → IsErrOf result ServerFault.Device × IsUntouched (view self.old) (view self.new) }
@@ -327,17 +327,17 @@ impl<D: Device> Server<D> {
     /// Device if the file system is down, or goes down in this call: then no reply reports what
     /// waited.
     pub fn flush(&mut self) -> Result<(), ServerFault>
-        // Done
+        // If it succeeds
         ensures ok { D.keeps_word → waits_of self.old ≡ true
             → OnOk result (FlushesServer self.old self.new) }
         ensures none_waits { OnOk result (waits_of self.new ≡ false) }
         ensures kept { OnOk result (HasKept (view self.old) (view self.new)) }
         ensures nothing { waits_of self.old ≡ false → IsUntouched (view self.old) (view self.new) }
-        // The device fails in it
+        // If the device fails in it
         ensures fails { D.keeps_word → (volume_of self.old).is_down ≡ false
             → OnErr result ((event : runs.Event) → ServerFails self.old self.new event) }
         ensures device { UsesDevice D.keeps_word 198 (view self.old) (view self.new) }
-        // Refused
+        // If it fails
         ensures refused { IfErr result (RefusesCheckpoint (view self.old) (view self.new)) }
         ensures waits { OnErr result (waits_of self.new ≡ waits_of self.old) }
         ensures is_down { (volume_of self.old).is_down ≡ true
@@ -369,7 +369,7 @@ impl<D: Device> Server<D> {
     /// Device and NoConnection as in `turn`. After Memory what was run stays run, and the
     /// connection stays.
     pub fn hangup(&mut self, conn: usize, now: u64) -> Result<(), ServerFault>
-        // Done
+        // If it succeeds
         ensures ok { D.keeps_word → OnOk result
             (Turning self.old conn now (λ between. (after : List runs.Left)
             × Does between (runs.HangsUp conn) Done (seen_with self.new after))) }
@@ -384,7 +384,7 @@ impl<D: Device> Server<D> {
             → IsErrOf result ServerFault.Device → Turning self.old conn now (λ between.
             (left : List runs.Left) × Breaks between (runs.Turns conn now)
             (seen_down self.new between.serving.world.tree left)) }
-        // Refused
+        // If it fails
         ensures refused { IfErr result (RefusesHangUp (view self.old) (view self.new) conn) }
         ensures is_down { (volume_of self.old).is_down ≡ true
             → IsErrOf result ServerFault.Device × IsUntouched (view self.old) (view self.new) }
@@ -422,14 +422,14 @@ impl<D: Device> Server<D> {
     /// # Errors
     /// Device if the file system is down, or goes down in this call.
     pub fn checkpoint(&mut self) -> Result<(), ServerFault>
-        // Done
+        // If it succeeds
         ensures ok { D.keeps_word → OnOk result (Keeps self.old self.new) }
         ensures kept { OnOk result (HasKept (view self.old) (view self.new)) }
-        // The device fails in it
+        // If the device fails in it
         ensures fails { D.keeps_word → (volume_of self.old).is_down ≡ false
             → OnErr result ((event : runs.Event) → ServerFails self.old self.new event) }
         ensures device { UsesDevice D.keeps_word 99 (view self.old) (view self.new) }
-        // Refused
+        // If it fails
         ensures refused { IfErr result (RefusesCheckpoint (view self.old) (view self.new)) }
         ensures is_down { (volume_of self.old).is_down ≡ true
             → IsErrOf result ServerFault.Device × IsUntouched (view self.old) (view self.new) }
@@ -458,7 +458,7 @@ impl<D: Device> Server<D> {
         ensures down { D.keeps_word → (volume_of self.old).is_down ≡ true
             → waits_of self.old ≡ false
             → IfOk result (λ output. GivesReply self.old self.new conn (gave output)) }
-        // Refused
+        // If it fails
         ensures no_connection { IsErrOf result ServerFault.NoConnection
             ↔ (connection_at (view self.old) conn ≡ None) }
         ensures only { IfErr result (λ fault. fault ≡ ServerFault.NoConnection) }

@@ -81,7 +81,7 @@ fn put_name(
         (edit.PutName directory stamp name.entry number)) }
     ensures full { IsErrOf result SpaceFault.Full
         → Overfills transaction.old (edit.PutName directory stamp name.entry number ∷ []) }
-    // In any case
+    // However it ends
     ensures table { transaction.new.cards.table ≡ transaction.old.cards.table }
 {
     let place = place_of(transaction, directory);
@@ -185,7 +185,7 @@ fn put_bytes<S: Sectors>(
         (edit.PutBytes file offset bytes.entry ∷ [])) }
     ensures full { IsErrOf result TransactionFault.Full
         → Overfills transaction.old (edit.PutBytes file offset bytes.entry ∷ []) }
-    // In any case
+    // However it ends
     ensures kept { (S.kept base.new ≡ S.kept base.old)
         × (transaction.new.cards.table ≡ transaction.old.cards.table) }
     ensures health { FailsOrStays (S.health base.old) (S.health base.new)
@@ -209,7 +209,7 @@ fn set_size<S: Sectors>(
     ensures done { OnOk result (DoesEdits S.keeps_word (S.image (S.kept base.old))
         (S.size (S.kept base.old)) transaction.old transaction.new (edit.SetSize file size ∷ [])) }
     ensures full { ¬ IsErrOf result TransactionFault.Full }
-    // In any case
+    // However it ends
     ensures kept { (S.kept base.new ≡ S.kept base.old)
         × (transaction.new.cards.table ≡ transaction.old.cards.table) }
     ensures health { FailsOrStays (S.health base.old) (S.health base.new)
@@ -240,7 +240,7 @@ fn edit_one<S: Sectors>(
         (S.size (S.kept base.old)) transaction.old transaction.new (edit.now ∷ [])) }
     ensures full { IsErrOf result TransactionFault.Full
         → Overfills transaction.old (edit.now ∷ []) }
-    // In any case
+    // However it ends
     ensures kept { (S.kept base.new ≡ S.kept base.old)
         × (transaction.new.cards.table ≡ transaction.old.cards.table) }
     ensures health { FailsOrStays (S.health base.old) (S.health base.new)
@@ -295,7 +295,7 @@ pub(crate) fn edit_all<S: Sectors>(
         (S.size (S.kept base.old)) transaction.old transaction.new edits.now) }
     ensures full { IsErrOf result TransactionFault.Full
         → Overfills transaction.old edits.now }
-    // In any case
+    // However it ends
     ensures kept { (S.kept base.new ≡ S.kept base.old)
         × (transaction.new.cards.table ≡ transaction.old.cards.table) }
     ensures health { FailsOrStays (S.health base.old) (S.health base.new)

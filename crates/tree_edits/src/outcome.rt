@@ -36,11 +36,11 @@ pub fn outcome_of<S: Sectors>(
         (tree_without_data table.now) edits.now }
     ensures done { IfOk result (λ outcome. ComesTo S.keeps_word (S.image (S.kept base.old))
         (S.size (S.kept base.old)) table.now places.now edits.now outcome) }
-    // Refused
+    // If it fails
     ensures full { ¬ IsErrOf result TransactionFault.Full }
     ensures health { FailsOrStays (S.health base.old) (S.health base.new)
         (IsErrOf result TransactionFault.Device) }
-    // In any case
+    // However it ends
     ensures kept { S.kept base.new ≡ S.kept base.old }
 {
     let mut transaction = Transaction::new(alloc, table, places)?;

@@ -48,7 +48,7 @@ fn write_over<S: Sectors>(
     ensures whole { S.keeps_word
         → OnOk result (length (applied updates.old (S.image (S.kept base.old)) sector) ≡ SECTOR) }
     ensures others { OnOk result (ChangeOne updates.old updates.new sector) }
-    // What it takes
+    // What it costs
     ensures count { length updates.new ≤ length updates.old + 1 }
     ensures full { ¬ IsErrOf result TransactionFault.Full }
     // It only reads the base
@@ -98,7 +98,7 @@ fn take_sector(
     requires few { length blocks.old ≤ BlockList.MAX_BLOCKS }
     ensures taken { IfOk result (λ sector. TakesSector first places.old places.new sector) }
     ensures blocks { IfOk result (λ sector. blocks.new ≡ set blocks.old block (Some sector)) }
-    // Refused
+    // If it fails
     ensures full { IsErrOf result SpaceFault.Full → free_places places.old ≡ 0 }
 {
     let place = places.take()?;
@@ -127,7 +127,7 @@ fn write_block<S: Sectors>(
         × (length blocks.new ≡ length blocks.old)) }
     ensures others { OnOk result (ChangeBlocks updates.old updates.new blocks.new) }
     ensures fills { IfOk result (λ filled. FillHoles filled blocks.old blocks.new) }
-    // What it takes
+    // What it costs
     ensures count { length updates.new ≤ length updates.old + 1 }
     ensures full { IsErrOf result TransactionFault.Full
         → FindsNone places.old blocks.old part.entry.block }
@@ -176,7 +176,7 @@ pub(crate) fn write_blocks<S: Sectors>(
         × (length blocks.new ≡ length blocks.old)) }
     ensures others { OnOk result (ChangeBlocks updates.old updates.new blocks.new) }
     ensures fills { IfOk result (λ filled. FillHoles filled blocks.old blocks.new) }
-    // What it takes
+    // What it costs
     ensures count { OnOk result (length updates.new
         ≤ length updates.old + (offset % SECTOR + length bytes.now + 4095) / SECTOR) }
     ensures full { IsErrOf result TransactionFault.Full
@@ -241,7 +241,7 @@ pub(crate) fn write_names(
         block (directory_sector (names_of_block block names.now))) }
     ensures gets { OnOk result (GetSectors first places.old places.new blocks.old blocks.new) }
     ensures same { IfOk result (λ filled. filled ≡ false → blocks.new ≡ blocks.old) }
-    // What it takes
+    // What it costs
     ensures count { length updates.new ≤ length updates.old + 1 }
     ensures full { IsErrOf result SpaceFault.Full
         → free_places places.old + set_blocks blocks.old < max (length blocks.old) (block + 1) }
@@ -291,7 +291,7 @@ pub(crate) fn clear_tail<S: Sectors>(
         (applied updates.old (S.image (S.kept base.old)))
         (applied updates.new (S.image (S.kept base.old))) blocks.now size) }
     ensures others { OnOk result (ChangeBlocks updates.old updates.new blocks.now) }
-    // What it takes
+    // What it costs
     ensures count { length updates.new ≤ length updates.old + 1 }
     ensures full { ¬ IsErrOf result TransactionFault.Full }
     // It only reads the base
@@ -326,7 +326,7 @@ fn clear_from<S: Sectors>(
     ensures whole { S.keeps_word
         → OnOk result (length (applied updates.old (S.image (S.kept base.old)) sector) ≡ SECTOR) }
     ensures others { OnOk result (ChangeOne updates.old updates.new sector) }
-    // What it takes
+    // What it costs
     ensures count { length updates.new ≤ length updates.old + 1 }
     ensures full { ¬ IsErrOf result TransactionFault.Full }
     // It only reads the base

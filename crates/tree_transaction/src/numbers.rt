@@ -22,11 +22,11 @@ pub(crate) fn take_numbers(
     // How many there are afterwards
     ensures least { OnOk result (wanted ≤ length numbers.new.items) }
     ensures most { length numbers.old.items ≤ wanted → length numbers.new.items ≤ wanted }
-    // What it takes
+    // What it costs
     ensures marks { OnOk result (Follow first places.old places.new
         numbers.old.items numbers.new.items) }
     ensures len { length places.new ≡ length places.old }
-    // Refused
+    // If it fails
     ensures full { IsErrOf result SpaceFault.Full
         → free_places places.old + length numbers.old.items < wanted }
 {

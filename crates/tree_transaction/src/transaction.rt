@@ -174,7 +174,7 @@ impl<'a> Transaction<'a> {
             (cards_of self.new ≡ set (cards_of self.old) place (Some cached)) }
         ensures made { OnOk result (MakesEdit self.old self.new
             (PutNode cached.fields.number (new_node cached))) }
-        // In any case
+        // However it ends
         ensures count { length self.new.updates ≤ length self.old.updates + 1 }
         ensures table { self.new.cards.table ≡ self.old.cards.table }
     {
@@ -196,7 +196,7 @@ impl<'a> Transaction<'a> {
             (NodeBecomes self.old self.new place (showing (shown_of shown.now))) }
         ensures shown { OnOk result (Edits self.old self.new place
             (λ number. Show number (shown_of shown.now))) }
-        // In any case
+        // However it ends
         ensures count { length self.new.updates ≤ length self.old.updates + 1 }
         ensures table { self.new.cards.table ≡ self.old.cards.table }
     {
@@ -218,7 +218,7 @@ impl<'a> Transaction<'a> {
         ensures known { OnOk result (StaysKnown self.old self.new) }
         ensures cards { OnOk result (cards_of self.new ≡ set (cards_of self.old) place None) }
         ensures freed { OnOk result (Edits self.old self.new place DropNode) }
-        // In any case
+        // However it ends
         ensures count { length self.new.updates ≤ length self.old.updates + 1 }
         ensures table { self.new.cards.table ≡ self.old.cards.table }
     {
@@ -249,10 +249,10 @@ impl<'a> Transaction<'a> {
             (with_name (record_from stamp name.now number))) }
         ensures put { OnOk result (Edits self.old self.new place
             (λ to. PutName to stamp (record { name = name.now; number = number }))) }
-        // What it takes
+        // What it costs
         ensures count { length self.new.updates ≤ length self.old.updates + 4 }
         ensures full { IsErrOf result SpaceFault.Full → IsOvercharged self.old place blocks_named }
-        // In any case
+        // However it ends
         ensures table { self.new.cards.table ≡ self.old.cards.table }
     {
         let mut cached = take_card(&mut self.cards, place)?;
@@ -284,7 +284,7 @@ impl<'a> Transaction<'a> {
         ensures known { OnOk result (StaysKnown self.old self.new) }
         ensures cards { OnOk result (NodeBecomes self.old self.new place (without_name name.now)) }
         ensures dropped { OnOk result (DropsNamed self.old self.new place name.now) }
-        // In any case
+        // However it ends
         ensures count { length self.new.updates ≤ length self.old.updates + 4 }
         ensures table { self.new.cards.table ≡ self.old.cards.table }
     {
@@ -317,7 +317,7 @@ impl<'a> Transaction<'a> {
             (NodeBecomes self.old self.new place (λ cached. sized cached size)) }
         ensures grown { OnOk result (Edits self.old self.new place
             (λ number. SetSize number size)) }
-        // In any case
+        // However it ends
         ensures count { length self.new.updates ≤ length self.old.updates + 1 }
         ensures table { self.new.cards.table ≡ self.old.cards.table }
     {
@@ -346,7 +346,7 @@ impl<'a> Transaction<'a> {
             (NodeBecomes self.old self.new place (λ cached. sized cached size)) }
         ensures tree { S.keeps_word → OnOk result (EditsOver (S.image (S.kept base.old))
             (S.size (S.kept base.old)) self.old self.new place (λ number. SetSize number size)) }
-        // What it takes
+        // What it costs
         ensures count { OnOk result (length self.new.updates ≤ length self.old.updates + 11) }
         ensures full { ¬ IsErrOf result TransactionFault.Full }
         // It only reads the base
@@ -387,7 +387,7 @@ impl<'a> Transaction<'a> {
         ensures tree { S.keeps_word → OnOk result (EditsOver (S.image (S.kept base.old))
             (S.size (S.kept base.old)) self.old self.new place
             (λ number. PutBytes number offset bytes.now)) }
-        // What it takes
+        // What it costs
         ensures count { OnOk result (length self.new.updates
             ≤ length self.old.updates + (offset % SECTOR + length bytes.now + 4095) / SECTOR + 10) }
         ensures full { IsErrOf result TransactionFault.Full
@@ -419,7 +419,7 @@ impl<'a> Transaction<'a> {
         ensures bytes { S.keeps_word → IfOk result (λ written.
             HasBytes (S.image (S.kept base.old)) self.old self.new place offset bytes.now
             written.cached) }
-        // What it takes
+        // What it costs
         ensures count { OnOk result (length self.new.updates
             ≤ length self.old.updates + (offset % SECTOR + length bytes.now + 4095) / SECTOR) }
         ensures full { IsErrOf result TransactionFault.Full
@@ -458,7 +458,7 @@ impl<'a> Transaction<'a> {
         ensures cards { self.new.cards ≡ self.old.cards }
         ensures places { self.new.places ≡ self.old.places }
         ensures nodes { self.new.nodes ≡ self.old.nodes }
-        // What it takes
+        // What it costs
         ensures count { OnOk result (length self.new.updates ≤ length self.old.updates + 2) }
     {
         put_marks(&mut self.updates, &self.places, before, 0)?;
@@ -474,9 +474,9 @@ impl<'a> Transaction<'a> {
         requires same { written.filled ≡ false → HasItsRuns place written.cached }
         ensures stands { OnOk result (StandsAgain self.old self.new place written.cached
             self.old.places self.old.updates) }
-        // In any case
+        // However it ends
         ensures table { self.new.cards.table ≡ self.old.cards.table }
-        // What it takes
+        // What it costs
         ensures count { length self.new.updates
             ≤ length self.old.updates + 1 + sectors_for (set_blocks written.cached.blocks) }
         ensures full { IsErrOf result SpaceFault.Full
@@ -509,7 +509,7 @@ impl<'a> Transaction<'a> {
         requires same { before ≤ length cached.blocks → HasItsRuns place cached }
         ensures stands { OnOk result
             (StandsAgain self.old self.new place cached self.old.places self.old.updates) }
-        // In any case
+        // However it ends
         ensures table { self.new.cards.table ≡ self.old.cards.table }
         ensures count { length self.new.updates
             ≤ length self.old.updates + 1 + sectors_for (set_blocks cached.blocks) }
@@ -532,7 +532,7 @@ impl<'a> Transaction<'a> {
             (inode_sector cached.form cached.fields)) }
         ensures cards { OnOk result
             (cards_of self.new ≡ set (cards_of self.old) place (Some cached)) }
-        // In any case
+        // However it ends
         ensures nodes { self.new.nodes ≡ self.old.nodes }
         ensures places { self.new.places ≡ self.old.places }
         ensures table { self.new.cards.table ≡ self.old.cards.table }
@@ -551,7 +551,7 @@ impl<'a> Transaction<'a> {
         requires enough { HasEnough cached }
         ensures back { OnOk result (IsBack self.old.nodes place self.old.places self.old.updates
             (cards_of self.old) self.new cached) }
-        // In any case
+        // However it ends
         ensures table { self.new.cards.table ≡ self.old.cards.table }
         ensures count { length self.new.updates
             ≤ length self.old.updates + 1 + sectors_for (set_blocks cached.blocks) }

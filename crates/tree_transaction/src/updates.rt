@@ -85,10 +85,10 @@ impl Updates {
             ≡ updated self.old (record { target = target; content = content.now })) }
         ensures image { OnOk result ((image : Image) → applied self.new image
             ≡ put (applied self.old image) (record { target = target; content = content.now })) }
-        // In any case
+        // However it ends
         ensures apart { UpdatesApart self.new }
         ensures count { length self.new ≤ length self.old + 1 }
-        // Refused
+        // If it fails
         ensures err { OnErr result (self.new ≡ self.old) }
     {
         let place = place_for(&mut self.list, &mut self.pending, target)?;

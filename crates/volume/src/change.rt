@@ -60,7 +60,7 @@ impl<D: Device> Volume<D> {
             (IsEdited (volume_state self.old) edits.now) (ending_of result) }
         ensures shows { OnOk result (ShowsTree D.keeps_word
             (edited_by (volume_state self.old) edits.now) (volume_state self.new).tree) }
-        // Refused
+        // If it fails
         ensures stays { OnErr result
             (ShowsAs (volume_state self.old).tree (volume_state self.new).tree) }
         ensures down { IsErrOf result VolumeFault.Down ↔ ((volume_state self.old).is_down ≡ true) }
@@ -93,7 +93,7 @@ impl<D: Device> Volume<D> {
             (edited_by (volume_state self.old) edits.now) (volume_state self.new).tree) }
         ensures brief { D.keeps_word → MakesAtMost 198 (volume_state self.old)
             (volume_state self.new) }
-        // Refused
+        // If it fails
         ensures stays { OnErr result
             (ShowsAs (volume_state self.old).tree (volume_state self.new).tree) }
         ensures down { IsErrOf result VolumeFault.Down ↔ ((volume_state self.old).is_down ≡ true) }
@@ -137,7 +137,7 @@ impl<D: Device> Volume<D> {
             (ending_of result) }
         ensures shows { OnOk result (ShowsTree D.keeps_word
             (edited_by (volume_state self.old) edits.now) (volume_state self.new).tree) }
-        // Refused
+        // If it fails
         ensures down { IsErrOf result VolumeFault.Down ↔ ((volume_state self.old).is_down ≡ true) }
         ensures space { ¬ IsErrOf result VolumeFault.NoSpace }
     {

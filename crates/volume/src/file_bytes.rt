@@ -50,7 +50,7 @@ impl<D: Device> Volume<D> {
         ensures volume { AltersVolume self.old self.new
             (IsTree (volume_state self.old) (volume_state self.old).tree)
             (ending_of_reading result) }
-        // Refused
+        // If it fails
         ensures down { IsErrOf result VolumeFault.Down ↔ ((volume_state self.old).is_down ≡ true) }
         ensures refuses { IfErr result (λ fault. (fault ≡ VolumeFault.Device)
             ⊎ ((fault ≡ VolumeFault.Memory) ⊎ (fault ≡ VolumeFault.Down))) }

@@ -70,7 +70,7 @@ pub fn format<D: Device>(alloc: Global, device: &mut D, nodes: u32) -> Result<()
         (D.history device.old) (D.history device.new) }
     ensures ok { D.keeps_word → OnOk result
         (LeavesFresh (D.size device.old) nodes (D.history device.new)) }
-    // Refused
+    // If it fails
     ensures size { IsErrOf result FormatFault.Size
         ↔ (is_size (D.size device.old) nodes ≡ false) }
     ensures untouched { (IsErrOf result FormatFault.Size ⊎ IsErrOf result FormatFault.Memory)

@@ -80,7 +80,7 @@ pub(crate) fn read_nodes<S: Sectors>(
     ensures kept { S.kept sectors.new ≡ S.kept sectors.old }
     ensures health { FailsOrStays (S.health sectors.old) (S.health sectors.new)
         (IsErrOf result MountFault.Device) }
-    // Refused
+    // If it fails
     ensures damaged { S.keeps_word → IsErrOf result MountFault.Damaged → (kept : Kept)
         → ¬ StandsOn found (S.image (S.kept sectors.old)) kept }
     ensures only { IfErr result (λ fault. (fault ≡ MountFault.Device)
@@ -128,7 +128,7 @@ pub(crate) fn load<D: Device>(
     ensures loads { Loads (log_of store.old.journal) (log_of store.new.journal)
         (journal_failures store.old.journal) (journal_failures store.new.journal)
         (IsErrOf result MountFault.Device) }
-    // Refused
+    // If it fails
     ensures damaged { D.keeps_word → IsErrOf result MountFault.Damaged → (kept : Kept)
         → ¬ StandsOn found (log_of store.old.journal).base kept }
     ensures only { IfErr result (λ fault. (fault ≡ MountFault.Device)

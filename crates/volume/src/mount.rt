@@ -35,7 +35,7 @@ fn read_first<D: Device>(device: &mut D) -> Result<[u8; SECTOR], MountFault>
     // It only reads
     ensures history { D.history device.new ≡ D.history device.old }
     ensures same_size { D.size device.new ≡ D.size device.old }
-    // The device fails in it
+    // If the device fails in it
     ensures later { D.failed device.old ≤ D.failed device.new }
     ensures cause { IsErrOf result MountFault.Device
         → IsCounted (D.failed device.old) (D.failed device.new) }
@@ -61,7 +61,7 @@ pub(crate) fn read_mountable_superblock<D: Device>(device: &mut D) -> Result<Sup
     // It only reads
     ensures history { D.history device.new ≡ D.history device.old }
     ensures same_size { D.size device.new ≡ D.size device.old }
-    // The device fails in it
+    // If the device fails in it
     ensures later { D.failed device.old ≤ D.failed device.new }
     ensures cause { IsErrOf result MountFault.Device
         → IsCounted (D.failed device.old) (D.failed device.new) }
@@ -96,7 +96,7 @@ pub(crate) fn read_superblock<D: Device>(device: &mut D) -> Result<Superblock, M
     // It only reads
     ensures history { D.history device.new ≡ D.history device.old }
     ensures same_size { D.size device.new ≡ D.size device.old }
-    // The device fails in it
+    // If the device fails in it
     ensures later { D.failed device.old ≤ D.failed device.new }
     ensures cause { IsErrOf result MountFault.Device
         → IsCounted (D.failed device.old) (D.failed device.new) }
@@ -142,7 +142,7 @@ pub(crate) fn raise<D: Device>(
     ensures cause { OnErr result
         (IsCounted (journal_failures journal.old) (journal_failures journal.new)) }
     ensures none { OnOk result (journal_failures journal.new ≡ journal_failures journal.old) }
-    // In any case
+    // However it ends
     ensures list { (log_of journal.new).list ≡ (log_of journal.old).list }
     ensures place { StaysInPlace (log_of journal.old) (log_of journal.new) }
     ensures later { journal_failures journal.old ≤ journal_failures journal.new }

@@ -32,7 +32,7 @@ impl<D: Device> Volume<D> {
             (volume_state self.new).tree) }
         ensures brief { D.keeps_word → MakesAtMost 198 (volume_state self.old)
             (volume_state self.new) }
-        // Refused
+        // If it fails
         ensures down { IsErrOf result VolumeFault.Down ↔ ((volume_state self.old).is_down ≡ true) }
         ensures refuses { IfErr result (λ fault. (fault ≡ VolumeFault.Memory)
             ⊎ ((fault ≡ VolumeFault.Device) ⊎ (fault ≡ VolumeFault.Down))) }
@@ -60,7 +60,7 @@ impl<D: Device> Volume<D> {
             (edited_all (edits_view edits.now) (volume_state self.old).seats)) (ending_of result) }
         ensures shows { OnOk result (ShowsTree D.keeps_word (volume_state self.old).tree
             (volume_state self.new).tree) }
-        // Refused
+        // If it fails
         ensures down { IsErrOf result VolumeFault.Down ↔ ((volume_state self.old).is_down ≡ true) }
         ensures refuses { IfErr result (λ fault. (fault ≡ VolumeFault.Memory)
             ⊎ ((fault ≡ VolumeFault.Device) ⊎ (fault ≡ VolumeFault.Down))) }

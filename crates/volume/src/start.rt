@@ -28,7 +28,7 @@ fn rewrite<D: Device>(journal: &mut Journal<D>) -> Result<(), MigrationFault>
     ensures safe { IsSafe D.keeps_word (log_of journal.old) (log_of journal.new) }
     ensures brief { D.keeps_word → MakesAtMost 2 (log_of journal.old) (log_of journal.new) }
     ensures ok { OnOk result (HasRewritten D.keeps_word (log_of journal.old) (log_of journal.new)) }
-    // Refused
+    // If it fails
     ensures no_memory { ¬ IsErrOf result MigrationFault.Memory }
     ensures counted { Counts (journal_failures journal.old) (journal_failures journal.new)
         (IsErrOf result MigrationFault.Device) }
@@ -50,7 +50,7 @@ fn move_nodes<D: Device>(
         loaded.now.mark loaded.now.table (seats_view loaded.now.seats) loaded.now.places }
     ensures moves { MovesNodes D.keeps_word found loaded.now.mark
         (log_of journal.old) (log_of journal.new) result }
-    // Refused
+    // If it fails
     ensures memory { IsErrOf result MigrationFault.Memory
         → log_of journal.new ≡ log_of journal.old }
     ensures later { journal_failures journal.old ≤ journal_failures journal.new }
@@ -86,7 +86,7 @@ fn unmark<D: Device>(
     requires clearing { updates.items ≡ clearing_updates }
     ensures clears { Clears D.keeps_word is_marked
         (log_of journal.old) (log_of journal.new) result }
-    // Refused
+    // If it fails
     ensures later { journal_failures journal.old ≤ journal_failures journal.new }
     ensures cause { OnErr result
         (IsCounted (journal_failures journal.old) (journal_failures journal.new)) }
@@ -121,7 +121,7 @@ pub(crate) fn start<D: Device>(
     ensures started { OnOk result (HasStarted D.keeps_word found loaded.now.table
         (seats_view loaded.now.seats) (log_of journal.old) (log_of journal.new)) }
     ensures size { (log_of journal.new).size ≡ (log_of journal.old).size }
-    // Refused
+    // If it fails
     ensures only { IfErr result (λ fault.
         (fault ≡ MountFault.Device) ⊎ (fault ≡ MountFault.Memory)) }
     ensures memory { IsErrOf result MountFault.Memory → log_of journal.new ≡ log_of journal.old }

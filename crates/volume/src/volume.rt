@@ -173,7 +173,7 @@ impl<D: Device> Volume<D> {
         ensures seats { IfOk result
             (λ mounted. FindsSeats D.keeps_word (volume_state mounted.volume)
             (seats_view mounted.seats)) }
-        // Refused
+        // If it fails
         ensures back { IfErr result (ComesBack D.size D.failed (log_of journal).size
             (journal_failures journal)) }
         ensures refused { D.keeps_word → IfErr result (λ refused.
@@ -276,7 +276,7 @@ impl<D: Device> Volume<D> {
             (volume_state self.new).tree) }
         ensures brief { D.keeps_word → MakesAtMost 198 (volume_state self.old)
             (volume_state self.new) }
-        // Refused
+        // If it fails
         ensures down { IsErrOf result VolumeFault.Down ↔ ((volume_state self.old).is_down ≡ true) }
         ensures refuses { IfErr result (λ fault.
             (fault ≡ VolumeFault.Device) ⊎ (fault ≡ VolumeFault.Down)) }
@@ -301,7 +301,7 @@ impl<D: Device> Volume<D> {
             (KeepsRecent (volume_state self.old) (volume_state self.new)) }
         ensures brief { D.keeps_word → MakesAtMost 99 (volume_state self.old)
             (volume_state self.new) }
-        // Refused
+        // If it fails
         ensures down { IsErrOf result VolumeFault.Down ↔ ((volume_state self.old).is_down ≡ true) }
         ensures refuses { IfErr result (λ fault.
             (fault ≡ VolumeFault.Device) ⊎ (fault ≡ VolumeFault.Down)) }

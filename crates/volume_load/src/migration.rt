@@ -31,7 +31,7 @@ fn checked_mark(
 ) -> Result<Option<u32>, ScanFault>
     ensures marked { IfOk result (IsMark number nodes) }
     ensures found { IfOk result (λ mark. content.now ≡ mark_held mark) }
-    // Refused
+    // If it fails
     ensures damaged { IsErrOf result ScanFault.Damaged → (mark : Option ℕ)
         → IsMark number nodes mark → ¬ (content.now ≡ mark_held mark) }
     ensures device { ¬ IsErrOf result ScanFault.Device }
@@ -53,7 +53,7 @@ pub(crate) fn read_mark<S: Sectors>(
     ensures marked { IfOk result (IsMark number nodes) }
     ensures found { IfOk result (λ mark. S.keeps_word
         → S.image (S.kept sectors.old) MARK ≡ mark_held mark) }
-    // Refused
+    // If it fails
     ensures damaged { S.keeps_word → IsErrOf result ScanFault.Damaged → (mark : Option ℕ)
         → IsMark number nodes mark → ¬ (S.image (S.kept sectors.old) MARK ≡ mark_held mark) }
     // It only reads

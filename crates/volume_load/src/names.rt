@@ -32,7 +32,7 @@ fn read_part<S: Sectors>(
     requires few { count ≤ RECORDS }
     ensures found { IfOk result (λ entries. FindsPart S.keeps_word
         (S.image (S.kept sectors.old) sector) count (map record_of entries.items)) }
-    // Refused
+    // If it fails
     ensures damaged { S.keeps_word → IsErrOf result ScanFault.Damaged → (names : List Record)
         → ¬ FindsPart S.keeps_word (S.image (S.kept sectors.old) sector) count names }
     // It only reads
@@ -56,7 +56,7 @@ fn read_entries<S: Sectors>(
     requires enough { length blocks.now ≡ divided_up count RECORDS }
     ensures found { IfOk result (λ entries. FindsRecords S.keeps_word
         (S.image (S.kept sectors.old)) blocks.now count (map record_of entries.items)) }
-    // Refused
+    // If it fails
     ensures damaged { S.keeps_word → IsErrOf result ScanFault.Damaged → (names : List Record)
         → ¬ FindsRecords S.keeps_word (S.image (S.kept sectors.old)) blocks.now count names }
     // It only reads
@@ -115,7 +115,7 @@ fn names_from(alloc: Global, entries: Vec<Entry>) -> Result<Names, ScanFault>
     ensures found { IfOk result (λ names. names ≡ map record_of entries.items) }
     ensures names { IfOk result IsDirectory }
     ensures stamped { IfOk result NamesStamped }
-    // Refused
+    // If it fails
     ensures damaged { IsErrOf result ScanFault.Damaged
         → IsDirectory (map record_of entries.items) → ¬ NamesStamped (map record_of entries.items) }
     ensures device { ¬ IsErrOf result ScanFault.Device }
@@ -140,7 +140,7 @@ fn read_names<S: Sectors>(
     requires enough { length blocks.now ≡ blocks_of kind.Directory size }
     ensures found { IfOk result (λ names. FindsContent S.keeps_word
         (S.image (S.kept sectors.old)) kind.Directory size blocks.now names) }
-    // Refused
+    // If it fails
     ensures damaged { S.keeps_word → IsErrOf result ScanFault.Damaged → (names : List Record)
         → ¬ FindsContent S.keeps_word (S.image (S.kept sectors.old)) kind.Directory size blocks.now
         names }
@@ -163,7 +163,7 @@ fn check_tail<S: Sectors>(sectors: &mut S, size: u64, blocks: &BlockList) -> Res
     requires few { length blocks.now ≤ BlockList.MAX_BLOCKS }
     ensures found { OnOk result (S.keeps_word
         → HasTail (S.image (S.kept sectors.old)) blocks.now size) }
-    // Refused
+    // If it fails
     ensures damaged { S.keeps_word → IsErrOf result ScanFault.Damaged
         → ¬ HasTail (S.image (S.kept sectors.old)) blocks.now size }
     // It only reads
@@ -195,7 +195,7 @@ pub(crate) fn read_content<S: Sectors>(
     requires few { length blocks.now ≤ BlockList.MAX_BLOCKS }
     ensures found { IfOk result (λ names. FindsContent S.keeps_word
         (S.image (S.kept sectors.old)) kind size blocks.now names) }
-    // Refused
+    // If it fails
     ensures damaged { S.keeps_word → IsErrOf result ScanFault.Damaged → (names : List Record)
         → ¬ FindsContent S.keeps_word (S.image (S.kept sectors.old)) kind size blocks.now names }
     // It only reads

@@ -43,7 +43,7 @@ pub(crate) fn read_node<S: Sectors>(
     requires small { NODES + place < 2 ^ 32 }
     ensures found { IfOk result (λ node. FindsFields S.keeps_word form
         (S.image (S.kept sectors.old) (node_sector place)) (option_map fields_of node)) }
-    // Refused
+    // If it fails
     ensures damaged { S.keeps_word → IsErrOf result ScanFault.Damaged → (fields : Option Fields)
         → ¬ FindsFields S.keeps_word form (S.image (S.kept sectors.old) (node_sector place))
         fields }

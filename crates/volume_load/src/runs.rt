@@ -22,7 +22,7 @@ fn runs_in(alloc: Global, content: &[u8; SECTOR], count: usize) -> Result<Vec<Ru
     requires some { 0 < count }
     requires few { count ≤ MAX_SECTOR_RUNS }
     ensures found { IfOk result (λ runs. FindsPart (Unit {0}) content.now count runs.items) }
-    // Refused
+    // If it fails
     ensures damaged { IsErrOf result ScanFault.Damaged
         → (runs : List Run) → ¬ FindsPart (Unit {0}) content.now count runs }
     ensures device { ¬ IsErrOf result ScanFault.Device }
@@ -46,7 +46,7 @@ fn read_part<S: Sectors>(
     requires few { count ≤ MAX_SECTOR_RUNS }
     ensures found { IfOk result (λ runs. FindsPart S.keeps_word
         (S.image (S.kept sectors.old) sector) count runs.items) }
-    // Refused
+    // If it fails
     ensures damaged { S.keeps_word → IsErrOf result ScanFault.Damaged → (runs : List Run)
         → ¬ FindsPart S.keeps_word (S.image (S.kept sectors.old) sector) count runs }
     // It only reads
@@ -69,7 +69,7 @@ pub(crate) fn read_runs<S: Sectors>(
     requires enough { length numbers.now ≡ divided_up count MAX_SECTOR_RUNS }
     ensures found { IfOk result (λ runs. FindsRuns S.keeps_word
         (S.image (S.kept sectors.old)) numbers.now count runs.items) }
-    // Refused
+    // If it fails
     ensures damaged { S.keeps_word → IsErrOf result ScanFault.Damaged → (runs : List Run)
         → ¬ FindsRuns S.keeps_word (S.image (S.kept sectors.old)) numbers.now count runs }
     // It only reads
@@ -112,7 +112,7 @@ pub(crate) fn blocks_from(
     ensures runs { IfOk result (λ blocks. AreRunsOf runs.now blocks) }
     ensures count { IfOk result (λ blocks. length blocks ≡ blocks_of kind size) }
     ensures few { IfOk result (λ blocks. length blocks ≤ BlockList.MAX_BLOCKS) }
-    // Refused
+    // If it fails
     ensures damaged { IsErrOf result ScanFault.Damaged → (blocks : List (Option ℕ))
         → AreRunsOf runs.now blocks → length blocks ≡ blocks_of kind size
         → ¬ (length blocks ≤ BlockList.MAX_BLOCKS) }

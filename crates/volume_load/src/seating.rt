@@ -58,7 +58,7 @@ fn read_place<S: Sectors>(
     ensures fits { IfOk result (λ seat. IsSeatPlace (place_view seat)) }
     ensures found { S.keeps_word → IfOk result (λ seat.
         HoldPlace (S.image (S.kept sectors.old)) place (place_view seat)) }
-    // Refused
+    // If it fails
     ensures damaged { S.keeps_word → IsErrOf result ScanFault.Damaged
         → (seat : Option model.Seat) → IsSeatPlace seat
         → ¬ HoldPlace (S.image (S.kept sectors.old)) place seat }
@@ -78,7 +78,7 @@ fn read_places<S: Sectors>(alloc: Global, sectors: &mut S) -> Result<Seats, Scan
     ensures fits { IfOk result (λ seats. ArePlaces (seats_view seats)) }
     ensures found { S.keeps_word → IfOk result (λ seats.
         HoldSeats (S.image (S.kept sectors.old)) (seats_view seats)) }
-    // Refused
+    // If it fails
     ensures damaged { S.keeps_word → IsErrOf result ScanFault.Damaged → (seats : model.Seats)
         → ArePlaces seats → ¬ HoldSeats (S.image (S.kept sectors.old)) seats }
     // It only reads
@@ -183,7 +183,7 @@ pub(crate) fn read_seats<S: Sectors>(
     ensures stands { IfOk result (λ seats. MayStand run may_keep (seats_view seats)) }
     ensures found { S.keeps_word → IfOk result (λ seats.
         HoldSeats (S.image (S.kept sectors.old)) (seats_view seats)) }
-    // Refused
+    // If it fails
     ensures damaged { S.keeps_word → IsErrOf result ScanFault.Damaged → (seats : model.Seats)
         → MayStand run may_keep seats → ¬ HoldSeats (S.image (S.kept sectors.old)) seats }
     // It only reads

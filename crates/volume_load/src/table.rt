@@ -56,7 +56,7 @@ fn read_blocks<S: Sectors>(
         (λ laid. AreSetWithin (S.size (S.kept sectors.old)) laid.blocks) }
     ensures marked { IfOk result (λ laid. AreMarked first places.old places.new
         (uses (fields_of inode.now) laid.blocks)) }
-    // Refused
+    // If it fails
     ensures damaged { S.keeps_word → IsErrOf result ScanFault.Damaged
         → (runs : List Run) (blocks : List (Option ℕ))
         → FindsBlocks S.keeps_word (S.image (S.kept sectors.old)) (fields_of inode.now) runs blocks
@@ -93,7 +93,7 @@ fn read_card<S: Sectors>(
     ensures found { IfOk result (FindsRest S.keeps_word (S.image (S.kept sectors.old))) }
     ensures marked { IfOk result (λ cached. AreMarked first places.old places.new
         (uses cached.fields cached.blocks)) }
-    // Refused
+    // If it fails
     ensures damaged { S.keeps_word → IsErrOf result ScanFault.Damaged → (cached : layout.CachedNode)
         → cached.fields ≡ fields_of inode
         → FindsRest S.keeps_word (S.image (S.kept sectors.old)) cached
@@ -130,7 +130,7 @@ fn read_place<S: Sectors>(
         (FindsPlace S.keeps_word form (S.image (S.kept sectors.old)) place) }
     ensures marked { IfOk result (λ cached. AreMarked first places.old places.new
         (λ n. namings_of n cached)) }
-    // Refused
+    // If it fails
     ensures damaged { S.keeps_word → IsErrOf result ScanFault.Damaged
         → (cached : Option layout.CachedNode)
         → FindsPlace S.keeps_word form (S.image (S.kept sectors.old)) place cached
@@ -163,7 +163,7 @@ pub(crate) fn read_table<S: Sectors>(
     ensures found { IfOk result (λ cards. IsFound S.keeps_word
         (version_by number mark no_seats).form (S.image (S.kept sectors.old)) nodes
         (length places.old) cards.items places.new) }
-    // Refused
+    // If it fails
     ensures damaged { S.keeps_word → IsErrOf result ScanFault.Damaged
         → (cards : List (Option layout.CachedNode))
         → ¬ CanHold S.keeps_word (version_by number mark no_seats).form

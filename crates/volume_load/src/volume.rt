@@ -45,7 +45,7 @@ fn check_marks<S: Sectors>(sectors: &mut S, places: &Bitmap, part: u32) -> Resul
     ensures found { OnOk result (S.keeps_word
         → ShowsPlaces (S.image (S.kept sectors.old) (BITMAP + part)) places.now
         (SECTOR_PLACES * part)) }
-    // Refused
+    // If it fails
     ensures damaged { S.keeps_word → IsErrOf result ScanFault.Damaged
         → ¬ AreBits (S.image (S.kept sectors.old) (BITMAP + part)) places.now
         (SECTOR_PLACES * part) }
@@ -67,7 +67,7 @@ fn check_marks<S: Sectors>(sectors: &mut S, places: &Bitmap, part: u32) -> Resul
 fn check_spare<S: Sectors>(sectors: &mut S) -> Result<(), ScanFault>
     requires within { MARK ≤ S.size (S.kept sectors.old) }
     ensures found { OnOk result (S.keeps_word → AreSpare (S.image (S.kept sectors.old))) }
-    // Refused
+    // If it fails
     ensures damaged { S.keeps_word → IsErrOf result ScanFault.Damaged
         → ¬ AreSpare (S.image (S.kept sectors.old)) }
     // It only reads
@@ -107,7 +107,7 @@ pub fn read_volume<S: Sectors>(
     ensures found { IfOk result (λ contents. IsRead S.keeps_word size nodes number run contents.mark
         (seats_view contents.seats) (S.image (S.kept sectors.old)) contents.cards.items
         contents.places) }
-    // Refused
+    // If it fails
     ensures damaged { S.keeps_word → IsErrOf result ScanFault.Damaged
         → (mark : Option ℕ) (seats : model.Seats) (cards : List (Option layout.CachedNode))
         → IsMark number nodes mark → MayHaveSeats number mark seats → AreKept run seats
