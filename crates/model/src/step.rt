@@ -35,7 +35,8 @@ pub fn every_step_keeps_opens()
     ensures { EveryStepKeepsOpens }
 {}
 
-/// A page of READDIR has the first entries after the cookie, as many as fit into its encoding.
+/// A page of READDIR has the first entries after the cookie, as many as fit into its encoding, and
+/// reports the end exactly if no entry is left.
 pub fn every_page()
     ensures { EveryPage }
 {}

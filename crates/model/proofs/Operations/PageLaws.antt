@@ -1,5 +1,5 @@
 -- A page of READDIR has the entries that fit.
-use Rattle.std.proofs.Common.{ℕ, Bool, true, false, List, [], ◌∷◌, ◌++◌, ◌≡◌, ◌+◌, ◌-◌, ◌<◌, ◌≤◌, cond, nat_le, min, length, refl, ap, arith, length-append, leb-true}
+use Rattle.std.proofs.Common.{ℕ, Bool, true, false, List, [], ◌∷◌, ◌++◌, ◌≡◌, ◌+◌, ◌-◌, ◌<◌, ◌≤◌, ◌==◌, ◌↔◌, cond, nat_le, min, length, refl, ap, arith, length-append, leb-true, eqb-true, eq-eqb}
 use Rattle.std.proofs.lemmas.Bool.{leb-false}
 use Rattle.xdr.specs.Forms.{links, boolean}
 use Rattle.xdr.specs.Grammar.{number}
@@ -83,6 +83,19 @@ unfolding sizes
 some_size [] some = absurd (omega (arith, some))
 some_size (entry ∷ rest) some = omega arith
 
+-- a prefix is as long as the whole exactly if nothing is left
+ends_with : (all shown rest : List Entry) → all ≡ shown ++ rest → ((length shown == length all) ≡ true) ↔ (rest ≡ [])
+ends_with all shown [] parts =
+    let sum = length-append shown [] in
+    let whole : length all ≡ length (shown ++ []) = ap length parts in
+    ((λ same. refl), (λ none. eq-eqb (length shown) (length all) (omega (arith, sum, whole))))
+ends_with all shown (entry ∷ rest) parts =
+    let sum = length-append shown (entry ∷ rest) in
+    let whole : length all ≡ length (shown ++ entry ∷ rest) = ap length parts in (
+      (λ same. let equal = eqb-true (length shown) (length all) same in absurd (omega (arith, sum, whole, equal))),
+      (λ none. let never : ⊥ = cc in absurd never),
+    )
+
 pub every_page : EveryPage
 unfolding page
 every_page limits state arguments =
@@ -104,4 +117,5 @@ every_page limits state arguments =
           let more = sizes_more shown next in
           let above = of.longest next others is in
           omega (arith, size, more, above);
+      ends = ends_with all shown of.rest of.front;
     }

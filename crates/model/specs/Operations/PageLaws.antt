@@ -1,5 +1,5 @@
 -- What a page of READDIR is: RFC 8881, section 18.23.
-use Rattle.std.specs.Prelude.{ℕ, Bool, ◌≡◌, ◌≤◌, ◌<◌, List, [], ◌∷◌, ◌++◌, min, length}
+use Rattle.std.specs.Prelude.{ℕ, Bool, true, ◌≡◌, ◌≤◌, ◌<◌, ◌↔◌, List, [], ◌∷◌, ◌++◌, min, length}
 use Rattle.model.specs.Operations.Answer.{Entry}
 use Rattle.model_tree.specs.declared.limits.Limits.{Limits}
 use Rattle.model.specs.Operations.Operation.{ReadDirArguments}
@@ -24,6 +24,8 @@ pub record IsPage (limits : Limits) (state : State) (arguments : ReadDirArgument
   pub longest : (next : Entry) (others : List Entry) (is_end : Bool) → rest ≡ next ∷ others
       → min arguments.max_count limits.transfer_bytes
       < page_size ((page limits state arguments).entries ++ next ∷ []) is_end
+  -- it reports the end exactly if no entry is left
+  pub ends : ((page limits state arguments).is_end ≡ true) ↔ (rest ≡ [])
 
 abbrev pub EveryPage : Type 0
 EveryPage =
