@@ -18,7 +18,9 @@ use Rattle.layout.specs.CachedNodes.{CachedNode, tree_of, node_of}
 use Rattle.layout.specs.FreshLaws.{root_fields, IsFresh, FreshStands}
 use Rattle.layout.specs.Laid.{HoldsCard, HoldsPlace, AreNumbered}
 use Rattle.layout.specs.Marks.{named, namings_of, mark_in}
-use Rattle.layout.specs.Stands.{Version, Marking, InSectors, AsNamed, marked_by, HaveForms, IsLaid}
+use Rattle.layout.specs.declared.versions.Marking.{Marking}
+use Rattle.layout.specs.declared.versions.Marking.TheVariants.{InSectors, AsNamed}
+use Rattle.layout.specs.Stands.{Version, marked_by, HaveForms, IsLaid}
 use Rattle.layout.proofs.CachedNodeLaws.{cards-back, only_cards}
 use Rattle.layout.proofs.FileLaws.{zero_sector-at}
 use Rattle.layout.proofs.FirstLaws.{sized_parts}
@@ -155,6 +157,7 @@ fresh_stands version size nodes image formatted =
     let is = fresh (version.limits size nodes) in
     record {
       sized = formatted.sized;
+      region = formatted.region;
       counted = omega arith;
       first = formatted.first;
       laid = only_cards version size nodes image cards all;

@@ -10,7 +10,9 @@ use Rattle.freemap.proofs.Bits.{bit_in-shown}
 use Rattle.layout.specs.CachedNodes.{CachedNode, tree_of, node_sector, cards_in}
 use Rattle.layout.specs.Laid.{AreLaid, HoldsPlace}
 use Rattle.layout.specs.MarkLaws.{EachMark, MarksLaid, LaysMarks, KeptAlone, StandsAlone}
-use Rattle.layout.specs.Stands.{Version, Marking, InSectors, AsNamed, marked_by}
+use Rattle.layout.specs.declared.versions.Marking.{Marking}
+use Rattle.layout.specs.declared.versions.Marking.TheVariants.{InSectors, AsNamed}
+use Rattle.layout.specs.Stands.{Version, marked_by}
 use Rattle.layout.specs.Superblock.{is_size}
 use Rattle.std.specs.Prelude.{IsTrue}
 use Rattle.layout.proofs.FirstLaws.{sized_parts}
@@ -131,8 +133,8 @@ module _ (nodes : ℕ) (old new : Image) (marked mark : ℕ → ℕ) (cards : Li
   tree_still = tree-kept old new cards (λ i card there. node-kept old new card (λ n some. kept_all i n (rw there some)))
 
 marks_by : (marking : Marking) (nodes : ℕ) (old new : Image) (places : List Bool) (cards : List (Option CachedNode)) → AreLaid nodes old (mark_by (148 + nodes) places) cards
-    → ((i : ℕ) → bit_in (new 98) (new 99) i ≡ mark_of places i) → (n : ℕ) → marked_by marking nodes new cards n ≡ mark_by (148 + nodes) places n
-marks_by InSectors nodes old new places cards laid marked = marks_of nodes new places marked
+    → (marking ≡ InSectors → (i : ℕ) → bit_in (new 98) (new 99) i ≡ mark_of places i) → (n : ℕ) → marked_by marking nodes new cards n ≡ mark_by (148 + nodes) places n
+marks_by InSectors nodes old new places cards laid marked = marks_of nodes new places (marked refl)
 marks_by AsNamed nodes old new places cards laid marked = λ n. laid.marks n
 
 pub lays_marks : LaysMarks
@@ -142,7 +144,7 @@ lays_marks version size nodes old new places cards writes =
     record {
       laid = laid_still nodes old new (mark_by (148 + nodes) places) (marked_by version.marking nodes new cards) cards laid marks (λ place h. writes.same (node_sector place) (omega arith)) (λ n some. writes.same n (let far = laid.behind n some in omega arith));
       forms = writes.forms;
-      within = λ n h. marks n ∙ (let each = each_mark (148 + nodes) places 0 in each.within n (omega (arith, writes.size_is)));
+      within = λ n h. marks n ∙ (let each = each_mark (148 + nodes) places 0 in each.within n (omega (arith, writes.end_is)));
       spare = λ n low high. writes.same n low ∙ writes.spare n low high;
     }
 
@@ -154,8 +156,8 @@ pub marked-same : (marking : Marking) (nodes : ℕ) (old new : Image) (cards : L
 marked-same InSectors nodes old new cards low high n = mark_in-same nodes old new low high n
 marked-same AsNamed nodes old new cards low high n = refl
 
-pub below_size : (version : Version) (size nodes : ℕ) (image : Image) (cards : List (Option CachedNode)) → IsLaid version size nodes image cards → (n : ℕ) → 0 < marked_by version.marking nodes image cards n → n < size
-below_size version size nodes image cards laid n some = elim (cases_lt n size) [
+pub below_end : (version : Version) (size nodes : ℕ) (image : Image) (cards : List (Option CachedNode)) → IsLaid version size nodes image cards → (n : ℕ) → 0 < marked_by version.marking nodes image cards n → n < version.data_end size
+below_end version size nodes image cards laid n some = elim (cases_lt n (version.data_end size)) [
   | inl low ↦ low
   | inr high ↦ absurd (let none = laid.within n high in omega arith)
 ]
@@ -167,7 +169,7 @@ pub kept_alone : KeptAlone
 kept_alone version size nodes old new cards room laid same =
     let marks = marked-same version.marking nodes old new cards (same 98 (omega arith) (omega arith)) (same 99 (omega arith) (omega arith)) in
     let at_nodes : (place : ℕ) → place < nodes → new (node_sector place) ≡ old (node_sector place) = λ place h. same (node_sector place) (omega arith) (omega arith) in
-    let at_data : (n : ℕ) → 0 < marked_by version.marking nodes old cards n → new n ≡ old n = λ n some. same n (let far = laid.laid.behind n some in omega arith) (below_size version size nodes old cards laid n some) in
+    let at_data : (n : ℕ) → 0 < marked_by version.marking nodes old cards n → new n ≡ old n = λ n some. same n (let far = laid.laid.behind n some in omega arith) (below_end version size nodes old cards laid n some) in
     let still = laid_still nodes old new (marked_by version.marking nodes old cards) (marked_by version.marking nodes new cards) cards laid.laid marks at_nodes at_data in
     record {
       laid = record {
@@ -182,9 +184,10 @@ kept_alone version size nodes old new cards room laid same =
 
 pub stands_alone : StandsAlone
 stands_alone version size nodes old new run tree stands first same =
-    let sees = kept_alone version size nodes old new (cards_in nodes old) (room size nodes stands.sized) stands.laid same in
+    let sees = kept_alone version size nodes old new (cards_in nodes old) stands.region.behind stands.laid same in
     record {
       sized = stands.sized;
+      region = stands.region;
       counted = stands.counted;
       first = first ∙ stands.first;
       laid = subst (IsLaid version size nodes new) (sym sees.same_cards) sees.laid;

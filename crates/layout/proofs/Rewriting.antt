@@ -21,13 +21,15 @@ use Rattle.layout.specs.Laid.{AreNumbered, HoldsContent, HoldsPlace}
 use Rattle.layout.specs.Marks.{mark_in, named, namings_of}
 use Rattle.layout.specs.Known.{IsNodePlace, HasContent}
 use Rattle.layout.specs.Rewriting.{in_form, in_second, all_second, second_image, AreRewritten, RewrittenStands, FormStays, IsLaidSecond, LaidSecond, KnownSecond, RewrittenCards, CurrentSecond}
-use Rattle.layout.specs.Stands.{Version, Marking, InSectors, AsNamed, marked_by, IsLaid, current_version}
+use Rattle.layout.specs.declared.versions.Marking.{Marking}
+use Rattle.layout.specs.declared.versions.Marking.TheVariants.{InSectors, AsNamed}
+use Rattle.layout.specs.Stands.{Version, marked_by, IsLaid, current_version}
 use Rattle.model_tree.specs.declared.limits.Limits.{Limits}
 use Rattle.model_tree.specs.Trees.WellFormed.{IsWellFormed}
 use Rattle.layout.proofs.CachedNodeLaws.{cards-back, zero_first, starts}
 use Rattle.layout.proofs.Changing.{named-at, tree-kept}
 use Rattle.layout.proofs.Frame.{content-held, of_runs, run_sectors-kept, node-kept}
-use Rattle.layout.proofs.MarkProofs.{mark_in-same, below_size, room}
+use Rattle.layout.proofs.MarkProofs.{mark_in-same, below_end, room}
 use Rattle.layout.proofs.SeatLaws.{spare_none}
 
 -- Sectors of nodes
@@ -131,7 +133,7 @@ module _ (was is : Version) (size nodes : ℕ) (old new : Image) (cards : List (
   kept : (place n : ℕ) → 0 < namings_of n (get_or cards place None) → new n ≡ old n
   kept place n some =
       let marked : 0 < marked_by was.marking nodes old cards n = omega (arith, some, named-at n cards place, laid.laid.marks n) in
-      rewritten.region n (laid.laid.behind n marked) (below_size was size nodes old cards laid n marked)
+      rewritten.region n (laid.laid.behind n marked) (below_end was size nodes old cards laid n marked)
 
   held_at : (place : ℕ) (card : Option CachedNode) → place < nodes → get_or cards place None ≡ card → HoldsPlace old place card → HoldsPlace new place (place_in (is.form place) card)
   held_at place None within there holds =
@@ -182,7 +184,7 @@ module _ (was is : Version) (size nodes : ℕ) (old new : Image) (cards : List (
     forms = λ place card there.
         let one = some_is (is.form place) (get_or cards place None) card (sym (all_at is.form cards place) ∙ there) in
         ap (λ (c : CachedNode). c.form) one.2;
-    within = λ n past. marks n ∙ laid.within n past;
+    within = λ n past. marks n ∙ laid.within n (omega (arith, past, rewritten.data_end));
     spare = rewritten.spare;
   }
 
@@ -205,6 +207,7 @@ rewritten_stands was is size nodes run later old new tree stands no_less counted
     let back : cards_in nodes new ≡ cards_from is.form 0 cards = cards-back new nodes (cards_from is.form 0 cards) laid.laid.count laid.laid.held in
     record {
       sized = stands.sized;
+      region = record { behind = omega (arith, stands.region.behind, rewritten.others.data_end); within = omega (arith, stands.region.within, rewritten.others.data_end) };
       counted = counted;
       first = rewritten.first;
       laid = subst (IsLaid is size nodes new) (sym back) laid;
@@ -244,10 +247,11 @@ second_at (card ∷ cards) zero = refl
 second_at (card ∷ cards) (suc i) = second_at cards i
 
 module _ (version : Version) (size nodes : ℕ) (image : Image) (cards : List (Option CachedNode)) (laid : IsLaid version size nodes image cards)
-    (below : 148 + nodes ≤ size) (marking : version.marking ≡ InSectors) where
+    (below : 148 + nodes ≤ size) (marking : version.marking ≡ InSectors) (ends : version.data_end size ≡ size) where
   pub then_second : AreRewritten version (current_version no_seats) size nodes image (second_image nodes image)
   then_second = record {
     marking = sym marking;
+    data_end = sym ends;
     roomy = λ place within. inr refl;
     bitmap = λ n low high. rw (lt-leb 148 n (omega (arith, high)), lt-leb 100 n high) refl;
     spare = λ n low high. rw (lt-leb 148 n high, le-leb 100 n low) (sym (spare_none n));
@@ -265,7 +269,7 @@ module _ (version : Version) (size nodes : ℕ) (image : Image) (cards : List (O
   }
 
 pub laid_as_second : LaidSecond
-laid_as_second version size nodes image cards marking laid below = laid_second version size nodes image cards laid below marking
+laid_as_second version size nodes image cards marking ends laid below = laid_second version size nodes image cards laid below marking ends
 
 known_content : (of : NodeKind) (card : CachedNode) → HasContent of card → HasContent of (in_its_form Two card)
 known_content kind.File card has = has

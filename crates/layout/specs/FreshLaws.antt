@@ -8,7 +8,7 @@ use Rattle.model_tree.specs.declared.node.NodeKind.TheVariants as kind
 use Rattle.model_tree.specs.Trees.Fresh.{fresh_tree, fresh_root}
 use Rattle.model_tree.specs.Trees.Tree.{root}
 use Rattle.layout.specs.CachedNodes.{node_sector}
-use Rattle.layout.specs.Stands.{Version, TreeStands}
+use Rattle.layout.specs.Stands.{Version, HasRegion, TreeStands}
 use Rattle.layout.specs.Superblock.{superblock, is_size}
 
 -- the root as a node's sector has it
@@ -29,6 +29,7 @@ root_fields = record {
 -- the root is at place 0, the other places are free, and no sector of the data region is used
 pub record IsFresh (version : Version) (size nodes : ℕ) (image : Image) : Type 0 where
   pub sized : IsTrue (is_size size nodes)
+  pub region : HasRegion version size nodes
   pub a_node : 1 ≤ (version.limits size nodes).nodes
   pub an_entry : 1 ≤ (version.limits size nodes).aces
   pub first : image 0 ≡ superblock version.number size nodes 0

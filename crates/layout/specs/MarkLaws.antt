@@ -9,6 +9,7 @@ use Rattle.model_tree.specs.Trees.Tree.{Tree}
 use Rattle.layout.specs.CachedNodes.{CachedNode, cards_in, tree_of}
 use Rattle.layout.specs.Laid.{AreLaid}
 use Rattle.layout.specs.Marks.{once_if, mark_in, mark_by}
+use Rattle.layout.specs.declared.versions.Marking.TheVariants.{InSectors}
 use Rattle.layout.specs.Stands.{Version, HaveForms, IsLaid, TreeStands}
 
 -- one more sector is marked, or one less
@@ -33,15 +34,17 @@ MarksLaid =
     → Show (image 98) (image 99) count places
     → (n : ℕ) → mark_in nodes image n ≡ mark_by (148 + nodes) places n
 
--- if only the bitmap sectors are written, what was laid with a set in memory is laid
+-- if at most the bitmap sectors are written, and they show the set if they are to mark it, what was
+-- laid with the set in memory is laid
 pub record WritesMarks (version : Version) (size nodes : ℕ) (old new : Image) (places : List Bool)
     (cards : List (Option CachedNode)) : Type 0 where
-  pub size_is : size ≡ 148 + nodes + length places
+  pub end_is : version.data_end size ≡ 148 + nodes + length places
   pub laid : AreLaid nodes old (mark_by (148 + nodes) places) cards
   pub forms : HaveForms version cards
   pub spare : (n : ℕ) → 100 ≤ n → n < 148 → old n ≡ version.spare n
   pub same : (n : ℕ) → 100 ≤ n → new n ≡ old n
-  pub marked : (i : ℕ) → bit_in (new 98) (new 99) i ≡ mark_of places i
+  pub marked : version.marking ≡ InSectors → (i : ℕ)
+      → bit_in (new 98) (new 99) i ≡ mark_of places i
 
 abbrev pub LaysMarks : Type 0
 LaysMarks =
@@ -50,7 +53,7 @@ LaysMarks =
     → WritesMarks version size nodes old new places cards → IsLaid version size nodes new cards
 
 -- Only kept sectors are seen: the superblock, and what comes after the commit record and the
--- payload
+-- payload, up to the end of the data region
 pub record SeesSame (version : Version) (size nodes : ℕ) (old new : Image)
     (cards : List (Option CachedNode)) : Type 0 where
   pub laid : IsLaid version size nodes new cards
@@ -60,15 +63,15 @@ pub record SeesSame (version : Version) (size nodes : ℕ) (old new : Image)
 abbrev pub KeptAlone : Type 0
 KeptAlone =
     (version : Version) (size nodes : ℕ) (old new : Image) (cards : List (Option CachedNode))
-    → 148 + nodes ≤ size
-    → IsLaid version size nodes old cards → ((n : ℕ) → 98 ≤ n → n < size → new n ≡ old n)
+    → 148 + nodes ≤ version.data_end size → IsLaid version size nodes old cards
+    → ((n : ℕ) → 98 ≤ n → n < version.data_end size → new n ≡ old n)
     → SeesSame version size nodes old new cards
 
 -- so for images that are known only in these sectors it does not matter which one is meant
 abbrev pub StandsAlone : Type 0
 StandsAlone = (version : Version) (size nodes : ℕ) (old new : Image) (run : ℕ) (tree : Tree)
     → TreeStands version size nodes old run tree → new 0 ≡ old 0
-    → ((n : ℕ) → 98 ≤ n → n < size → new n ≡ old n)
+    → ((n : ℕ) → 98 ≤ n → n < version.data_end size → new n ≡ old n)
     → TreeStands version size nodes new run tree
 
 -- If all places are marked, the tree is charged for all of them: so if it is charged for less, a

@@ -11,7 +11,8 @@ use Rattle.model_tree.specs.Trees.Tree.{Tree}
 use Rattle.disk.specs.Calls.{zero_sector}
 use Rattle.layout.specs.CachedNodes.{CachedNode, node_sector, cards_in, tree_of}
 use Rattle.layout.specs.Known.{AreCards}
-use Rattle.layout.specs.Stands.{Version, InSectors, HaveCurrentForms, IsLaid, TreeStands, current_version}
+use Rattle.layout.specs.declared.versions.Marking.TheVariants.{InSectors}
+use Rattle.layout.specs.Stands.{Version, HaveCurrentForms, IsLaid, TreeStands, current_version}
 use Rattle.layout.specs.Superblock.{superblock}
 
 -- what the sector of a place becomes: the node that is there, in this form; a free place stays
@@ -23,12 +24,13 @@ in_form form sector =
 -- journal's, are left open.
 pub record AreRewritten (was is : Version) (size nodes : ℕ) (old new : Image) : Type 0 where
   pub marking : is.marking ≡ was.marking
+  pub data_end : is.data_end size ≡ was.data_end size
   pub roomy : (place : ℕ) → place < nodes → (was.form place ≡ One) ⊎ (is.form place ≡ Two)
   pub bitmap : (n : ℕ) → 98 ≤ n → n < 100 → new n ≡ old n
   pub spare : (n : ℕ) → 100 ≤ n → n < 148 → new n ≡ is.spare n
   pub nodes_are : (place : ℕ) → place < nodes
       → new (node_sector place) ≡ in_form (is.form place) (old (node_sector place))
-  pub region : (n : ℕ) → 148 + nodes ≤ n → n < size → new n ≡ old n
+  pub region : (n : ℕ) → 148 + nodes ≤ n → n < was.data_end size → new n ≡ old n
 
 -- and its first sector has a count
 pub record IsRewritten (was is : Version) (size nodes run : ℕ) (old new : Image) : Type 0 where
@@ -76,7 +78,7 @@ pub record IsLaidSecond (size nodes : ℕ) (image : Image) (cards : List (Option
 abbrev pub LaidSecond : Type 0
 LaidSecond =
     (version : Version) (size nodes : ℕ) (image : Image) (cards : List (Option CachedNode))
-    → version.marking ≡ InSectors
+    → version.marking ≡ InSectors → version.data_end size ≡ size
     → IsLaid version size nodes image cards → 148 + nodes ≤ size
     → IsLaidSecond size nodes image cards
 

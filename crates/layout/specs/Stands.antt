@@ -5,6 +5,8 @@ use Rattle.disk.specs.Moments.{Image}
 use Rattle.disk.specs.Calls.{zero_sector}
 use Rattle.inode.specs.declared.node.Form.{Form}
 use Rattle.inode.specs.declared.node.Form.TheVariants.{One, Two}
+use Rattle.layout.specs.declared.versions.Marking.{Marking}
+use Rattle.layout.specs.declared.versions.Marking.TheVariants.{InSectors, AsNamed}
 use Rattle.layout.specs.declared.versions.VersionNumber.{VersionNumber}
 use Rattle.layout.specs.declared.versions.VersionNumber.TheVariants as numbers
 use Rattle.model_tree.specs.declared.limits.Limits.{Limits}
@@ -20,24 +22,19 @@ use Rattle.layout.specs.Laid.{AreLaid}
 use Rattle.layout.specs.Marks.{mark_in, named}
 use Rattle.layout.specs.Superblock.{superblock, is_size}
 
--- What marks the used sectors of the data region: the bitmap in two sectors, or only the nodes that
--- name them
-pub data Marking : Type 0 where
-  InSectors : Marking
-  AsNamed : Marking
-
--- how often each sector is marked
+-- how often each sector is marked: by the bitmap in two sectors, or by the nodes that name it
 abbrev pub marked_by : Marking → (nodes : ℕ) → Image → List (Option CachedNode) → (n : ℕ) → ℕ
 marked_by InSectors nodes image cards n = mark_in nodes image n
 marked_by AsNamed nodes image cards n = named n cards
 
 -- What versions of the layout differ in: the number in the superblock, the limits of a volume by
--- its sectors and nodes, what marks used sectors, the form of a node's sector at each place of the
--- table, and what the sectors from 100 to 147 hold
+-- its sectors and nodes, what marks used sectors, the sector at which the data region ends, the
+-- form of a node's sector at each place of the table, and what the sectors from 100 to 147 hold
 pub record Version : Type 0 where
   pub number : ℕ
   pub limits : (size nodes : ℕ) → Limits
   pub marking : Marking
+  pub data_end : (size : ℕ) → ℕ
   pub form : (place : ℕ) → Form
   pub spare : (sector : ℕ) → List ℕ
 
@@ -69,6 +66,7 @@ version_1 mark = record {
   number = 1;
   limits = limits_of;
   marking = InSectors;
+  data_end = λ size. size;
   form = λ place. if nat_le (moved_by mark) place then One else Two;
   spare = spare_by no_seats mark;
 }
@@ -79,6 +77,7 @@ version_2 mark seats = record {
   number = 2;
   limits = limits_of;
   marking = InSectors;
+  data_end = λ size. size;
   form = λ place. Two;
   spare = spare_by seats mark;
 }
@@ -98,6 +97,13 @@ number_of_version numbers.Two = 2
 abbrev pub version_by : VersionNumber → (mark : Option ℕ) → Seats → Version
 version_by numbers.One mark seats = version_1 mark
 version_by numbers.Two mark seats = version_2 mark seats
+
+-- this version, with used sectors marked so and a data region that ends at this sector
+abbrev pub with_region : Marking → (data_end : ℕ) → Version → Version
+with_region marking data_end version = record version {
+  marking = marking;
+  data_end = λ size. data_end;
+}
 
 -- the marks of a volume with `nodes` nodes: during a migration the mark counts some or all of its
 -- places, and after it all of them
@@ -133,14 +139,20 @@ HaveForms version cards =
 abbrev pub HaveCurrentForms : List (Option CachedNode) → Type 0
 HaveCurrentForms cards = HaveForms (current_version no_seats) cards
 
--- The sectors from 98 on hold these cached nodes: what they name is marked, and nothing past the
--- last sector is
+-- The sectors from 98 on hold these cached nodes: what they name is marked, and nothing from the end
+-- of the data region on
 pub record IsLaid (version : Version) (size nodes : ℕ) (image : Image)
     (cards : List (Option CachedNode)) : Type 0 where
   pub laid : AreLaid nodes image (marked_by version.marking nodes image cards) cards
   pub forms : HaveForms version cards
-  pub within : (n : ℕ) → size ≤ n → marked_by version.marking nodes image cards n ≡ 0
+  pub within : (n : ℕ) → version.data_end size ≤ n
+      → marked_by version.marking nodes image cards n ≡ 0
   pub spare : (n : ℕ) → 100 ≤ n → n < 148 → image n ≡ version.spare n
+
+-- the data region ends behind the node table, and within the volume
+pub record HasRegion (version : Version) (size nodes : ℕ) : Type 0 where
+  pub behind : 148 + nodes ≤ version.data_end size
+  pub within : version.data_end size ≤ size
 
 -- The sectors of a volume of `size` sectors and `nodes` nodes, mounted `run` times, represent the
 -- tree: they hold the cached nodes that are read from them, the tree is that of these cached nodes,
@@ -148,6 +160,7 @@ pub record IsLaid (version : Version) (size nodes : ℕ) (image : Image)
 pub record TreeStands (version : Version) (size nodes : ℕ) (image : Image) (run : ℕ)
     (tree : Tree) : Type 0 where
   pub sized : IsTrue (is_size size nodes)
+  pub region : HasRegion version size nodes
   pub counted : run < 2 ^ 32
   pub first : image 0 ≡ superblock version.number size nodes run
   pub laid : IsLaid version size nodes image (cards_in nodes image)

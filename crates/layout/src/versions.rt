@@ -21,6 +21,15 @@ pub enum VersionNumber {
     Two,
 }
 
+/// What marks the used sectors of the data region.
+#[derive(Clone, Copy, Debug, PartialEq, Eq)]
+pub enum Marking {
+    /// Sectors 98 and 99 hold a bitmap of the used sectors of the data region.
+    InSectors,
+    /// Nothing on the disk marks them but the nodes that name them.
+    AsNamed,
+}
+
 impl VersionNumber {
     ghost use Rattle.layout.specs.Stands.{number_of_version};
 

@@ -14,7 +14,7 @@ use Rattle.layout.specs.Stands.{By, Version, IsMark, MayHaveSeats, TreeStands, S
 use Rattle.layout.specs.declared.versions.VersionNumber.TheVariants as numbers
 use Rattle.layout.proofs.FirstLaws.{sized_parts}
 use Rattle.layout.proofs.SeatLaws.{no_seats_kept, spare_none, spare_other}
-use Rattle.layout.proofs.MarkProofs.{kept_alone, stands_alone, room}
+use Rattle.layout.proofs.MarkProofs.{kept_alone, stands_alone}
 use Rattle.layout.proofs.Rewriting.{form_stays, rewritten_stands, rewritten_cards}
 use Rattle.model_tree.specs.Seats.Seats.{no_seats}
 use Rattle.model_tree.specs.Trees.Tree.{Tree}
@@ -31,8 +31,8 @@ same_whole : (end size : ℕ) (a b : Image) → end ≡ size → AreSame end a b
 same_whole end size a b whole same = subst (λ (n : ℕ). AreSame n a b) whole same
 
 module _ (version : Version) (size nodes run : ℕ) (a b : Image) (tree : Tree) (same : AreSame size a b) (stands : TreeStands version size nodes a run tree) where
-  behind : (n : ℕ) → 98 ≤ n → n < size → b n ≡ a n
-  behind n above below = sym (same n (inr above, below))
+  behind : (n : ℕ) → 98 ≤ n → n < version.data_end size → b n ≡ a n
+  behind n above below = sym (same n (inr above, omega (arith, below, stands.region.within)))
 
   stands_same : TreeStands version size nodes b run tree
   stands_same =
@@ -40,7 +40,7 @@ module _ (version : Version) (size nodes run : ℕ) (a b : Image) (tree : Tree) 
       stands_alone version size nodes a b run tree stands (sym (same 0 (inl refl, omega (arith, parts.room)))) behind
 
   cards_same : cards_in nodes b ≡ cards_in nodes a
-  cards_same = (kept_alone version size nodes a b (cards_in nodes a) (room size nodes stands.sized) stands.laid behind).same_cards
+  cards_same = (kept_alone version size nodes a b (cards_in nodes a) stands.region.behind stands.laid behind).same_cards
 
 reached_same : (size run : ℕ) (tree : Tree) (cards : List (Option CachedNode)) (moved : ℕ) (a b : Image) → AreSame size a b
     → Reached size run tree cards moved a → Reached size run tree cards moved b
@@ -103,6 +103,7 @@ module _ (mark : Option ℕ) (size nodes run : ℕ) (image : Image) (tree : Tree
     limits = refl;
     others = record {
       marking = refl;
+      data_end = refl;
       roomy = λ place within. inr refl;
       bitmap = λ n low high. others n (λ e. omega arith);
       spare = λ n low high. ⊎_elim

@@ -117,6 +117,7 @@ module _ (size run : ℕ) (tree : Tree) (cards : List (Option CachedNode)) (move
     limits = refl;
     others = record {
       marking = refl;
+      data_end = refl;
       roomy = roomy;
       bitmap = λ n low high. far_stays cards moved count image n (λ e. omega arith) (inl (omega arith));
       spare = spare_is;

@@ -1,17 +1,17 @@
 -- The result of a transaction that was begun, edited and finished.
-use Rattle.std.proofs.Common.{◌≡◌, ◌≤◌, ◌+◌, ℕ, Bool, List, [], Option, length, sym, ap, ap₂, ◌∙◌, arith, subst}
+use Rattle.std.proofs.Common.{◌≡◌, ◌≤◌, ◌+◌, ℕ, Bool, List, [], Option, length, refl, sym, ap, ap₂, ◌∙◌, arith, subst}
 use Rattle.disk.specs.Moments.{Image, applied}
 use Rattle.disk.specs.declared.update.Update.{Update}
 use Rattle.tree_transaction.specs.declared.transaction.Transaction.{Transaction}
 use Rattle.tree_transaction.specs.declared.transaction.PreparedTransaction.{PreparedTransaction}
 use Rattle.tree_transaction.specs.Transactions.{cards_of, end_of, image_of, IsTransaction}
 use Rattle.tree_transaction.specs.Updates.{AreTreeUpdates}
-use Rattle.tree_transaction.specs.Whole.{IsMarked, IsWhole, Finishes}
+use Rattle.tree_transaction.specs.Whole.{AreMarked, IsWhole, Finishes, bitmap_sectors}
 use Rattle.tree_transaction.proofs.WholeLaws.{marked_by}
 use Rattle.tree_edits.specs.declared.edit.Edit.{Edit}
 use Rattle.tree_edits.specs.Doing.{AreMade, DoesEdits, made_by}
 use Rattle.tree_edits.specs.Edits.{edits_of}
-use Rattle.tree_edits.specs.Outcomes.{ComesTo, IsWholeVolume, LaysEditedTree, cards_after}
+use Rattle.tree_edits.specs.Outcomes.{ComesTo, IsVersionOf, IsWholeVolume, LaysEditedTree, cards_after, end_by}
 use Rattle.tree_edits.specs.Outlines.{without_data, tree_without_data}
 use Rattle.tree_edits.specs.Parts.{PartsAreBytes}
 use Rattle.layout.specs.CachedNodes.{CachedNode}
@@ -19,8 +19,10 @@ use Rattle.layout.specs.CachedNodes as layout
 use Rattle.layout.specs.Known.{AreCards}
 use Rattle.layout.specs.Laid.{AreLaid}
 use Rattle.layout.specs.Marks.{mark_by}
-use Rattle.layout.specs.Stands.{current_version, HaveCurrentForms, IsLaid}
-use Rattle.model_tree.specs.Seats.Seats.{Seats}
+use Rattle.layout.specs.declared.versions.Marking.{Marking}
+use Rattle.layout.specs.declared.versions.Marking.TheVariants.{InSectors, AsNamed}
+use Rattle.layout.specs.Stands as stands
+use Rattle.layout.specs.Stands.{Version, HaveCurrentForms, IsLaid}
 use Rattle.model_tree.specs.Trees.Edit.{edited}
 
 -- a transaction that has not yet changed a table and its places
@@ -42,9 +44,15 @@ laid_by nodes image mark marked cards laid known = record {
   once = known.once;
 }
 
-module _ (size : ℕ) (table : List (Option CachedNode)) (places : List Bool) (whole : IsWholeVolume size table places) (transaction : Transaction) (begun : IsBegun transaction table places) where
-  end_is : end_of transaction ≡ size
-  end_is = omega (arith, begun.nodes_are, ap (λ (l : List Bool). length l) begun.places_are, whole.size_is)
+-- what sectors mark is what places mark, if there is a bitmap
+marked_on : (marking : Marking) (nodes : ℕ) (base : Image) (places : List Bool) (cards : List (Option CachedNode)) → (marking ≡ InSectors → length places ≤ 65536)
+    → AreLaid nodes base (stands.marked_by marking nodes base cards) cards → AreCards nodes (mark_by (148 + nodes) places) cards → AreMarked marking base places
+marked_on InSectors nodes base places cards few read known = marked_by nodes base places (few refl) (λ n. sym (read.marks n) ∙ known.marks n)
+marked_on AsNamed nodes base places cards few read known = tt
+
+module _ (marking : Marking) (size : ℕ) (table : List (Option CachedNode)) (places : List Bool) (whole : IsWholeVolume marking size table places) (transaction : Transaction) (begun : IsBegun transaction table places) where
+  end_is : end_of transaction ≡ end_by table places
+  end_is = omega (arith, begun.nodes_are, ap (λ (l : List Bool). length l) begun.places_are)
 
   -- what holds of the volume's cached nodes and places holds of the transaction's
   of_transaction : (P : ℕ → List Bool → List (Option CachedNode) → Type 0) → P (length table) places table → P transaction.nodes transaction.places (cards_of transaction)
@@ -56,7 +64,7 @@ module _ (size : ℕ) (table : List (Option CachedNode)) (places : List Bool) (w
 
   module _ (word : Type 0) (base : Image) (edits : List Edit) (mid last : Transaction)
       (outcome : PreparedTransaction)
-      (does : DoesEdits word base size transaction mid edits) (finishes : Finishes places mid last) (same : cards_of last ≡ cards_of mid)
+      (does : DoesEdits word base size transaction mid edits) (finishes : Finishes marking places mid last) (same : cards_of last ≡ cards_of mid)
       (cards_are : cards_after table outcome ≡ cards_of last) (updates_are : outcome.updates.items ≡ last.updates) (places_are : outcome.places ≡ mid.places) where
     after : cards_after table outcome ≡ cards_of mid
     after = cards_are ∙ same
@@ -81,48 +89,46 @@ module _ (size : ℕ) (table : List (Option CachedNode)) (places : List Bool) (w
     begun_image : image_of base transaction ≡ base
     begun_image = ap (λ (l : List Update). applied l base) begun.no_updates
 
-    begun_transaction : (seats : Seats) → IsLaid (current_version seats) size (length table) base table → IsTransaction base size transaction
-    begun_transaction seats laid = record {
+    begun_transaction : (version : Version) → IsLaid version size (length table) base table → IsTransaction base size transaction
+    begun_transaction version laid = record {
       laid = of_transaction (λ nodes marked cards. AreLaid nodes (image_of base transaction) (mark_by (148 + nodes) marked) cards)
           (subst (λ (image : Image). AreLaid (length table) image (mark_by (148 + length table) places) table) (sym begun_image)
           (laid_by (length table) base _ _ table laid.laid whole.cards));
-      within = omega (arith, end_is);
-      small = omega (arith, whole.few);
+      within = omega (arith, end_is, whole.within);
+      small = whole.small;
     }
 
-    is_whole : (seats : Seats) → IsLaid (current_version seats) size (length table) base table → IsWhole (current_version seats) base size mid
-    is_whole seats laid = record {
-      size_is = omega (arith, whole.size_is, nodes_are, as_many);
-      few = whole.few;
-      forms = forms;
+    is_whole : (version : Version) → IsVersionOf marking size table places version → IsLaid version size (length table) base table → IsWhole version base size mid
+    is_whole version of laid = record {
+      end_is = omega (arith, of.end_is, nodes_are, as_many);
+      few = λ in_sectors. let few = whole.few (sym of.marks ∙ in_sectors) in omega (arith, few, as_many);
+      forms = λ place card there. forms place card there ∙ sym (of.forms place);
       spare = laid.spare;
     }
 
     -- the sectors mark what the table's cached nodes name, and so do the places
-    is_marked : (seats : Seats) → IsLaid (current_version seats) size (length table) base table → IsMarked base places
-    is_marked seats laid =
-        let read = laid.laid in
-        let known = whole.cards in
-        marked_by (length table) base places (omega (arith, whole.size_is, whole.few)) (λ n. sym (read.marks n) ∙ known.marks n)
+    is_marked : (version : Version) → IsVersionOf marking size table places version → IsLaid version size (length table) base table → AreMarked marking base places
+    is_marked version of laid = marked_on marking (length table) base places table whole.few
+        (subst (λ (m : Marking). AreLaid (length table) base (stands.marked_by m (length table) base table) table) of.marks laid.laid) whole.cards
 
     image_is : applied outcome.updates.items base ≡ image_of base last
     image_is = ap (λ (l : List Update). applied l base) updates_are
 
-    lays : word → (seats : Seats) → IsLaid (current_version seats) size (length table) base table → LaysEditedTree seats base size table edits outcome
-    lays keeps seats laid =
-        let edited_tree = does.tree keeps (begun_transaction seats laid) in
-        let left = finishes (current_version seats) base size edited_tree.0 (is_whole seats laid) (is_marked seats laid) in
+    lays : word → (version : Version) → IsVersionOf marking size table places version → IsLaid version size (length table) base table → LaysEditedTree version base size table edits outcome
+    lays keeps version of laid =
+        let edited_tree = does.tree keeps (begun_transaction version laid) in
+        let left = finishes version base size of.marks edited_tree.0 (is_whole version of laid) (is_marked version of laid) in
         record {
           laid =
-              subst (λ (image : Image). IsLaid (current_version seats) size (length table) image (cards_after table outcome)) (sym image_is)
-              (subst (λ (l : List (Option CachedNode)). IsLaid (current_version seats) size (length table) (image_of base last) l) (sym after)
-              (subst (λ (n : ℕ). IsLaid (current_version seats) size n (image_of base last) (cards_of mid)) nodes_are left.laid));
+              subst (λ (image : Image). IsLaid version size (length table) image (cards_after table outcome)) (sym image_is)
+              (subst (λ (l : List (Option CachedNode)). IsLaid version size (length table) (image_of base last) l) (sym after)
+              (subst (λ (n : ℕ). IsLaid version size n (image_of base last) (cards_of mid)) nodes_are left.laid));
           tree_is =
               ap₂ layout.tree_of image_is cards_are ∙ left.tree_is ∙ edited_tree.1
               ∙ ap (edited (edits_of edits)) (ap₂ layout.tree_of begun_image begun.cards_are);
         }
 
-    pub comes_to : AreTreeUpdates (end_of mid) last.updates → length last.updates ≤ length mid.updates + 2 → PartsAreBytes edits → ComesTo word base size table places edits outcome
+    pub comes_to : AreTreeUpdates (end_of mid) last.updates → length last.updates ≤ length mid.updates + bitmap_sectors marking → PartsAreBytes edits → ComesTo word marking base size table places edits outcome
     comes_to targets count parts = record {
       cards = cards;
       as_many = ap (λ (l : List Bool). length l) places_are ∙ as_many;
@@ -130,8 +136,8 @@ module _ (size : ℕ) (table : List (Option CachedNode)) (places : List Bool) (w
       forms = subst HaveCurrentForms (sym after) forms;
       made = subst (λ (l : List (Option CachedNode)). AreMade table l (made_by edits)) (sym after)
           (subst (λ (l : List (Option CachedNode)). AreMade l (cards_of mid) (made_by edits)) begun.cards_are does.made);
-      targets = subst (λ (l : List Update). AreTreeUpdates size l) (sym updates_are)
-          (subst (λ (n : ℕ). AreTreeUpdates n last.updates) (omega (arith, whole.size_is, nodes_are, as_many)) targets);
+      targets = subst (λ (l : List Update). AreTreeUpdates (end_by table places) l) (sym updates_are)
+          (subst (λ (n : ℕ). AreTreeUpdates n last.updates) (omega (arith, nodes_are, as_many)) targets);
       count = omega (arith, count, does.count, ap (λ (l : List Update). length l) begun.no_updates, ap (λ (l : List Update). length l) updates_are);
       bytes = parts;
       lays = lays;

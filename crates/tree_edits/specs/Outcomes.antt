@@ -1,9 +1,10 @@
 -- The result of edits of a volume, as one transaction.
-use Rattle.std.specs.Prelude.{◌≡◌, ◌≤◌, ◌+◌, ℕ, Bool, List, Option, length, take}
+use Rattle.std.specs.Prelude.{◌≡◌, ◌≤◌, ◌<◌, ◌+◌, ◌^◌, ℕ, Bool, List, Option, length, take}
 use Rattle.disk.specs.Moments.{Image, applied}
 use Rattle.node_table.specs.Overlays.{overlaid}
 use Rattle.tree_transaction.specs.declared.transaction.PreparedTransaction.{PreparedTransaction}
 use Rattle.tree_transaction.specs.Updates.{AreTreeUpdates}
+use Rattle.tree_transaction.specs.Whole.{bitmap_sectors}
 use Rattle.tree_edits.specs.declared.edit.Edit.{Edit}
 use Rattle.tree_edits.specs.Doing.{AreMade, FitsOn, made_by, updates_of_all}
 use Rattle.tree_edits.specs.Edits.{edits_of}
@@ -12,19 +13,34 @@ use Rattle.tree_edits.specs.Parts.{PartsAreBytes}
 use Rattle.layout.specs.CachedNodes.{CachedNode, tree_of}
 use Rattle.layout.specs.Known.{AreCards}
 use Rattle.layout.specs.Marks.{mark_by}
-use Rattle.layout.specs.Stands.{current_version, HaveCurrentForms, IsLaid}
+use Rattle.layout.specs.declared.versions.Marking.{Marking}
+use Rattle.layout.specs.declared.versions.Marking.TheVariants.{InSectors}
+use Rattle.layout.specs.Stands.{Version, HaveCurrentForms, IsLaid}
+use Rattle.inode.specs.declared.node.Form.TheVariants.{Two}
 use Rattle.model_tree.specs.Trees.Edit.{edited}
-use Rattle.model_tree.specs.Seats.Seats.{Seats}
 use Rattle.model_tree.specs.Trees.Tree.{Tree}
 
+-- where the data region of these places ends, behind the node table
+abbrev pub end_by : List (Option CachedNode) → (places : List Bool) → ℕ
+end_by table places = 148 + length table + length places
+
 -- the cached nodes of a whole volume, and the places of its data region, of which those are used
--- that the cached nodes name
-pub record IsWholeVolume (size : ℕ) (table : List (Option CachedNode)) (places : List Bool)
-    : Type 0 where
+-- that the cached nodes name; a bitmap, if there is one, has room for them
+pub record IsWholeVolume (marking : Marking) (size : ℕ) (table : List (Option CachedNode))
+    (places : List Bool) : Type 0 where
   pub cards : AreCards (length table) (mark_by (148 + length table) places) table
   pub forms : HaveCurrentForms table
-  pub size_is : size ≡ 148 + length table + length places
-  pub few : size ≤ 65536
+  pub within : end_by table places ≤ size
+  pub small : size < 2 ^ 32
+  pub few : marking ≡ InSectors → length places ≤ 65536
+
+-- its version: each node has form two, used sectors are marked so, and the data region is these
+-- places
+pub record IsVersionOf (marking : Marking) (size : ℕ) (table : List (Option CachedNode))
+    (places : List Bool) (version : Version) : Type 0 where
+  pub forms : (place : ℕ) → version.form place ≡ Two
+  pub marks : version.marking ≡ marking
+  pub end_is : version.data_end size ≡ end_by table places
 
 -- the tree after each prefix of the edits has room
 abbrev pub FrontsHaveRoom : (sectors places : ℕ) → Tree → List Edit → Type 0
@@ -36,18 +52,19 @@ abbrev pub cards_after : List (Option CachedNode) → PreparedTransaction → Li
 cards_after table outcome = overlaid table outcome.changes
 
 -- the sectors hold the outcome's cached nodes and marks, and represent the tree with the edits; the
--- seats stay
-pub record LaysEditedTree (seats : Seats) (base : Image) (size : ℕ)
+-- version stays, with its seats
+pub record LaysEditedTree (version : Version) (base : Image) (size : ℕ)
     (table : List (Option CachedNode))
     (edits : List Edit) (outcome : PreparedTransaction) : Type 0 where
-  pub laid : IsLaid (current_version seats) size (length table) (applied outcome.updates.items base)
+  pub laid : IsLaid version size (length table) (applied outcome.updates.items base)
       (cards_after table outcome)
   pub tree_is : tree_of (applied outcome.updates.items base) (cards_after table outcome)
       ≡ edited (edits_of edits) (tree_of base table)
 
 -- The result of edits, for a volume of `size` sectors
-pub record ComesTo (word : Type 0) (base : Image) (size : ℕ) (table : List (Option CachedNode))
-    (places : List Bool) (edits : List Edit) (outcome : PreparedTransaction) : Type 0 where
+pub record ComesTo (word : Type 0) (marking : Marking) (base : Image) (size : ℕ)
+    (table : List (Option CachedNode)) (places : List Bool) (edits : List Edit)
+    (outcome : PreparedTransaction) : Type 0 where
   -- of its places those are used that its cached nodes name, and it has as many as before
   pub cards : AreCards (length table) (mark_by (148 + length table) outcome.places)
       (cards_after table outcome)
@@ -59,10 +76,11 @@ pub record ComesTo (word : Type 0) (base : Image) (size : ℕ) (table : List (Op
   pub forms : HaveCurrentForms (cards_after table outcome)
   pub made : AreMade table (cards_after table outcome) (made_by edits)
   -- the updates are those of a transaction, and few
-  pub targets : AreTreeUpdates size outcome.updates.items
-  pub count : length outcome.updates.items ≤ updates_of_all edits + 2
+  pub targets : AreTreeUpdates (end_by table places) outcome.updates.items
+  pub count : length outcome.updates.items ≤ updates_of_all edits + bitmap_sectors marking
   -- what the edits put are bytes
   pub bytes : PartsAreBytes edits
   -- if the sectors keep their word and held the volume, they hold one after the updates
-  pub lays : word → (seats : Seats) → IsLaid (current_version seats) size (length table) base table
-      → LaysEditedTree seats base size table edits outcome
+  pub lays : word → (version : Version) → IsVersionOf marking size table places version
+      → IsLaid version size (length table) base table
+      → LaysEditedTree version base size table edits outcome

@@ -10,13 +10,15 @@ use crate::doing::edit_all;
 use crate::edit::Edit;
 use freemap::SharedBitmap;
 use layout::sectors::Sectors;
+use layout::versions::Marking;
 use node_table::Table;
 use std::alloc::Global;
 use tree_transaction::{PreparedTransaction, Transaction, TransactionFault};
 
 /// The result of edits of a volume, as one transaction: its updates, marks included, and the places
 /// and cached nodes that memory is then to keep. The table and the places do not change. There must
-/// be room after each of the edits.
+/// be room after each of the edits. The data region ends with the places, and `marking` says what
+/// marks its used sectors.
 ///
 /// # Errors
 ///
@@ -27,15 +29,17 @@ pub fn outcome_of<S: Sectors>(
     base: &mut S,
     table: &Table,
     places: &SharedBitmap,
+    marking: Marking,
     edits: &[Edit<'_>],
 ) -> Result<PreparedTransaction, TransactionFault>
-    requires whole { IsWholeVolume (S.size (S.kept base.old)) table.now places.now }
+    requires whole { IsWholeVolume marking (S.size (S.kept base.old)) table.now places.now }
     requires can { AreDoable (tree_without_data table.now) edits.now }
     requires few { StayFew (tree_without_data table.now) edits.now }
     requires room { FrontsHaveRoom (length places.now) (length table.now)
         (tree_without_data table.now) edits.now }
-    ensures done { IfOk result (λ outcome. ComesTo S.keeps_word (S.image (S.kept base.old))
-        (S.size (S.kept base.old)) table.now places.now edits.now outcome) }
+    ensures done { IfOk result (λ outcome. ComesTo S.keeps_word marking
+        (S.image (S.kept base.old)) (S.size (S.kept base.old)) table.now places.now edits.now
+        outcome) }
     // If it fails
     ensures full { ¬ IsErrOf result TransactionFault.Full }
     ensures health { FailsOrStays (S.health base.old) (S.health base.new)
@@ -45,6 +49,6 @@ pub fn outcome_of<S: Sectors>(
 {
     let mut transaction = Transaction::new(alloc, table, places)?;
     edit_all(&mut transaction, base, edits)?;
-    transaction.finish(places)?;
+    transaction.finish(marking, places)?;
     Ok(transaction.into_prepared())
 }

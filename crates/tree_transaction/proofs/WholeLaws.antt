@@ -10,6 +10,7 @@ use Rattle.freemap.proofs.PartLaws.{also_marked}
 use Rattle.layout.specs.CachedNodes.{CachedNode, node_sector, tree_of}
 use Rattle.layout.specs.Laid.{AreLaid}
 use Rattle.layout.specs.Marks.{mark_in, mark_by}
+use Rattle.layout.specs.declared.versions.Marking.TheVariants.{InSectors, AsNamed}
 use Rattle.layout.specs.Stands.{Version, HaveForms, IsLaid}
 use Rattle.layout.proofs.MarkProofs.{lays_marks, tree_still, bit_of-past}
 use Rattle.tree_transaction.specs.Blocks.{IsSectorPut}
@@ -91,15 +92,27 @@ module _ (nodes size : ℕ) (version : Version) (old mid new : Image) (before pl
   tree_same = tree_still nodes old new (mark_by (148 + nodes) places) (mark_by (148 + nodes) places) cards laid (λ n. refl)
       (λ place h. same (node_sector place) (omega arith)) (λ n some. same n (let far = laid.behind n some in omega arith))
 
-  pub marks_written : size ≡ 148 + nodes + length places → size ≤ 65536 → HaveForms version cards → ((n : ℕ) → 100 ≤ n → n < 148 → old n ≡ version.spare n) → IsMarked old before → IsLaid version size nodes new cards
-  marks_written size_is few forms spare marked = lays_marks version size nodes old new places cards (record {
-    size_is = size_is;
+  pub marks_written : version.data_end size ≡ 148 + nodes + length places → length places ≤ 65536 → HaveForms version cards → ((n : ℕ) → 100 ≤ n → n < 148 → old n ≡ version.spare n) → IsMarked old before → IsLaid version size nodes new cards
+  marks_written end_is few forms spare marked = lays_marks version size nodes old new places cards (record {
+    end_is = end_is;
     laid = laid;
     forms = forms;
     spare = spare;
     same = same;
-    marked = both_marked old mid new before places marked (omega arith) low high;
+    marked = λ in_sectors. both_marked old mid new before places marked few low high;
   })
+
+-- where nothing marks them but the nodes, nothing is written
+pub named_laid : (nodes size : ℕ) (version : Version) (image : Image) (places : List Bool) (cards : List (Option CachedNode)) → AreLaid nodes image (mark_by (148 + nodes) places) cards → version.marking ≡ AsNamed → version.data_end size ≡ 148 + nodes + length places → HaveForms version cards
+    → ((n : ℕ) → 100 ≤ n → n < 148 → image n ≡ version.spare n) → IsLaid version size nodes image cards
+named_laid nodes size version image places cards laid named end_is forms spare = lays_marks version size nodes image image places cards (record {
+  end_is = end_is;
+  laid = laid;
+  forms = forms;
+  spare = spare;
+  same = λ n h. refl;
+  marked = λ in_sectors. absurd (let no : InSectors ≡ AsNamed = sym in_sectors ∙ named in cc);
+})
 
 -- ---- which sectors are updated
 

@@ -22,7 +22,7 @@ ghost use Rattle.tree_transaction.specs.Naming.{CanName, HasNameAt, DropsNamed, 
 ghost use Rattle.tree_transaction.specs.Nodes.{IsNewCard, new_node, shown_of, showing, HasNode};
 ghost use Rattle.tree_transaction.specs.Nodes.{CanShow};
 ghost use Rattle.tree_transaction.specs.Updates.{AreTreeUpdates};
-ghost use Rattle.tree_transaction.specs.Whole.{Finishes};
+ghost use Rattle.tree_transaction.specs.Whole.{Finishes, bitmap_sectors};
 ghost use Rattle.tree_transaction.specs.Written.{HasBytes, HasItsRuns, IsWritten};
 
 use crate::blocks::{clear_tail, rewrite_names, write_blocks, write_names};
@@ -38,6 +38,7 @@ use extents::BlockList;
 use freemap::SharedBitmap;
 use layout::places::NODES;
 use layout::sectors::Sectors;
+use layout::versions::Marking;
 use node_table::{CachedNode, Changes, Overlay, Table};
 use std::alloc::{AllocError, Global};
 
@@ -444,25 +445,32 @@ impl<'a> Transaction<'a> {
         Ok(WrittenCard { cached, filled })
     }
 
-    /// Writes the marks of the places if they have changed. This is the last step: what is to be
-    /// written is then complete.
+    /// Writes the marks of the places if they have changed and sectors hold them. This is the last
+    /// step: what is to be written is then complete.
     ///
     /// # Errors
     ///
     /// Only memory.
-    pub fn finish(&mut self, before: &SharedBitmap) -> Result<(), AllocError>
+    pub fn finish(&mut self, marking: Marking, before: &SharedBitmap) -> Result<(), AllocError>
         requires { IsKnown self.old }
-        ensures laid { OnOk result (Finishes before.now self.old self.new) }
+        ensures laid { OnOk result (Finishes marking before.now self.old self.new) }
         ensures targets { OnOk result (AreTreeUpdates (end_of self.old) self.new.updates) }
         // What stays
         ensures cards { self.new.cards ≡ self.old.cards }
         ensures places { self.new.places ≡ self.old.places }
         ensures nodes { self.new.nodes ≡ self.old.nodes }
+        ensures updates { marking ≡ Marking.AsNamed → self.new.updates ≡ self.old.updates }
         // What it costs
-        ensures count { OnOk result (length self.new.updates ≤ length self.old.updates + 2) }
+        ensures count { OnOk result
+            (length self.new.updates ≤ length self.old.updates + bitmap_sectors marking) }
     {
-        put_marks(&mut self.updates, &self.places, before, 0)?;
-        put_marks(&mut self.updates, &self.places, before, 1)?;
+        match marking {
+            Marking::InSectors => {
+                put_marks(&mut self.updates, &self.places, before, 0)?;
+                put_marks(&mut self.updates, &self.places, before, 1)?;
+            }
+            Marking::AsNamed => self.updates.tell_apart(),
+        }
         Ok(())
     }
 

@@ -13,7 +13,7 @@ use Rattle.tree_transaction.specs.declared.transaction.PreparedTransaction.{Prep
 use Rattle.tree_transaction.proofs.UpdateLaws.{applied-other}
 use Rattle.tree_edits.specs.declared.edit.Edit.{Edit}
 use Rattle.tree_edits.specs.Edits.{edits_of}
-use Rattle.tree_edits.specs.Outcomes.{ComesTo, LaysEditedTree, cards_after}
+use Rattle.tree_edits.specs.Outcomes.{ComesTo, IsWholeVolume, LaysEditedTree, cards_after, end_by}
 use Rattle.tree_edits.specs.Outlines.{without_data, tree_without_data}
 use Rattle.tree_edits.proofs.BlankLaws.{each_outline}
 use Rattle.tree_edits.proofs.PlaceLaws.{there_at}
@@ -25,8 +25,11 @@ use Rattle.layout.specs.CachedNodes.{CachedNode, tree_of, cards_in}
 use Rattle.layout.specs.Known.{AreCards}
 use Rattle.layout.specs.Laid.{AreNumbered}
 use Rattle.layout.specs.Marks.{mark_by}
+use Rattle.layout.specs.declared.versions.Marking.TheVariants.{InSectors}
 use Rattle.layout.specs.Stands.{IsLaid, Kept, StandsNow, current_version, seats_at}
+use Rattle.layout.specs.Superblock.{is_size}
 use Rattle.layout.proofs.CachedNodeLaws.{cards-back, only_cards}
+use Rattle.layout.proofs.FirstLaws.{sized_parts}
 use Rattle.model_tree.specs.declared.limits.Limits.{Limits}
 use Rattle.model_tree.specs.Trees.Charge.{fits}
 use Rattle.model_tree.specs.Trees.Edit.{edited}
@@ -84,8 +87,25 @@ not_first size updates are = λ i within same. (let above = (are.between i withi
 pub StandsWith-prop : (nodes run : ℕ) (old : Log) (updates : List Update) (is : List (Option CachedNode)) (after : Kept) → IsProp (StandsWith nodes run old updates is after)
 StandsWith-prop nodes run old updates is after = Prim.hlevel (props, ∥∥₁_prop)
 
+-- the volume that memory keeps is a whole one
+
+pub whole_now : {sectors nodes : ℕ} {cards : List (Option CachedNode)} {places : List Bool} → AreKnownNodes sectors nodes cards places → sectors ≡ end_by cards places
+whole_now known = omega (arith, known.whole, known.are_cards.count)
+
+pub whole_volume : (sectors nodes : ℕ) (cards : List (Option CachedNode)) (places : List Bool) → IsTrue (is_size sectors nodes) → AreKnownNodes sectors nodes cards places
+    → IsWholeVolume InSectors sectors cards places
+whole_volume sectors nodes cards places size known =
+    let parts = sized_parts sectors nodes size in
+    record {
+      cards = subst (λ (n : ℕ). AreCards n (mark_by (148 + n) places) cards) (sym known.are_cards.count) known.are_cards;
+      forms = known.forms;
+      within = omega (arith, whole_now known);
+      small = omega (arith, parts.most);
+      few = λ in_sectors. omega (arith, parts.most, known.whole);
+    }
+
 module _ (word : Type 0) (k : word) (nodes run : ℕ) (log : Log) (cards : List (Option CachedNode)) (places : List Bool) (edits : List Edit) (outcome : PreparedTransaction)
-    (count : length cards ≡ nodes) (comes : ComesTo word (contents log) log.size cards places edits outcome)
+    (count : length cards ≡ nodes) (whole : log.size ≡ end_by cards places) (comes : ComesTo word InSectors (contents log) log.size cards places edits outcome)
     (formed : IsFormed (limits_of log.size nodes) (stamp (run + 1) 0) (edited (edits_of edits) (tree_of (contents log) cards))) where
   abbrev image : Image
   image = contents log
@@ -107,7 +127,7 @@ module _ (word : Type 0) (k : word) (nodes run : ℕ) (log : Log) (cards : List 
       let stands = stood.stands in
       let here : IsLaid (current_version seats) log.size (length cards) image cards = subst (λ (n : ℕ). IsLaid (current_version seats) log.size n image cards) (sym count)
       (subst (IsLaid (current_version seats) log.size nodes image) (sym read) stands.laid) in
-      let lays : LaysEditedTree seats image log.size cards edits outcome = comes.lays k seats here in
+      let lays : LaysEditedTree (current_version seats) image log.size cards edits outcome = comes.lays k (current_version seats) (record { forms = λ place. refl; marks = refl; end_is = whole }) here in
       let laid : IsLaid (current_version seats) log.size nodes now is = subst (λ (n : ℕ). IsLaid (current_version seats) log.size n now is) count lays.laid in
       let back : cards_in nodes now ≡ is = cards-back now nodes is laid.laid.count laid.laid.held in
       record {
@@ -120,8 +140,9 @@ module _ (word : Type 0) (k : word) (nodes run : ℕ) (log : Log) (cards : List 
               keeps = stood.keeps;
               stands = record {
                 sized = stands.sized;
+                region = stands.region;
                 counted = stands.counted;
-                first = applied-other outcome.updates.items image 0 (not_first log.size outcome.updates.items comes.targets) ∙ stands.first;
+                first = applied-other outcome.updates.items image 0 (not_first (end_by cards places) outcome.updates.items comes.targets) ∙ stands.first;
                 laid = only_cards (current_version seats) log.size nodes now is laid;
                 tree_is = sym lays.tree_is ∙ ap (tree_of now) (sym back);
                 well_formed = both.0;
@@ -157,7 +178,7 @@ formed_alike limits at tree other alike formed = record {
 
 module _ (word : Type 0) (limits : Limits) (run : ℕ) (log : Log) (cards : List (Option CachedNode)) (places : List Bool) (edits : List Edit) (outcome : PreparedTransaction)
     (change : IsChange (volume_state_by limits run cards log) edits) (known : AreKnownNodes log.size limits.nodes cards places)
-    (comes : ComesTo word (contents log) log.size cards places edits outcome) where
+    (comes : ComesTo word InSectors (contents log) log.size cards places edits outcome) where
   abbrev held : VolumeState
   held = volume_state_by limits run cards log
 

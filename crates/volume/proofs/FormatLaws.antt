@@ -40,6 +40,7 @@ module _ (sectors nodes : ℕ) (size : IsTrue (is_size sectors nodes)) where
   is_fresh : IsFresh (current_version no_seats) sectors nodes (new_volume sectors nodes)
   is_fresh = record {
     sized = size;
+    region = (let parts = sized sectors nodes size in record { behind = omega (arith, parts.room); within = omega arith });
     a_node = (let parts = sized sectors nodes size in omega (arith, parts.some));
     an_entry = omega arith;
     first = refl;

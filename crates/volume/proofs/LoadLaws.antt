@@ -18,10 +18,11 @@ use Rattle.layout.specs.Stands as layout
 use Rattle.inode.specs.declared.node.Form.TheVariants.{Two}
 use Rattle.layout.specs.Known.{AreCards}
 use Rattle.layout.specs.Rewriting.{all_second, in_second, second_image, IsLaidSecond}
-use Rattle.layout.specs.Stands.{Kept, MayHaveSeats, Version, Marking, marked_by, IsVersion, By, IsLaid, IsMark, current_version, version_by}
+use Rattle.layout.specs.Stands.{Kept, MayHaveSeats, Version, marked_by, IsVersion, By, IsLaid, IsMark, current_version, version_by, with_region}
+use Rattle.layout.specs.declared.versions.Marking.TheVariants.{InSectors}
 use Rattle.layout.specs.declared.versions.VersionNumber.TheVariants as numbers
 use Rattle.model_tree.specs.Seats.Seats.{Seats}
-use Rattle.volume_load.proofs.VolumeLaws.{version_marking}
+use Rattle.volume_load.proofs.VolumeLaws.{laid_as, version_marking, version_end}
 use Rattle.layout.specs.Superblock.{is_size}
 use Rattle.layout.specs.declared.versions.VersionNumber.{VersionNumber}
 use Rattle.layout.proofs.FirstLaws.{sized_parts}
@@ -57,15 +58,25 @@ version_limits numbers.Two mark seats = refl
 pub any_limits : (nodes : ℕ) (version : Version) (seats : Seats) → IsVersion nodes version seats → version.limits ≡ limits_of
 any_limits nodes _ _ (By number mark seats is may) = version_limits number mark seats
 
+-- what is laid in versions one and two is so with their own marks, up to the end of the volume
+pub laid_own : (number : VersionNumber) (mark : Option ℕ) (seats : Seats) (size sectors nodes : ℕ) (image : Image) (cards : List (Option CachedNode)) → size ≡ sectors
+    → IsLaid (with_region InSectors sectors (version_by number mark seats)) size nodes image cards ↔ IsLaid (version_by number mark seats) sectors nodes image cards
+laid_own number mark seats size sectors nodes image cards same =
+    let own = version_by number mark seats in
+    let both = laid_as own InSectors sectors size nodes image cards (version_marking number mark seats) (version_end number mark seats size ∙ same) in (
+      λ laid. subst (λ (s : ℕ). IsLaid own s nodes image cards) same (both.0 laid),
+      λ laid. both.1 (subst (λ (s : ℕ). IsLaid own s nodes image cards) (sym same) laid),
+    )
+
 abbrev HoldsSectors : (size : ℕ) → Image → Type 0
 HoldsSectors size image = (n : ℕ) → n < size → IsSector (image n)
 
 -- there are bytes in each marked place of the data region
-marked_bytes : (version : Version) (size nodes : ℕ) (image : Image) (cards : List (Option CachedNode)) → IsLaid version size nodes image cards
+marked_bytes : (version : Version) (size nodes : ℕ) (image : Image) (cards : List (Option CachedNode)) → IsLaid version size nodes image cards → version.data_end size ≤ size
     → (bytes : (n : ℕ) → 148 + nodes ≤ n → n < size → IsSector (image n)) → HoldBytes image (marked_by version.marking nodes image cards)
-marked_bytes version size nodes image cards laid bytes n marked = elim (cases_lt n size) [
+marked_bytes version size nodes image cards laid ends bytes n marked = elim (cases_lt n size) [
   | inl within ↦ (bytes n (laid.laid.behind n marked) within).bytes
-  | inr past ↦ absurd (omega (arith, marked, laid.within n past))
+  | inr past ↦ absurd (omega (arith, marked, laid.within n (omega (arith, ends, past))))
 ]
 
 -- The cached nodes on the sectors, and as they are once each node has form two
@@ -79,11 +90,11 @@ module _ (number : VersionNumber) (mark : Option ℕ) (seats : Seats) (size node
   second = all_second cards
 
   as_second : IsLaidSecond size nodes image cards
-  as_second = laid_as_second (version_by number mark seats) size nodes image cards (version_marking number mark seats) laid below
+  as_second = laid_as_second (version_by number mark seats) size nodes image cards (version_marking number mark seats) (version_end number mark seats size) laid below
 
   second_bytes : HoldBytes (second_image nodes image) (mark_in nodes (second_image nodes image))
-  second_bytes = marked_bytes (current_version no_seats) size nodes (second_image nodes image) second as_second.laid
-      (λ n behind within. subst IsSector (sym ((then_second (version_by number mark seats) size nodes image cards laid below (version_marking number mark seats)).region n behind within)) (sectors n within))
+  second_bytes = marked_bytes (current_version no_seats) size nodes (second_image nodes image) second as_second.laid (omega arith)
+      (λ n behind within. subst IsSector (sym ((then_second (version_by number mark seats) size nodes image cards laid below (version_marking number mark seats) (version_end number mark seats size)).region n behind (omega (arith, within, version_end number mark seats size)))) (sectors n within))
 
   same_tree : tree_of (second_image nodes image) second ≡ tree_of image second
   same_tree = as_second.tree ∙ sym as_second.shown
@@ -99,6 +110,7 @@ module _ (number : VersionNumber) (mark : Option ℕ) (seats : Seats) (size node
       let both = each.0 well_formed in
       record {
         sized = sized;
+        region = record { behind = omega (arith, below, version_end number mark seats size); within = omega (arith, version_end number mark seats size) };
         counted = counted;
         first = first ∙ sym (first_number number mark seats size nodes run);
         laid = subst (IsLaid (version_by number mark seats) size nodes image) read laid;
@@ -189,7 +201,7 @@ pub stands_few : (size nodes run : ℕ) (image : Image) (kept : Kept) → HoldsS
     → (AreFew (cards_in nodes image) → ⊥) → ⊥
 stands_few size nodes run image kept sectors stands never = ∥∥₁_elim stands.stands.well_formed (Prim.hlevel props) (λ well_formed.
     let cards = cards_in nodes image in
-    let bytes = marked_bytes stands.version size nodes image cards stands.stands.laid (λ n behind within. sectors n within) in
+    let bytes = marked_bytes stands.version size nodes image cards stands.stands.laid stands.stands.region.within (λ n behind within. sectors n within) in
     let well = subst (λ (f : ℕ → ℕ → Limits). IsWellFormed (f size nodes) kept.tree) (any_limits nodes stands.version kept.seats stands.is_version) well_formed in
     let are = (each_tree nodes image (marked_by stands.version.marking nodes image cards) cards stands.stands.laid.laid bytes (limits_of size nodes) (omega arith) (stamp (run + 1) 0)).1
     (subst (IsWellFormed (limits_of size nodes)) stands.stands.tree_is well, subst (IsBefore (stamp (run + 1) 0)) stands.stands.tree_is stands.stands.before) in

@@ -26,7 +26,7 @@ use Rattle.volume.specs.Superblock.{superblock}
 use Rattle.volume.specs.declared.mount.Superblock.{Superblock}
 use Rattle.model_tree.specs.declared.limits.Limits.{Limits}
 use Rattle.volume.proofs.LoadLaws.{version_limits}
-use Rattle.volume_load.proofs.VolumeLaws.{version_marking}
+use Rattle.volume_load.proofs.VolumeLaws.{version_marking, version_end}
 use Rattle.volume.proofs.StandLaws.{cards_same, sized, tree_same}
 
 abbrev pub first_update : (sectors nodes run : ℕ) → Update
@@ -83,6 +83,7 @@ module _ (found : Superblock) (base : Image) (counted : found.run + 1 < 2 ^ 32) 
       limits = ap (λ (f : ℕ → ℕ → Limits). f found.sectors found.nodes) (sym (version_limits found.version mark kept.seats));
       others = record {
         marking = sym (version_marking found.version mark kept.seats);
+        data_end = sym (version_end found.version mark kept.seats found.sectors);
         roomy = λ place within. inr refl;
         bitmap = λ n low high. others n low;
         spare = λ n low high. others n (omega (arith, low)) ∙ (stands.laid.spare n low high ∙ version_spare found.version mark kept.seats n stood.may);

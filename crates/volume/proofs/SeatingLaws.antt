@@ -86,6 +86,7 @@ module _ (nodes run : ℕ) (log : Log) (cards : List (Option CachedNode)) (edits
     limits = refl;
     others = record {
       marking = refl;
+      data_end = refl;
       roomy = λ place within. inr refl;
       bitmap = λ n low high. are.others image n (inl high);
       spare = spare_is;

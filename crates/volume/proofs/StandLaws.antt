@@ -47,7 +47,7 @@ stands_same sectors nodes a b run kept same stands =
       is_version = stands.is_version;
       keeps = stands.keeps;
       stands = stands_alone stands.version sectors nodes a b run kept.tree stands.stands (sym (same 0 (inl refl, omega (arith, enough))))
-          (λ n above below. sym (same n (inr above, below)));
+          (λ n above below. sym (same n (inr above, omega (arith, below, stands.stands.region.within))));
     }
 
 -- the same holds of one version
@@ -56,7 +56,7 @@ pub tree_same : (version : layout.Version) (sectors nodes : ℕ) (a b : Image) (
 tree_same version sectors nodes a b run tree same stands =
     let enough : 256 ≤ sectors = large sectors nodes stands.sized in
     stands_alone version sectors nodes a b run tree stands (sym (same 0 (inl refl, omega (arith, enough))))
-    (λ n above below. sym (same n (inr above, below)))
+    (λ n above below. sym (same n (inr above, omega (arith, below, stands.region.within))))
 
 -- and of the current one, with the seats that its sectors hold
 pub now_same : (sectors nodes : ℕ) (a b : Image) (run : ℕ) (kept : Kept) → AreSame sectors a b → StandsNow sectors nodes a run kept → StandsNow sectors nodes b run kept
@@ -73,6 +73,5 @@ seats_same sectors nodes a b run kept same now =
 pub cards_same : (version : layout.Version) (sectors nodes : ℕ) (a b : Image) (run : ℕ) (tree : Tree) → AreSame sectors a b
     → layout.TreeStands version sectors nodes a run tree → cards_in nodes b ≡ cards_in nodes a
 cards_same version sectors nodes a b run tree same stands =
-    let parts = sized sectors nodes stands.sized in
-    (kept_alone version sectors nodes a b (cards_in nodes a) (omega (arith, parts.room)) stands.laid
-    (λ n above below. sym (same n (inr above, below)))).same_cards
+    (kept_alone version sectors nodes a b (cards_in nodes a) stands.region.behind stands.laid
+    (λ n above below. sym (same n (inr above, omega (arith, below, stands.region.within))))).same_cards

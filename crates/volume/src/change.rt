@@ -7,8 +7,12 @@ use crate::fault::VolumeFault;
 use crate::parent_calls::{put_by, put_parent};
 use crate::volume::Volume;
 use disk::Device;
+use layout::versions::Marking;
 use tree_edits::{Edit, fits, outcome_of};
 use tree_transaction::{PreparedTransaction, TransactionFault};
+
+/// What marks the used sectors of the volumes that are served.
+pub(crate) const MARKING: Marking = Marking::InSectors;
 
 impl From<TransactionFault> for VolumeFault {
     ghost from_gives = { λ refusal fault. fault ≡ transaction_fault refusal };
@@ -108,6 +112,7 @@ impl<D: Device> Volume<D> {
             &mut self.store,
             &self.table,
             &self.places,
+            MARKING,
             edits,
         )?;
         let PreparedTransaction {

@@ -10,6 +10,7 @@ ghost use Rattle.layout.specs.Health.{FailsOrStays};
 ghost use Rattle.volume.specs.Loads.{AreLoaded, HoldsBase, HoldsVolume, IsLoaded, Loads};
 ghost use Rattle.volume.specs.Mounts.{HasSize, IsVolumeOf, IsAtRest, StandsOn};
 
+use crate::change::MARKING;
 use crate::fault::MountFault;
 use crate::mount::Superblock;
 use crate::parents::Parents;
@@ -90,8 +91,9 @@ pub(crate) fn read_nodes<S: Sectors>(
     let contents = read_volume(
         alloc,
         sectors,
-        found.sectors,
         found.nodes,
+        MARKING,
+        found.sectors,
         found.version,
         found.run,
     )?;

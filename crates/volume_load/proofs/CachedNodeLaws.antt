@@ -56,16 +56,16 @@ same_blocks word image fields runs others a b w enough first second =
 
 -- What was marked can be read
 
-marked_within : (first : ℕ) (old new : List Bool) (often : ℕ → ℕ) (size n : ℕ) → ((n : ℕ) → mark_by first new n ≤ max_marks first (length new) n) → AreMarked first old new often → first + length old ≡ size → 0 < often n → n < size
+marked_within : (first : ℕ) (old new : List Bool) (often : ℕ → ℕ) (size n : ℕ) → ((n : ℕ) → mark_by first new n ≤ max_marks first (length new) n) → AreMarked first old new often → first + length old ≤ size → 0 < often n → n < size
 marked_within first old new often size n most marked long some =
     let there = most-some first (length new) n (omega (arith, most n, marked.marks n)) in
     omega (arith, there.1, marked.len)
 
-pub sectors_within : (first : ℕ) (old new : List Bool) (sectors : List ℕ) (size : ℕ) → AreMarked first old new (λ n. times n sectors) → first + length old ≡ size → SectorsWithin size sectors
+pub sectors_within : (first : ℕ) (old new : List Bool) (sectors : List ℕ) (size : ℕ) → AreMarked first old new (λ n. times n sectors) → first + length old ≤ size → SectorsWithin size sectors
 sectors_within first old new sectors size marked long i h =
     marked_within first old new (λ n. times n sectors) size (get_or sectors i 0) (can_marked first new) marked long (times-at sectors i 0 h)
 
-pub blocks_within : (first : ℕ) (old new : List Bool) (blocks : List (Option ℕ)) (size : ℕ) → AreMarked first old new (λ n. times_set n blocks) → first + length old ≡ size → AreSetWithin size blocks
+pub blocks_within : (first : ℕ) (old new : List Bool) (blocks : List (Option ℕ)) (size : ℕ) → AreMarked first old new (λ n. times_set n blocks) → first + length old ≤ size → AreSetWithin size blocks
 blocks_within first old new blocks size marked long i sector is =
     marked_within first old new (λ n. times_set n blocks) size sector (can_marked first new) marked long (times_set-at blocks i sector is)
 

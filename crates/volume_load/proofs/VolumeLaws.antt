@@ -1,45 +1,69 @@
 -- A whole volume.
-use Rattle.std.proofs.Common.{◌≡◌, ◌≤◌, ◌<◌, ◌+◌, ◌-◌, ◌*◌, ◌^◌, ℕ, zero, suc, Bool, List, Option, Some, None, get_or, refl, sym, ap, subst, ◌∙◌, arith, inl, inr, lt-ltb, le-ltb}
+use Rattle.std.proofs.Common.{◌≡◌, ◌↔◌, ◌≤◌, ◌<◌, ◌+◌, ◌-◌, ◌^◌, ℕ, Bool, List, Option, Some, None, get_or, refl, sym, ap, subst, ◌∙◌, arith, inl, inr, lt-ltb, le-ltb}
 use Rattle.std.proofs.lemmas.Bool.{cases_lt}
 use Rattle.std.proofs.lemmas.List.{ext_get_or, get_or_past}
 use Rattle.disk.specs.Moments.{Image}
-use Rattle.freemap.specs.Places.{ShowsPlaces, mark_of, bit_of, bit_in}
+use Rattle.freemap.specs.Places.{mark_of, bit_of, bit_in}
 use Rattle.inode.specs.declared.node.Form.{Form}
 use Rattle.layout.specs.CachedNodes.{CachedNode}
 use Rattle.layout.specs.Known.{AreCards}
 use Rattle.layout.specs.Laid.{AreLaid, AreNumbered}
 use Rattle.layout.specs.Marks.{named, mark_in, mark_by}
+use Rattle.layout.specs.declared.versions.Marking.{Marking}
+use Rattle.layout.specs.declared.versions.Marking.TheVariants.{InSectors, AsNamed}
 use Rattle.layout.specs.declared.versions.VersionNumber.TheVariants.{One, Two}
-use Rattle.layout.specs.Stands.{Marking, InSectors, marked_by, HoldSeats, Version, AreKept, HaveForms, IsLaid, IsMark, MayHaveSeats, mark_held, version_by}
+use Rattle.layout.specs.Stands.{marked_by, HoldSeats, Version, AreKept, HaveForms, IsLaid, IsMark, MayHaveSeats, mark_held, version_by, with_region}
 use Rattle.layout.specs.declared.versions.VersionNumber.{VersionNumber}
 use Rattle.model_tree.specs.Seats.Seats.{Seats, no_seats}
 use Rattle.layout.proofs.CachedNodeLaws.{cards-back}
 use Rattle.layout.proofs.MarkProofs.{mark-back, each_mark, marks_laid}
 use Rattle.volume_load.specs.CachedNodes.{FindsPlace, IsFound, CanHold}
-use Rattle.volume_load.specs.Sectors.{AreBits, AreSpare}
+use Rattle.volume_load.specs.Sectors.{AreBits, AreSpare, HaveBits, ShowMarks}
 use Rattle.volume_load.specs.Volumes.{AreFew, IsRead}
 use Rattle.volume_load.proofs.MarkingLaws.{most-in}
 use Rattle.volume_load.proofs.MigrationLaws.{mark_fits, one_mark, mark_there, same-form}
 use Rattle.volume_load.proofs.MigrationLaws.{spare_there}
 use Rattle.volume_load.proofs.TableLaws.{place_held, place_known, place_found, one_place}
 
--- in versions one and two the marks are in sectors
+-- in versions one and two sectors hold the marks, and the data region ends with the volume
 pub version_marking : (number : VersionNumber) (mark : Option ℕ) (seats : Seats) → (version_by number mark seats).marking ≡ InSectors
 version_marking One mark seats = refl
 version_marking Two mark seats = refl
 
+pub version_end : (number : VersionNumber) (mark : Option ℕ) (seats : Seats) (size : ℕ) → (version_by number mark seats).data_end size ≡ size
+version_end One mark seats size = refl
+version_end Two mark seats size = refl
+
+-- a version is the same with its own marking and its own end of the data region
+pub laid_as : (version : Version) (marking : Marking) (data_end size nodes : ℕ) (image : Image) (cards : List (Option CachedNode)) → version.marking ≡ marking → version.data_end size ≡ data_end
+    → IsLaid (with_region marking data_end version) size nodes image cards ↔ IsLaid version size nodes image cards
+laid_as version marking data_end size nodes image cards marks ends = (
+  λ laid. record {
+    laid = subst (λ (m : Marking). AreLaid nodes image (marked_by m nodes image cards) cards) (sym marks) laid.laid;
+    forms = laid.forms;
+    within = λ n past. ap (λ (m : Marking). marked_by m nodes image cards n) marks ∙ laid.within n (omega (arith, past, ends));
+    spare = laid.spare;
+  },
+  λ laid. record {
+    laid = subst (λ (m : Marking). AreLaid nodes image (marked_by m nodes image cards) cards) marks laid.laid;
+    forms = laid.forms;
+    within = λ n past. ap (λ (m : Marking). marked_by m nodes image cards n) (sym marks) ∙ laid.within n (omega (arith, past, ends));
+    spare = laid.spare;
+  },
+)
+
 -- Cached nodes that are laid can be held
 
-pub laid_can : (word : Type 0) (number : VersionNumber) (mark : Option ℕ) (seats : Seats) (image : Image) (size nodes count : ℕ) (cards : List (Option CachedNode)) → size ≡ 148 + nodes + count → IsLaid (version_by number mark seats) size nodes image cards → AreFew cards
+pub laid_can : (word : Type 0) (marking : Marking) (data_end : ℕ) (number : VersionNumber) (mark : Option ℕ) (seats : Seats) (image : Image) (size nodes count : ℕ) (cards : List (Option CachedNode)) → data_end ≡ 148 + nodes + count → IsLaid (with_region marking data_end (version_by number mark seats)) size nodes image cards → AreFew cards
     → CanHold word (version_by number mark no_seats).form image nodes count cards
-laid_can word number mark seats image size nodes count cards sized laid few = record {
+laid_can word marking data_end number mark seats image size nodes count cards sized laid few = record {
   many = laid.laid.count;
   each = λ place h. place_found word ((version_by number mark no_seats).form place) image place (get_or cards place None) (λ card is. laid.forms place card is ∙ ap (λ (f : ℕ → Form). f place) (same-form number mark seats no_seats)) (λ card is. few place card is)
       (laid.laid.held place h);
-  once = λ n. elim (cases_lt 0 (marked_by (version_by number mark seats).marking nodes image cards n)) [
+  once = λ n. elim (cases_lt 0 (marked_by marking nodes image cards n)) [
     | inl some ↦
         let low = laid.laid.behind n some in
-        elim (cases_lt n size) [
+        elim (cases_lt n data_end) [
           | inl high ↦ omega (arith, laid.laid.marks n, laid.laid.once n, most-in (148 + nodes) count n low (omega arith))
           | inr past ↦ absurd (let none = laid.within n past in omega arith)
         ]
@@ -48,17 +72,17 @@ laid_can word number mark seats image size nodes count cards sized laid few = re
 }
 
 -- by the one mark that is there
-pub record LaidHere (number : VersionNumber) (mark : Option ℕ) (seats : Seats) (image : Image) (size nodes : ℕ) (cards : List (Option CachedNode)) : Type 0 where
+pub record LaidHere (marking : Marking) (data_end : ℕ) (number : VersionNumber) (mark : Option ℕ) (seats : Seats) (image : Image) (size nodes : ℕ) (cards : List (Option CachedNode)) : Type 0 where
   pub may : MayHaveSeats number mark seats
-  pub laid : IsLaid (version_by number mark seats) size nodes image cards
+  pub laid : IsLaid (with_region marking data_end (version_by number mark seats)) size nodes image cards
 
-pub laid_here : (number : VersionNumber) (mark other : Option ℕ) (seats : Seats) (image : Image) (size nodes : ℕ) (cards : List (Option CachedNode)) → nodes < 2 ^ 32 → IsMark number nodes mark → image 147 ≡ mark_held mark → IsMark number nodes other → MayHaveSeats number other seats
-    → IsLaid (version_by number other seats) size nodes image cards → LaidHere number mark seats image size nodes cards
-laid_here number mark other seats image size nodes cards small is there one may laid =
+pub laid_here : (marking : Marking) (data_end : ℕ) (number : VersionNumber) (mark other : Option ℕ) (seats : Seats) (image : Image) (size nodes : ℕ) (cards : List (Option CachedNode)) → nodes < 2 ^ 32 → IsMark number nodes mark → image 147 ≡ mark_held mark → IsMark number nodes other → MayHaveSeats number other seats
+    → IsLaid (with_region marking data_end (version_by number other seats)) size nodes image cards → LaidHere marking data_end number mark seats image size nodes cards
+laid_here marking data_end number mark other seats image size nodes cards small is there one may laid =
     let same : other ≡ mark = one_mark other mark (mark_fits number nodes other small one) (mark_fits number nodes mark small is) (sym (mark_there number other seats image may laid.spare) ∙ there) in
     record {
       may = subst (λ (m : Option ℕ). MayHaveSeats number m seats) same may;
-      laid = subst (λ (m : Option ℕ). IsLaid (version_by number m seats) size nodes image cards) same laid;
+      laid = subst (λ (m : Option ℕ). IsLaid (with_region marking data_end (version_by number m seats)) size nodes image cards) same laid;
     }
 
 -- and are those that were found
@@ -78,30 +102,34 @@ module _ (nodes : ℕ) (image : Image) (places : List Bool) (marks : (n : ℕ) �
       let one : mark_in nodes image (first + k) ≡ bit_in (image 98) (image 99) (first + k - first) = rw (le-ltb (first + k) first far) refl in
       ap (bit_in (image 98) (image 99)) (sym at) ∙ sym one ∙ marks (first + k) ∙ mark-back first places (first + k) far ∙ ap (mark_of places) at
 
-  low_bits : AreBits (image 98) places 0
+  pub low_bits : AreBits (image 98) places 0
   low_bits i h = (rw (lt-ltb i 32768 h) at (bits i)) ∙ ap (mark_of places) (let e : i ≡ 0 + i = omega arith in e)
 
-  high_bits : AreBits (image 99) places 32768
+  pub high_bits : AreBits (image 99) places 32768
   high_bits i h =
       let far : 32768 ≤ 32768 + i = omega arith in
       let e : 32768 + i - 32768 ≡ i = omega arith in
       ap (bit_of (image 99)) (sym e) ∙ (rw (le-ltb (32768 + i) 32768 far) at (bits (32768 + i)))
 
-  pub part_bits : (part : ℕ) → part < 2 → AreBits (image (98 + part)) places (32768 * part)
-  part_bits zero h = low_bits
-  part_bits (suc zero) h = high_bits
-  part_bits (suc (suc part)) h = absurd (omega arith)
-
 -- if cached nodes are laid, the marks that were made are those of the bitmap
-pub same_marks : (word : Type 0) (version : Version) (form : ℕ → Form) (image : Image) (size nodes count : ℕ) (cards others : List (Option CachedNode)) (places : List Bool) → word → IsFound word form image nodes count cards places → CanHold word form image nodes count others → version.marking ≡ InSectors → IsLaid version size nodes image others
-    → (n : ℕ) → mark_in nodes image n ≡ mark_by (148 + nodes) places n
-same_marks word version form image size nodes count cards others places w found can marking laid n =
-    sym (laid.laid.marks n ∙ ap (λ (m : Marking). marked_by m nodes image others n) marking) ∙ ap (named n) (sym (one_table word form image nodes count cards others places w found can)) ∙ sym (found.marks n)
+pub have_bits : (marking : Marking) (word : Type 0) (form : ℕ → Form) (image : Image) (nodes count : ℕ) (cards others : List (Option CachedNode)) (places : List Bool) → word → IsFound word form image nodes count cards places → CanHold word form image nodes count others
+    → AreLaid nodes image (marked_by marking nodes image others) others → HaveBits marking image places
+have_bits InSectors word form image nodes count cards others places w found can laid =
+    let marks : (n : ℕ) → mark_in nodes image n ≡ mark_by (148 + nodes) places n = λ n. sym (laid.marks n) ∙ ap (named n) (sym (one_table word form image nodes count cards others places w found can)) ∙ sym (found.marks n) in
+    (low_bits nodes image places marks, high_bits nodes image places marks)
+have_bits AsNamed word form image nodes count cards others places w found can laid = tt
 
 -- What is found of all parts is read
 
-module _ (word : Type 0) (number : VersionNumber) (run : ℕ) (mark : Option ℕ) (seats : Seats) (image : Image) (size nodes count : ℕ) (cards : List (Option CachedNode)) (places : List Bool) (sized : size ≡ 148 + nodes + count) (small : count ≤ 65536) (marked : IsMark number nodes mark) (may : MayHaveSeats number mark seats) (keeps : AreKept run seats)
-    (found : IsFound word (version_by number mark no_seats).form image nodes count cards places) (apart : AreNumbered cards) (low : word → ShowsPlaces (image 98) places 0) (high : word → ShowsPlaces (image 99) places 32768) (there : word → image 147 ≡ mark_held mark) (holds : word → HoldSeats image seats) (spare : word → AreSpare image) where
+-- the marks are those that were made
+marks_are : (marking : Marking) (word : Type 0) (form : ℕ → Form) (image : Image) (nodes count : ℕ) (cards : List (Option CachedNode)) (places : List Bool) → (marking ≡ InSectors → count ≤ 65536) → IsFound word form image nodes count cards places
+    → ShowMarks marking image places → (n : ℕ) → marked_by marking nodes image cards n ≡ mark_by (148 + nodes) places n
+marks_are InSectors word form image nodes count cards places small found shown =
+    marks_laid nodes count image places (small refl) (record { count_is = found.len; low_shows = shown.0; high_shows = shown.1 })
+marks_are AsNamed word form image nodes count cards places small found shown = λ n. sym (found.marks n)
+
+module _ (word : Type 0) (marking : Marking) (data_end : ℕ) (number : VersionNumber) (run : ℕ) (mark : Option ℕ) (seats : Seats) (image : Image) (size nodes count : ℕ) (cards : List (Option CachedNode)) (places : List Bool) (sized : data_end ≡ 148 + nodes + count) (small : marking ≡ InSectors → count ≤ 65536) (marked : IsMark number nodes mark) (may : MayHaveSeats number mark seats) (keeps : AreKept run seats)
+    (found : IsFound word (version_by number mark no_seats).form image nodes count cards places) (apart : AreNumbered cards) (shown : word → ShowMarks marking image places) (there : word → image 147 ≡ mark_held mark) (holds : word → HoldSeats image seats) (spare : word → AreSpare image) where
   known : AreCards nodes (mark_by (148 + nodes) places) cards
   known =
       let each = each_mark (148 + nodes) places 0 in
@@ -114,10 +142,10 @@ module _ (word : Type 0) (number : VersionNumber) (run : ℕ) (mark : Option ℕ
         once = each.once;
       }
 
-  same : word → (n : ℕ) → mark_in nodes image n ≡ mark_by (148 + nodes) places n
-  same w = marks_laid nodes count image places small (record { count_is = found.len; low_shows = low w; high_shows = high w })
+  same : word → (n : ℕ) → marked_by marking nodes image cards n ≡ mark_by (148 + nodes) places n
+  same w = marks_are marking word (version_by number mark no_seats).form image nodes count cards places small found (shown w)
 
-  laid : word → AreLaid nodes image (mark_in nodes image) cards
+  laid : word → AreLaid nodes image (marked_by marking nodes image cards) cards
   laid w =
       let each = each_mark (148 + nodes) places 0 in
       record {
@@ -145,7 +173,7 @@ module _ (word : Type 0) (number : VersionNumber) (run : ℕ) (mark : Option ℕ
   forms : HaveForms (version_by number mark seats) cards
   forms place card is = let at = found_at place card is in at.form ∙ ap (λ (f : ℕ → Form). f place) (same-form number mark no_seats seats)
 
-  pub is_read : IsRead word size nodes number run mark seats image cards places
+  pub is_read : IsRead word size nodes marking data_end number run mark seats image cards places
   is_read = record {
     marked = marked;
     may = may;
@@ -153,11 +181,11 @@ module _ (word : Type 0) (number : VersionNumber) (run : ℕ) (mark : Option ℕ
     known = known;
     forms = forms;
     few = few;
-    size_is = sized ∙ ap (λ (n : ℕ). 148 + nodes + n) (sym found.len);
+    end_is = sized ∙ ap (λ (n : ℕ). 148 + nodes + n) (sym found.len);
     laid = λ w. record {
-      laid = subst (λ (m : Marking). AreLaid nodes image (marked_by m nodes image cards) cards) (sym (version_marking number mark seats)) (laid w);
+      laid = laid w;
       forms = forms;
-      within = λ n h. ap (λ (m : Marking). marked_by m nodes image cards n) (version_marking number mark seats) ∙ same w n ∙ (let each = each_mark (148 + nodes) places 0 in each.within n (omega (arith, found.len)));
+      within = λ n h. same w n ∙ (let each = each_mark (148 + nodes) places 0 in each.within n (omega (arith, found.len)));
       spare = spare_there number mark seats image may keeps.places.five (there w) (holds w) (spare w);
     };
     read = λ w. let all = laid w in sym (cards-back image nodes cards found.many all.held);

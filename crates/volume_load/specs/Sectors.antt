@@ -1,8 +1,10 @@
 -- One sector.
-use Rattle.std.specs.Prelude.{◌≡◌, ◌≤◌, ◌<◌, ◌+◌, ℕ, Bool, List, slice_index}
+use Rattle.std.specs.Prelude.{◌≡◌, ◌≤◌, ◌<◌, ◌+◌, ℕ, ⊤, Bool, List, slice_index}
 use Rattle.disk.specs.Moments.{Image}
-use Rattle.freemap.specs.Places.{bit_of, mark_of}
+use Rattle.freemap.specs.Places.{ShowsPlaces, bit_of, mark_of}
 use Rattle.disk.specs.Calls.{zero_sector}
+use Rattle.layout.specs.declared.versions.Marking.{Marking}
+use Rattle.layout.specs.declared.versions.Marking.TheVariants.{InSectors, AsNamed}
 
 abbrev pub AreZeroFrom : List ℕ → (from : ℕ) → Type 0
 AreZeroFrom content from = (at : ℕ) → from ≤ at → slice_index content at ≡ 0
@@ -14,3 +16,15 @@ AreSpare image = (n : ℕ) → 145 ≤ n → n < 147 → image n ≡ zero_sector
 -- the bits of a sector are the places from `first` on
 abbrev pub AreBits : List ℕ → List Bool → (first : ℕ) → Type 0
 AreBits content places first = (i : ℕ) → i < 32768 → bit_of content i ≡ mark_of places (first + i)
+
+-- sectors 98 and 99 have these places' bits, if they are to mark them
+abbrev pub HaveBits : Marking → Image → List Bool → Type 0
+HaveBits InSectors image places =
+    AreBits (image 98) places 0 × AreBits (image 99) places 32768
+HaveBits AsNamed image places = ⊤
+
+-- and show them, and nothing else
+abbrev pub ShowMarks : Marking → Image → List Bool → Type 0
+ShowMarks InSectors image places =
+    ShowsPlaces (image 98) places 0 × ShowsPlaces (image 99) places 32768
+ShowMarks AsNamed image places = ⊤

@@ -2,6 +2,7 @@
 use Rattle.std.specs.Prelude.{◌≡◌, ◌≤◌, ◌+◌, ℕ, Bool, List, Option, Some, None, length}
 use Rattle.std.specs.Prelude.{slice_index_or}
 use Rattle.disk.specs.Moments.{Image}
+use Rattle.layout.specs.declared.versions.Marking.{Marking}
 use Rattle.layout.specs.declared.versions.VersionNumber.{VersionNumber}
 use Rattle.layout.specs.CachedNodes.{CachedNode, cards_in}
 use Rattle.model_tree.specs.Seats.Seats.{Seats}
@@ -9,7 +10,7 @@ use Rattle.model_tree.specs.Trees.Tree.{Tree}
 use Rattle.layout.specs.Known.{AreCards}
 use Rattle.layout.specs.Marks.{mark_by}
 use Rattle.layout.specs.Stands.{Version, AreKept, HaveForms, IsLaid, IsMark, MayHaveSeats, TreeStands}
-use Rattle.layout.specs.Stands.{version_by}
+use Rattle.layout.specs.Stands.{version_by, with_region}
 
 -- no node has more blocks than a file may have
 abbrev pub AreFew : List (Option CachedNode) → Type 0
@@ -19,18 +20,20 @@ AreFew cards = (place : ℕ) (card : CachedNode) → slice_index_or cards place 
 -- A mark of a migration, seats that a volume with it may keep after `run` mounts, cached nodes in
 -- the forms that it gives, and marks of the whole data region that are what they name, whatever the
 -- sectors hold; and if the device keeps its word, the sectors hold this mark, these seats and these
--- cached nodes, which are those that are read from the image
-pub record IsRead (word : Type 0) (size nodes : ℕ) (number : VersionNumber) (run : ℕ)
-    (mark : Option ℕ) (seats : Seats) (image : Image) (cards : List (Option CachedNode))
-    (places : List Bool) : Type 0 where
+-- cached nodes, which are those that are read from the image. The data region ends at `data_end`, and
+-- `marking` says what marks its used sectors
+pub record IsRead (word : Type 0) (size nodes : ℕ) (marking : Marking) (data_end : ℕ)
+    (number : VersionNumber) (run : ℕ) (mark : Option ℕ) (seats : Seats) (image : Image)
+    (cards : List (Option CachedNode)) (places : List Bool) : Type 0 where
   pub marked : IsMark number nodes mark
   pub may : MayHaveSeats number mark seats
   pub keeps : AreKept run seats
   pub known : AreCards nodes (mark_by (148 + nodes) places) cards
   pub forms : HaveForms (version_by number mark seats) cards
   pub few : AreFew cards
-  pub size_is : size ≡ 148 + nodes + length places
-  pub laid : word → IsLaid (version_by number mark seats) size nodes image cards
+  pub end_is : data_end ≡ 148 + nodes + length places
+  pub laid : word → IsLaid (with_region marking data_end (version_by number mark seats)) size nodes
+      image cards
   pub read : word → cards ≡ cards_in nodes image
 
 -- If a volume holds a tree, and its version's files have at most 16 MiB, the cached nodes that are

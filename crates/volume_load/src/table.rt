@@ -1,6 +1,6 @@
 //! The cached node of a place, and those of a table.
 
-ghost use Rattle.std.specs.Prelude.{◌≡◌, ◌<◌, ◌+◌, ◌/◌, ◌^◌, ℕ, List, Option, Some, length};
+ghost use Rattle.std.specs.Prelude.{◌≡◌, ◌≤◌, ◌<◌, ◌+◌, ◌/◌, ◌^◌, ℕ, List, Option, Some, length};
 ghost use Rattle.std.specs.Prelude.{replicate, false, IfOk, IsErrOf, None, IsTrue, ◌↔◌};
 ghost use Rattle.extents.specs.declared.run.Run.{Run};
 ghost use Rattle.inode.specs.Fields.{fields_of, IsInode};
@@ -49,7 +49,7 @@ fn read_blocks<S: Sectors>(
 ) -> Result<Laid, ScanFault>
     requires enough { length inode.now.run_sectors.items
         ≡ divided_up inode.now.runs MAX_SECTOR_RUNS }
-    requires size { first + length places.old ≡ S.size (S.kept sectors.old) }
+    requires within { first + length places.old ≤ S.size (S.kept sectors.old) }
     ensures found { IfOk result (λ laid. FindsBlocks S.keeps_word (S.image (S.kept sectors.old))
         (fields_of inode.now) laid.runs.items laid.blocks) }
     ensures within { IfOk result
@@ -87,7 +87,7 @@ fn read_card<S: Sectors>(
     inode: Inode,
 ) -> Result<CachedNode, ScanFault>
     requires fits { IsInode form (fields_of inode) }
-    requires size { first + length places.old ≡ S.size (S.kept sectors.old) }
+    requires within { first + length places.old ≤ S.size (S.kept sectors.old) }
     ensures fields { IfOk result (λ cached. cached.fields ≡ fields_of inode) }
     ensures form { IfOk result (λ cached. cached.form ≡ form) }
     ensures found { IfOk result (FindsRest S.keeps_word (S.image (S.kept sectors.old))) }
@@ -125,7 +125,7 @@ fn read_place<S: Sectors>(
     form: Form,
 ) -> Result<Option<CachedNode>, ScanFault>
     requires place { NODES + place < first }
-    requires size { first + length places.old ≡ S.size (S.kept sectors.old) }
+    requires within { first + length places.old ≤ S.size (S.kept sectors.old) }
     ensures found { IfOk result
         (FindsPlace S.keeps_word form (S.image (S.kept sectors.old)) place) }
     ensures marked { IfOk result (λ cached. AreMarked first places.old places.new
@@ -158,7 +158,7 @@ pub(crate) fn read_table<S: Sectors>(
     mark: Option<u32>,
 ) -> Result<Vec<Option<CachedNode>>, ScanFault>
     requires few { NODES + nodes < 2 ^ 32 }
-    requires size { NODES + nodes + length places.old ≡ S.size (S.kept sectors.old) }
+    requires within { NODES + nodes + length places.old ≤ S.size (S.kept sectors.old) }
     requires free { places.old ≡ replicate (length places.old) false }
     ensures found { IfOk result (λ cards. IsFound S.keeps_word
         (version_by number mark no_seats).form (S.image (S.kept sectors.old)) nodes

@@ -1,15 +1,14 @@
 //! A whole volume.
 
 ghost use Rattle.std.specs.Prelude.{◌≡◌, ◌≤◌, ◌<◌, ◌+◌, ◌*◌, ℕ, List, Option, IfOk, OnOk, IsErrOf};
-ghost use Rattle.std.specs.Prelude.{IsTrue};
 ghost use Rattle.freemap.specs.Places.{ShowsPlaces};
 ghost use Rattle.layout.specs.CachedNodes as layout;
 ghost use Rattle.layout.specs.Health.{FailsOrStays};
 ghost use Rattle.layout.specs.Stands.{AreKept, IsLaid, IsMark, MayHaveSeats, version_by};
-ghost use Rattle.layout.specs.Superblock.{is_size};
+ghost use Rattle.layout.specs.Stands.{with_region};
 ghost use Rattle.model_tree.specs.Seats.Seats as model;
 ghost use Rattle.model_tree.specs.Seats.SeatViews.{seats_view};
-ghost use Rattle.volume_load.specs.Sectors.{AreBits, AreSpare};
+ghost use Rattle.volume_load.specs.Sectors.{AreBits, AreSpare, HaveBits, ShowMarks};
 ghost use Rattle.volume_load.specs.Volumes.{IsRead, AreFew};
 
 use crate::fault::ScanFault;
@@ -21,7 +20,7 @@ use disk::SECTOR;
 use freemap::{Bitmap, SECTOR_PLACES};
 use layout::places::{BEHIND_SEATS, BITMAP, MARK, NODES};
 use layout::sectors::Sectors;
-use layout::versions::VersionNumber;
+use layout::versions::{Marking, VersionNumber};
 use model_tree::seats::Seats;
 use node_table::CachedNode;
 use std::alloc::Global;
@@ -63,6 +62,33 @@ fn check_marks<S: Sectors>(sectors: &mut S, places: &Bitmap, part: u32) -> Resul
     Ok(())
 }
 
+/// Checks that the bitmap, if there is one, shows these places and nothing else.
+fn check_bitmap<S: Sectors>(
+    sectors: &mut S,
+    marking: Marking,
+    places: &Bitmap,
+) -> Result<(), ScanFault>
+    requires within { BITMAP + 2 ≤ S.size (S.kept sectors.old) }
+    ensures found { OnOk result (S.keeps_word
+        → ShowMarks marking (S.image (S.kept sectors.old)) places.now) }
+    // If it fails
+    ensures damaged { S.keeps_word → IsErrOf result ScanFault.Damaged
+        → ¬ HaveBits marking (S.image (S.kept sectors.old)) places.now }
+    // It only reads
+    ensures kept { S.kept sectors.new ≡ S.kept sectors.old }
+    ensures health { FailsOrStays (S.health sectors.old) (S.health sectors.new)
+        (IsErrOf result ScanFault.Device) }
+{
+    match marking {
+        Marking::InSectors => {
+            check_marks(sectors, places, 0)?;
+            check_marks(sectors, places, 1)?;
+        }
+        Marking::AsNamed => {}
+    }
+    Ok(())
+}
+
 /// Checks that the sectors between the seats and the mark are zero.
 fn check_spare<S: Sectors>(sectors: &mut S) -> Result<(), ScanFault>
     requires within { MARK ≤ S.size (S.kept sectors.old) }
@@ -84,10 +110,10 @@ fn check_spare<S: Sectors>(sectors: &mut S) -> Result<(), ScanFault>
     Ok(())
 }
 
-/// Reads a volume of `size` sectors and `nodes` nodes, of this version and mounted `run` times, as
-/// its superblock says: the mark of its migration, the seats that it keeps, the cached nodes that
-/// its sectors hold, each in the form of its place, and the places of the data region that these
-/// use.
+/// Reads a volume of `nodes` nodes, of this version and mounted `run` times, as its superblock says:
+/// the mark of its migration, the seats that it keeps, the cached nodes that its sectors hold, each
+/// in the form of its place, and the places of the data region that these use. The data region ends
+/// at sector `data_end`, and `marking` says what marks its used sectors.
 ///
 /// # Errors
 ///
@@ -97,21 +123,24 @@ fn check_spare<S: Sectors>(sectors: &mut S) -> Result<(), ScanFault>
 pub fn read_volume<S: Sectors>(
     alloc: Global,
     sectors: &mut S,
-    size: u32,
     nodes: u32,
+    marking: Marking,
+    data_end: u32,
     number: VersionNumber,
     run: u32,
 ) -> Result<Contents, ScanFault>
-    requires sized { IsTrue (is_size size nodes) }
-    requires size { S.size (S.kept sectors.old) ≡ size }
-    ensures found { IfOk result (λ contents. IsRead S.keeps_word size nodes number run contents.mark
-        (seats_view contents.seats) (S.image (S.kept sectors.old)) contents.cards.items
-        contents.places) }
+    requires region { NODES + nodes ≤ data_end }
+    requires within { data_end ≤ S.size (S.kept sectors.old) }
+    requires few { marking ≡ Marking.InSectors → data_end ≤ NODES + nodes + 2 * SECTOR_PLACES }
+    ensures found { IfOk result (λ contents. IsRead S.keeps_word (S.size (S.kept sectors.old)) nodes
+        marking data_end number run contents.mark (seats_view contents.seats)
+        (S.image (S.kept sectors.old)) contents.cards.items contents.places) }
     // If it fails
     ensures damaged { S.keeps_word → IsErrOf result ScanFault.Damaged
         → (mark : Option ℕ) (seats : model.Seats) (cards : List (Option layout.CachedNode))
         → IsMark number nodes mark → MayHaveSeats number mark seats → AreKept run seats
-        → IsLaid (version_by number mark seats) size nodes (S.image (S.kept sectors.old)) cards
+        → IsLaid (with_region marking data_end (version_by number mark seats))
+        (S.size (S.kept sectors.old)) nodes (S.image (S.kept sectors.old)) cards
         → ¬ AreFew cards }
     // It only reads
     ensures kept { S.kept sectors.new ≡ S.kept sectors.old }
@@ -119,13 +148,12 @@ pub fn read_volume<S: Sectors>(
         (IsErrOf result ScanFault.Device) }
 {
     let mark = read_mark(sectors, number, nodes)?;
-    let mut places = Bitmap::new(alloc, size - NODES - nodes)?;
+    let mut places = Bitmap::new(alloc, data_end - NODES - nodes)?;
     let cards = read_table(alloc, sectors, &mut places, nodes, number, mark)?;
     if !are_numbered(alloc, &cards)? {
         return Err(ScanFault::Damaged);
     }
-    check_marks(sectors, &places, 0)?;
-    check_marks(sectors, &places, 1)?;
+    check_bitmap(sectors, marking, &places)?;
     check_spare(sectors)?;
     let seats = read_seats(alloc, sectors, run, may_keep(number, mark))?;
     Ok(Contents {

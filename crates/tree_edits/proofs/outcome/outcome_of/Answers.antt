@@ -20,7 +20,7 @@ returns-clause-done g c =
       cards_are = c.in_ok-transaction.ensures.cards;
     } in
     let table_is = ap (λ (over : Overlaid). over.table) c.finish.ensures.cards ∙ c.edit_all.ensures.kept.1 ∙ c.in_ok-transaction.ensures.table in
-    comes_to (S.size kept) table c.args.places.now c.requires.whole transaction begun S.keeps_word (S.image kept) c.args.edits.now mid last outcome
+    comes_to c.args.marking (S.size kept) table c.args.places.now c.requires.whole transaction begun S.keeps_word (S.image kept) c.args.edits.now mid last outcome
     c.in_ok-edit_all.ensures.done.does c.in_ok-finish.ensures.laid (ap (λ (over : Overlaid). over.cards) c.finish.ensures.cards)
     (ap (λ (cards : List (Option CachedNode)). overlaid cards outcome.changes) (sym table_is) ∙ c.into_prepared.ensures.changes)
     c.into_prepared.ensures.updates (c.into_prepared.ensures.places ∙ c.finish.ensures.places)

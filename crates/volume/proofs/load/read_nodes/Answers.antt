@@ -12,7 +12,7 @@ use Rattle.model_tree.specs.Trees.Stamp.{stamp}
 use Rattle.tree_check.specs.WellFormed.{AreWellFormed}
 use Rattle.volume.specs.Refusals.{mount_fault, table_fault}
 use Rattle.volume.specs.declared.fault.MountFault.TheVariants as mounts
-use Rattle.volume.proofs.LoadLaws.{asked, err_is, found_stands, known_second, laid_told, none_stands, only_damaged, only_same, second_numbered, stands_few}
+use Rattle.volume.proofs.LoadLaws.{asked, err_is, found_stands, known_second, laid_own, laid_told, none_stands, only_damaged, only_same, second_numbered, stands_few}
 use Rattle.volume.proofs.ChangeLaws.{own_places}
 use Rattle.volume.proofs.ServeLaws.{told_err}
 use Rattle.volume.proofs.load.read_nodes.Goals as goal
@@ -39,7 +39,8 @@ returns-in_err-contents-clause-damaged g c = λ k is kept stands.
     let laid = laid_told found.version found.sectors found.nodes found.run image kept (c.requires.base k).first stands in
     stands_few found.sectors found.nodes found.run image kept
     (λ n within. (c.requires.base k).sectors n (subst (λ (s : ℕ). n < s) c.requires.volume.size within)) stands
-    (c.in_err-contents.ensures.damaged k (ap (λ x. Err x) damaged) laid.0 kept.seats (cards_in found.nodes image) laid.1 laid.2 stands.keeps laid.3)
+    (c.in_err-contents.ensures.damaged k (ap (λ x. Err x) damaged) laid.0 kept.seats (cards_in found.nodes image) laid.1 laid.2 stands.keeps
+    ((laid_own found.version laid.0 kept.seats (g.S.Sectors.size (g.S.Sectors.kept c.args.sectors.now)) found.sectors found.nodes image (cards_in found.nodes image) (sym c.requires.volume.size)).1 laid.3))
 
 pub from_cards-requires-clause-numbered : goal.from_cards-requires-clause-numbered
 from_cards-requires-clause-numbered g c =
@@ -55,7 +56,7 @@ returns-in_err-table-clause-damaged g c = λ k is kept stands.
     let fault = c.in_err-table.field-0.0 in
     let told = told_err c.from_residual-in_err-table.result (table_fault fault) c.from_residual-in_err-table.ensures.1 in
     let same = only_same fault (err_is c.from_residual-in_err-table.result (table_fault fault) mounts.Damaged told is) in
-    let known = known_second found.sectors found.nodes contents.cards.items contents.places c.in_ok-contents.ensures.found.known c.in_ok-contents.ensures.found.size_is in
+    let known = known_second found.sectors found.nodes contents.cards.items contents.places c.in_ok-contents.ensures.found.known c.in_ok-contents.ensures.found.end_is in
     c.in_err-table.ensures.same (ap (λ x. Err x) same)
     (subst HaveOwnPlaces (sym c.in_ok-all_second.ensures) (own_places (all_second contents.cards.items) known.are_cards.apart))
 
@@ -67,7 +68,7 @@ returns-then-not-branch-clause-damaged g c = λ k is kept stands.
     let cards : List (Option CachedNode) = contents.cards.items in
     let table : c.in_ok-table.table ≡ all_second cards = c.in_ok-table.ensures.table ∙ c.in_ok-all_second.ensures in
     none_stands found.version contents.mark (seats_view contents.seats) found.sectors found.nodes found.run image cards
-    (c.in_ok-contents.ensures.found.laid k)
+    ((laid_own found.version contents.mark (seats_view contents.seats) (g.S.Sectors.size (g.S.Sectors.kept c.args.sectors.now)) found.sectors found.nodes image cards (sym c.requires.volume.size)).0 (c.in_ok-contents.ensures.found.laid k))
     (c.in_ok-contents.ensures.found.read k)
     (λ n within. (c.requires.base k).sectors n (subst (λ (s : ℕ). n < s) c.requires.volume.size within))
     c.requires.volume.sized
@@ -88,7 +89,7 @@ returns-clause-loaded g c =
     asked c.of_volume-limits.result (limits_of found.sectors found.nodes) (c.stamp-last_stamp.result + 1) (stamp (found.run + 1) 0) c.in_ok-table.table (all_second cards)
     c.of_volume-limits.ensures (omega (arith, c.stamp-last_stamp.ensures)) table (c.in_ok-are_well_formed.ensures.0 c.if-not-branch.false) in
     rw (table, c.in_ok-places.ensures) (record {
-      known = known_second found.sectors found.nodes cards contents.places c.in_ok-contents.ensures.found.known c.in_ok-contents.ensures.found.size_is;
+      known = known_second found.sectors found.nodes cards contents.places c.in_ok-contents.ensures.found.known c.in_ok-contents.ensures.found.end_is;
       well_formed = ∣ well_formed ∣₁;
       marked = c.in_ok-contents.ensures.found.marked;
       may = c.in_ok-contents.ensures.found.may;
@@ -100,7 +101,7 @@ returns-clause-loaded g c =
         may = c.in_ok-contents.ensures.found.may;
         keeps = c.in_ok-contents.ensures.found.keeps;
         stands = found_stands found.version contents.mark (seats_view contents.seats) found.sectors found.nodes found.run image cards
-            (c.in_ok-contents.ensures.found.laid k)
+            ((laid_own found.version contents.mark (seats_view contents.seats) (g.S.Sectors.size (g.S.Sectors.kept c.args.sectors.now)) found.sectors found.nodes image cards (sym c.requires.volume.size)).0 (c.in_ok-contents.ensures.found.laid k))
             (c.in_ok-contents.ensures.found.read k)
             (λ n within. (c.requires.base k).sectors n (subst (λ (s : ℕ). n < s) c.requires.volume.size within))
             c.requires.volume.sized (omega arith) (c.requires.base k).first well_formed;

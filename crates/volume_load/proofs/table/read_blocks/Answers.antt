@@ -1,4 +1,4 @@
-use Rattle.std.proofs.Common.{◌≡◌, ◌+◌, ◌∙◌, ℕ, List, Option, sym, ap, subst}
+use Rattle.std.proofs.Common.{◌≡◌, ◌∙◌, ℕ, List, Option, sym, ap, subst, arith}
 use Rattle.std.specs.Prelude.{Err}
 use Rattle.extents.specs.declared.run.Run.{Run}
 use Rattle.extents.specs.Runs.{AreRunsOf}
@@ -16,7 +16,7 @@ pub read_runs-requires-clause-within : goal.read_runs-requires-clause-within
 read_runs-requires-clause-within g c =
     let size = g.S.Sectors.size (g.S.Sectors.kept c.args.sectors.now) in
     let marked = subst (λ (l : List ℕ). AreMarked c.args.first c.args.places.now c.mark_sectors.new.places (λ n. times n l)) c.deref.ensures.value (c.mark_sectors.ensures.marked c.if-not-mark_sectors.false) in
-    subst (λ (l : List ℕ). SectorsWithin size l) (sym c.deref-2.ensures.value) (sectors_within c.args.first c.args.places.now c.mark_sectors.new.places c.args.inode.now.run_sectors.items size marked c.requires.size)
+    subst (λ (l : List ℕ). SectorsWithin size l) (sym c.deref-2.ensures.value) (sectors_within c.args.first c.args.places.now c.mark_sectors.new.places c.args.inode.now.run_sectors.items size marked c.requires.within)
 
 pub returns-in_err-blocks-clause-damaged : goal.returns-in_err-blocks-clause-damaged
 returns-in_err-blocks-clause-damaged g c = λ word is runs blocks found can.
@@ -42,4 +42,4 @@ pub returns-clause-within : goal.returns-clause-within
 returns-clause-within g c =
     let size = g.S.Sectors.size (g.S.Sectors.kept c.args.sectors.now) in
     let marked = c.mark_sectors.ensures.marked c.if-not-mark_sectors.false in
-    blocks_within c.args.first c.mark_sectors.new.places c.mark_blocks.new.places c.in_ok-blocks.blocks size (c.mark_blocks.ensures.marked c.if-not-mark_blocks.false) (ap (λ (n : ℕ). c.args.first + n) marked.len ∙ c.requires.size)
+    blocks_within c.args.first c.mark_sectors.new.places c.mark_blocks.new.places c.in_ok-blocks.blocks size (c.mark_blocks.ensures.marked c.if-not-mark_blocks.false) (omega (arith, marked.len, c.requires.within))

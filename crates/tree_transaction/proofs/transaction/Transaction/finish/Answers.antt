@@ -1,25 +1,36 @@
-use Rattle.std.proofs.Common.{◌∙◌, arith}
+use Rattle.std.proofs.Common.{◌∙◌, refl, subst, arith}
+use Rattle.layout.specs.declared.versions.Marking.{Marking}
 use Rattle.tree_transaction.specs.Transactions.{end_of}
+use Rattle.tree_transaction.specs.Whole.{AreMarked}
 use Rattle.tree_transaction.proofs.UpdateLaws.{between-wider}
-use Rattle.tree_transaction.proofs.WholeLaws.{tree_same, marks_written, spare_still, marked_below, marks_between}
+use Rattle.tree_transaction.proofs.WholeLaws.{tree_same, marks_written, named_laid, spare_still, marked_below, marks_between}
 use Rattle.tree_transaction.proofs.transaction.Transaction.finish.Goals as goal
 
-pub returns-clause-laid : goal.returns-clause-laid
-returns-clause-laid c = λ version base size transaction whole marked.
+pub returns-in_ok-put_marks-in-InSectors-2-clause-laid : goal.returns-in_ok-put_marks-in-InSectors-2-clause-laid
+returns-in_ok-put_marks-in-InSectors-2-clause-laid c = λ version base size marking transaction whole marked.
     let nodes = c.args.self.now.nodes in
-    let low = c.in_ok-put_marks.ensures.image base in
-    let high = c.in_ok-put_marks-2.ensures.image base in
+    let low = c.in_ok-put_marks-in-InSectors.ensures.image base in
+    let high = c.in_ok-put_marks-in-InSectors-2.ensures.image base in
     record {
-      laid = marks_written nodes size version _ _ _ c.args.before.now c.args.self.now.places c.args.self.now.cards.cards transaction.laid low high whole.size_is whole.few whole.forms
-          (λ n front back. spare_still c.args.self.now.updates (end_of c.args.self.now) base n c.requires.targets back ∙ whole.spare n front back) (marked_below c.args.self.now.updates (end_of c.args.self.now) base c.args.before.now c.requires.targets marked);
+      laid = marks_written nodes size version _ _ _ c.args.before.now c.args.self.now.places c.args.self.now.cards.cards transaction.laid low high whole.end_is (whole.few (marking ∙ c.in-InSectors.is)) whole.forms
+          (λ n front back. spare_still c.args.self.now.updates (end_of c.args.self.now) base n c.requires.targets back ∙ whole.spare n front back) (marked_below c.args.self.now.updates (end_of c.args.self.now) base c.args.before.now c.requires.targets (subst (λ (m : Marking). AreMarked m base c.args.before.now) c.in-InSectors.is marked));
       tree_is = tree_same nodes size version _ _ _ c.args.before.now c.args.self.now.places c.args.self.now.cards.cards transaction.laid low high;
     }
 
-pub returns-clause-targets : goal.returns-clause-targets
-returns-clause-targets c =
+pub returns-in_ok-put_marks-in-InSectors-2-clause-targets : goal.returns-in_ok-put_marks-in-InSectors-2-clause-targets
+returns-in_ok-put_marks-in-InSectors-2-clause-targets c =
     let old = c.args.self.now in
     record {
-      between = marks_between (end_of old) 1 c.put_marks.new.updates c.put_marks-2.new.updates c.args.before.now old.places (omega arith) (omega arith) c.in_ok-put_marks-2.ensures.image
-          (marks_between (end_of old) 0 old.updates c.put_marks.new.updates c.args.before.now old.places (omega arith) (omega arith) c.in_ok-put_marks.ensures.image (between-wider 148 98 (end_of old) old.updates (omega arith) c.requires.targets));
-      apart = c.put_marks-2.ensures.apart;
+      between = marks_between (end_of old) 1 c.put_marks.new.updates c.put_marks-in-InSectors.new.updates c.args.before.now old.places (omega arith) (omega arith) c.in_ok-put_marks-in-InSectors-2.ensures.image
+          (marks_between (end_of old) 0 old.updates c.put_marks.new.updates c.args.before.now old.places (omega arith) (omega arith) c.in_ok-put_marks-in-InSectors.ensures.image (between-wider 148 98 (end_of old) old.updates (omega arith) c.requires.targets));
+      apart = c.put_marks-in-InSectors.ensures.apart;
+    }
+
+pub returns-in-AsNamed-clause-laid : goal.returns-in-AsNamed-clause-laid
+returns-in-AsNamed-clause-laid c = λ version base size marking transaction whole marked.
+    let old = c.args.self.now in
+    record {
+      laid = named_laid old.nodes size version _ old.places old.cards.cards transaction.laid (marking ∙ c.in-AsNamed.is) whole.end_is whole.forms
+          (λ n front back. spare_still old.updates (end_of old) base n c.requires.targets back ∙ whole.spare n front back);
+      tree_is = refl;
     }

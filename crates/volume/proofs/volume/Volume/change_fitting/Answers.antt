@@ -1,5 +1,6 @@
 use Rattle.std.proofs.Common.{◌≡◌, ◌≤◌, ◌+◌, ◌*◌, ◌∙◌, ℕ, false, List, Option, length, refl, sym, ap, subst, arith}
 use Rattle.std.specs.Prelude.{IsTrue, Err}
+use Rattle.tree_transaction.specs.Updates.{AreTreeUpdates}
 use Rattle.tree_edits.specs.Outcomes.{cards_after}
 use Rattle.tree_edits.proofs.BlankLaws.{each_outline}
 use Rattle.disk.specs.Moments.{moment}
@@ -23,7 +24,7 @@ use Rattle.volume.specs.Refusals.{fault_of}
 use Rattle.volume.specs.Views.{volume_state_by, volume_state, volume_failures}
 use Rattle.volume.specs.VolumeState.{with_tree}
 use Rattle.volume.proofs.ApplyLaws.{applied_serves, applied_tree, apply_done, apply_refused}
-use Rattle.volume.proofs.ChangeLaws.{behind_serving, formed_after, journal_targets, known_after, log_same, may_settle, outline_after, parents_behind}
+use Rattle.volume.proofs.ChangeLaws.{behind_serving, formed_after, journal_targets, known_after, log_same, may_settle, outline_after, parents_behind, whole_now, whole_volume}
 use Rattle.volume.proofs.EditLaws.{front_room, outline_doable, outline_few}
 use Rattle.volume.proofs.ServeLaws.{few_in_front, told_err}
 use Rattle.volume.proofs.StandLaws.{placed_on}
@@ -37,6 +38,12 @@ returns-then-is_down-clause-volume g c = left g.D.Device.keeps_word _ (volume_st
 
 pub returns-in_err-apply-clause-shows : goal.returns-in_err-apply-clause-shows
 returns-in_err-apply-clause-shows g c = rw (told_err c.from_residual-in_err-apply.result (fault_of c.in_err-apply.field-0.0) c.from_residual-in_err-apply.ensures.1) (tt)
+
+pub outcome_of-requires-clause-whole : goal.outcome_of-requires-clause-whole
+outcome_of-requires-clause-whole g c =
+    let volume = c.args.self.now in
+    let log : Log = log_of volume.store.journal in
+    whole_volume log.size volume.limits.nodes volume.table volume.places volume.sized volume.known
 
 pub outcome_of-requires-clause-can : goal.outcome_of-requires-clause-can
 unfolding volume_state
@@ -71,7 +78,8 @@ apply-requires g c =
     let mid : Log = log_of c.outcome_of.new.base.journal in
     subst (λ (n : ℕ). AreTargets n (targets c.in_ok-outcome.outcome.updates.items))
     (ap (λ (area : LogArea). area.end) (sym c.args.self.now.placed) ∙ ap (λ (log : Log). log.area.end) (sym c.in_ok-outcome.ensures.kept))
-    (journal_targets old.size c.in_ok-outcome.outcome.updates.items c.in_ok-outcome.ensures.done.targets)
+    (journal_targets old.size c.in_ok-outcome.outcome.updates.items
+    (subst (λ (n : ℕ). AreTreeUpdates n c.in_ok-outcome.outcome.updates.items) (sym (whole_now c.args.self.now.known)) c.in_ok-outcome.ensures.done.targets))
 
 pub settle-requires : goal.settle-requires
 unfolding volume_state
@@ -173,7 +181,7 @@ invariant_of-self-2 g c =
       serves = λ k is_up. subst (λ (cards : List (Option CachedNode)). ∥ IsServing new nodes volume.run cards ∥₁) settled
           (applied_serves word volume.limits volume.run volume.table (cards_after volume.table outcome) old new outcome.updates.items (with_tree held (edited_by held edits)) 0 0
           safe volume.placed (omega arith) is_up has (λ kept. volume.serves kept up)
-          (λ kept. behind_serving word kept nodes volume.run old volume.table volume.places edits outcome volume.known.are_cards.count comes
+          (λ kept. behind_serving word kept nodes volume.run old volume.table volume.places edits outcome volume.known.are_cards.count (whole_now volume.known) comes
           (subst (λ l. IsFormed l (stamp (volume.run + 1) 0) (edited_by held edits)) volume.limited (c.requires.change.formed fit)) (volume.serves kept up)) k);
     }
 
@@ -202,7 +210,7 @@ returns-clause-volume g c =
     (apply_done word volume.limits volume.run volume.table (cards_after volume.table outcome) old new outcome.updates.items (with_tree held (edited_by held edits))
     (journal_failures volume.store.journal) (journal_failures c.apply.new.self) safe volume.placed (let later = c.in_ok-apply.ensures.answers.later in omega (arith, later, failed))
     (c.in_ok-apply.ensures.answers.stays_up (ap (λ (log : Log). log.is_down) same ∙ up) (λ fault. cc)) has (λ kept. volume.serves kept up)
-    (λ kept. behind_serving word kept nodes volume.run old volume.table volume.places edits outcome volume.known.are_cards.count c.in_ok-outcome.ensures.done
+    (λ kept. behind_serving word kept nodes volume.run old volume.table volume.places edits outcome volume.known.are_cards.count (whole_now volume.known) c.in_ok-outcome.ensures.done
     (subst (λ l. IsFormed l (stamp (volume.run + 1) 0) (edited_by held edits)) volume.limited (c.requires.change.formed fit)) (volume.serves kept up))
     (c.in_ok-apply.ensures.answers.none (λ fault. cc) ∙ failed))
 
@@ -231,6 +239,6 @@ returns-clause-shows g c =
       outline = outline_after word volume.limits volume.run old volume.table volume.places edits outcome c.requires.change volume.known c.in_ok-outcome.ensures.done (contents new);
       tree_is = λ k. applied_tree word volume.limits volume.run volume.table (cards_after volume.table outcome) old new outcome.updates.items (with_tree held (edited_by held edits)) 0 0
           safe volume.placed (omega arith) (c.in_ok-apply.ensures.answers.stays_up (ap (λ (log : Log). log.is_down) same ∙ up) (λ fault. cc)) has (λ kept. volume.serves kept up)
-          (λ kept. behind_serving word kept nodes volume.run old volume.table volume.places edits outcome volume.known.are_cards.count c.in_ok-outcome.ensures.done
+          (λ kept. behind_serving word kept nodes volume.run old volume.table volume.places edits outcome volume.known.are_cards.count (whole_now volume.known) c.in_ok-outcome.ensures.done
           (subst (λ l. IsFormed l (stamp (volume.run + 1) 0) (edited_by held edits)) volume.limited (c.requires.change.formed fit)) (volume.serves kept up)) k;
     })
