@@ -1,16 +1,18 @@
 -- Transactions that are flushed one by one, at each moment of it.
-use Rattle.std.proofs.Common.{◌≡◌, ◌≤◌, ◌<◌, ℕ, zero, suc, List, [], ◌∷◌, ◌++◌, length, take, drop, refl, sym, ap, ◌∙◌, subst, arith}
+use Rattle.std.proofs.Common.{◌≡◌, ◌≤◌, ◌<◌, ◌+◌, ◌*◌, ℕ, zero, suc, List, [], ◌∷◌, ◌++◌, length, take, drop, refl, sym, ap, ◌∙◌, subst, arith, ⊎_elim}
+use Rattle.std.proofs.lemmas.Bool.{cases_lt}
 use Rattle.disk.specs.declared.update.Update.{Update}
-use Rattle.disk.specs.Moments.{Image, AddsOnly, applied}
+use Rattle.disk.specs.Moments.{Image, AddsOnly, applied, moment}
 use Rattle.disk.proofs.MomentLemmas.{AddsOnly-same, AddsOnly-weaken, AddsOnly-join}
 use Rattle.journal.specs.declared.layout.LogArea.{LogArea}
-use Rattle.journal.specs.Calls.{IsSafe, HasApplied, list_with}
-use Rattle.journal.specs.Log.{Log, StandsForFront, applied_all}
+use Rattle.journal.specs.Calls.{GoesThroughFirst, IsSafe, HasApplied, flush_cost, list_with}
+use Rattle.journal.specs.Log.{Log, MakesAtMost, StandsForFront, applied_all}
 use Rattle.journal.specs.Settled.{AreSame, Settles}
+use Rattle.journal.specs.Transactions.{FitTogether, gathered, sectors_of}
 use Rattle.journal.proofs.Fronts.{settles_same, applied_keeps, applied_all-push}
 use Rattle.journal.proofs.Joins.{front_moved}
 use Rattle.migration.specs.Commits.{Commits, HasCommitted}
-use Rattle.migration.specs.Migrations.{StaysInPlace}
+use Rattle.migration.specs.Migrations.{StaysInPlace, transaction_cost}
 
 -- The log stays in its place
 
@@ -28,24 +30,41 @@ no_front [] zero base none = refl
 no_front [] (suc c) base none = refl
 no_front (us ∷ list) c base none = absurd (cc)
 
-pub first_commits : (keeps_word : Type 0) (list : List (List Update)) (old mid : Log) → old.list ≡ [] → IsSafe keeps_word old mid → Commits keeps_word list old mid
-first_commits keeps_word list old mid none safe = record {
+pub first_moments : (keeps_word : Type 0) (list : List (List Update)) (old mid : Log) → old.list ≡ [] → IsSafe keeps_word old mid
+    → keeps_word → AddsOnly (StandsForFront old.area old.base list) old.history mid.history
+first_moments keeps_word list old mid none safe word =
+    AddsOnly-weaken (StandsForFront old.area old.base old.list) (StandsForFront old.area old.base list) old.history mid.history
+    (λ image front. record {
+      count = 0;
+      within = omega arith;
+      settles = subst (Settles old.area image) (no_front old.list front.count old.base none) front.settles;
+    })
+    (safe.moments word)
+
+pub first_commits : (keeps_word : Type 0) (us : List Update) (old mid : Log) → old.list ≡ [] → IsSafe keeps_word old mid → Commits keeps_word (us ∷ []) old mid
+first_commits keeps_word us old mid none safe = record {
   place = record { area = safe.area; size = safe.size };
-  moments = λ word. AddsOnly-weaken (StandsForFront old.area old.base old.list) (StandsForFront old.area old.base list) old.history mid.history
-      (λ image front. record {
-        count = 0;
-        within = omega arith;
-        settles = subst (Settles old.area image) (no_front old.list front.count old.base none) front.settles;
-      })
-      (safe.moments word);
+  moments = first_moments keeps_word (us ∷ []) old mid none safe;
+  brief = λ word. let few = safe.brief word in omega (arith, few);
 }
 
-pub both_commit : (keeps_word : Type 0) (us : List Update) (old mid new : Log) → old.list ≡ [] → IsSafe keeps_word old mid → HasApplied keeps_word us old mid
-    → IsSafe keeps_word mid new → Commits keeps_word (us ∷ []) old new
-both_commit keeps_word us old mid new none safe has flushed = record {
+-- a transaction that nothing waits in front of is put there without a write
+put_free : (keeps_word : Type 0) (us : List Update) (was now : List ℕ) (old mid : Log) → old.list ≡ [] → HasApplied keeps_word us old mid
+    → GoesThroughFirst keeps_word us was now old mid → keeps_word → moment mid.history ≡ moment old.history
+put_free keeps_word us was now old mid none has gate word = ⊎_elim
+    (λ (wide : old.area.sectors < length (gathered [] (sectors_of (list_with old us)))).
+    let cost : moment mid.history ≡ moment old.history + flush_cost old.area was (sectors_of old.list) = (gate.flushed (λ fit. omega (arith, fit, wide))).cost word in
+    let free : flush_cost old.area was (sectors_of old.list) ≡ 0 = ap (λ (list : List (List Update)). flush_cost old.area was (sectors_of list)) none in
+    omega (arith, cost, free))
+    (λ (fit : FitTogether old.area (list_with old us)). ap (λ (log : Log). moment log.history) (has.kept fit).only)
+    (cases_lt old.area.sectors (length (gathered [] (sectors_of (list_with old us)))))
+
+pub both_commit : (keeps_word : Type 0) (us : List Update) (was now : List ℕ) (old mid new : Log) → old.list ≡ [] → IsSafe keeps_word old mid → HasApplied keeps_word us old mid
+    → GoesThroughFirst keeps_word us was now old mid → IsSafe keeps_word mid new → Commits keeps_word (us ∷ []) old new
+both_commit keeps_word us was now old mid new none safe has gate flushed = record {
   place = record { area = flushed.area ∙ safe.area; size = flushed.size ∙ safe.size };
   moments = λ word. AddsOnly-join (StandsForFront old.area old.base (us ∷ [])) old.history mid.history new.history
-      ((first_commits keeps_word (us ∷ []) old mid none safe).moments word)
+      (first_moments keeps_word (us ∷ []) old mid none safe word)
       (AddsOnly-weaken (StandsForFront mid.area mid.base mid.list) (StandsForFront old.area old.base (us ∷ [])) mid.history new.history
       (λ image front.
       let before = front_moved (list_with old us) old mid (has.moved word) front.count front.within in
@@ -57,18 +76,27 @@ both_commit keeps_word us old mid new none safe has flushed = record {
             (λ n k. sym (before.2 n k)) (subst (λ (area : LogArea). Settles area image (applied_all (take front.count mid.list) mid.base)) safe.area front.settles);
       }))
       (flushed.moments word));
+  brief = λ word.
+      let free = put_free keeps_word us was now old mid none has gate word in
+      let few : MakesAtMost (transaction_cost old.area) mid new = subst (λ (area : LogArea). MakesAtMost (transaction_cost area) mid new) safe.area (flushed.brief word) in
+      omega (arith, free, few);
 }
 
 -- The commit record is written again before them
 
 module _ (keeps_word : Type 0) (list : List (List Update)) (old mid new : Log) (base : keeps_word → mid.base ≡ old.base) (place : StaysInPlace old mid) where
-  pub then_commits : Commits keeps_word list old mid → Commits keeps_word list mid new → Commits keeps_word list old new
-  then_commits first commits = record {
-    place = stays_then place commits.place;
-    moments = λ word. AddsOnly-join (StandsForFront old.area old.base list) old.history mid.history new.history (first.moments word)
-        (subst (λ (image : Image). AddsOnly (StandsForFront old.area image list) mid.history new.history) (base word)
-        (subst (λ (area : LogArea). AddsOnly (StandsForFront area mid.base list) mid.history new.history) place.area (commits.moments word)));
-  }
+  pub then_moments : old.list ≡ [] → IsSafe keeps_word old mid → Commits keeps_word list mid new
+      → keeps_word → AddsOnly (StandsForFront old.area old.base list) old.history new.history
+  then_moments none safe commits word = AddsOnly-join (StandsForFront old.area old.base list) old.history mid.history new.history
+      (first_moments keeps_word list old mid none safe word)
+      (subst (λ (image : Image). AddsOnly (StandsForFront old.area image list) mid.history new.history) (base word)
+      (subst (λ (area : LogArea). AddsOnly (StandsForFront area mid.base list) mid.history new.history) place.area (commits.moments word)))
+
+  pub then_brief : MakesAtMost 2 old mid → Commits keeps_word list mid new → keeps_word → MakesAtMost (2 + length list * transaction_cost old.area) old new
+  then_brief first commits word =
+      let few : MakesAtMost (length list * transaction_cost old.area) mid new =
+      subst (λ (area : LogArea). MakesAtMost (length list * transaction_cost area) mid new) place.area (commits.brief word) in
+      omega (arith, first, few)
 
   pub then_committed : HasCommitted keeps_word list mid new → HasCommitted keeps_word list old new
   then_committed has = record {
@@ -87,6 +115,13 @@ pub record Going (keeps_word : Type 0) (list rest : List (List Update)) (old now
   pub place : StaysInPlace old now
   pub base : keeps_word → AreSame old.area.end (applied_all (take count list) old.base) now.base
   pub moments : keeps_word → AddsOnly (StandsForFront old.area old.base list) old.history now.history
+  -- what it has cost, and what the rest costs at most
+  pub brief : keeps_word
+      → moment now.history + length rest * transaction_cost old.area ≤ moment old.history + length list * transaction_cost old.area
+
+-- one more of them
+one_paid : (before now new rest cost all : ℕ) → now + suc rest * cost ≤ before + all → new ≤ now + 1 * cost → new + rest * cost ≤ before + all
+one_paid before now new rest cost all paid one = omega (arith, paid, one)
 
 pub going_starts : (keeps_word : Type 0) (list : List (List Update)) (old : Log) → Going keeps_word list list old old
 going_starts keeps_word list old = record {
@@ -96,6 +131,7 @@ going_starts keeps_word list old = record {
   place = record { area = refl; size = refl };
   base = λ word n k. refl;
   moments = λ word. AddsOnly-same (StandsForFront old.area old.base list) old.history;
+  brief = λ word. omega arith;
 }
 
 record IsNext (list : List (List Update)) (count : ℕ) (us : List Update) (rest : List (List Update)) : Type 0 where
@@ -136,6 +172,11 @@ module _ (keeps_word : Type 0) (list rest : List (List Update)) (us : List Updat
   }
   front_here word image (suc (suc c)) few settles = absurd (omega arith)
 
+  paid : keeps_word → moment new.history + length rest * transaction_cost old.area ≤ moment old.history + length list * transaction_cost old.area
+  paid word = one_paid (moment old.history) (moment now.history) (moment new.history) (length rest) (transaction_cost old.area) (length list * transaction_cost old.area)
+      (going.brief word)
+      (subst (λ (area : LogArea). MakesAtMost (1 * transaction_cost area) now new) going.place.area (commits.brief word))
+
   pub going_stops : Commits keeps_word list old new
   going_stops = record {
     place = stays_then going.place commits.place;
@@ -143,6 +184,7 @@ module _ (keeps_word : Type 0) (list rest : List (List Update)) (us : List Updat
         (AddsOnly-weaken (StandsForFront now.area now.base (us ∷ [])) (StandsForFront old.area old.base list) now.history new.history
         (λ image front. front_here word image front.count front.within (subst (λ (area : LogArea). Settles area image (applied_all (take front.count (us ∷ [])) now.base)) going.place.area front.settles))
         (commits.moments word));
+    brief = λ word. let few = paid word in omega (arith, few);
   }
 
   pub going_on : HasCommitted keeps_word (us ∷ []) now new → Going keeps_word list rest old new
@@ -153,4 +195,5 @@ module _ (keeps_word : Type 0) (list rest : List (List Update)) (us : List Updat
     place = going_stops.place;
     base = λ word n k. with_one word n k ∙ subst (λ (area : LogArea). AreSame area.end (applied us now.base) new.base) going.place.area (has.base word) n k;
     moments = going_stops.moments;
+    brief = paid;
   }

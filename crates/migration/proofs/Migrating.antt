@@ -1,11 +1,12 @@
 -- A migration and the end of it, by the transactions that the journal accepts.
-use Rattle.std.proofs.Common.{◌≡◌, ◌≤◌, ◌<◌, ◌+◌, ℕ, zero, suc, List, [], ◌∷◌, Option, None, Some, length, take, inl, inr, refl, sym, ap, ◌∙◌, subst, arith, ⊎_elim}
+use Rattle.std.proofs.Common.{◌≡◌, ◌≤◌, ◌<◌, ◌+◌, ◌*◌, ℕ, zero, suc, List, [], ◌∷◌, Option, None, Some, length, take, inl, inr, refl, sym, ap, ◌∙◌, subst, arith, ⊎_elim}
 use Rattle.std.proofs.lemmas.Bool.{cases_eq}
+use Rattle.std.proofs.lemmas.List.FromFn.{length-map-range_with_len}
 use Rattle.disk.specs.declared.update.Update.{Update}
 use Rattle.disk.specs.Calls.{zero_sector}
-use Rattle.disk.specs.Moments.{Image, put, applied}
+use Rattle.disk.specs.Moments.{Image, AddsOnly, put, applied}
 use Rattle.disk.proofs.MomentLemmas.{AddsOnly-weaken}
-use Rattle.journal.specs.Log.{Log, StandsForFront, applied_all}
+use Rattle.journal.specs.Log.{Log, MakesAtMost, StandsForFront, applied_all}
 use Rattle.journal.specs.Settled.{AreSame}
 use Rattle.journal.proofs.Images.{put_same, put_other}
 use Rattle.layout.specs.CachedNodes.{CachedNode, node_sector, cards_in}
@@ -19,8 +20,8 @@ use Rattle.layout.proofs.Rewriting.{form_stays, rewritten_stands, rewritten_card
 use Rattle.model_tree.specs.Seats.Seats.{no_seats}
 use Rattle.model_tree.specs.Trees.Tree.{Tree}
 use Rattle.migration.specs.Commits.{AreTransactions, Commits, HasCommitted}
-use Rattle.migration.specs.Migrations.{StandsStill, MovesSafely, HasMovedAll, ClearsSafely, HasCleared}
-use Rattle.migration.specs.Plans.{plan, clearing_updates}
+use Rattle.migration.specs.Migrations.{StandsStill, MovesSafely, HasMovedAll, ClearsSafely, HasCleared, transaction_cost}
+use Rattle.migration.specs.Plans.{plan, step_at, clearing_updates}
 use Rattle.migration.proofs.Transactions.{steps_take}
 use Rattle.migration.proofs.Reaching.{Reached, in_all, begins_reached, plan_front, plan_reaches, reached_all}
 
@@ -58,17 +59,22 @@ pub plan_takes : (end : ℕ) (cards : List (Option CachedNode)) (moved : ℕ) �
 plan_takes end cards moved below within = steps_take end cards moved (in_all (length cards) moved) 0 below (omega arith)
 
 module _ (keeps_word : Type 0) (moved : ℕ) (cards : List (Option CachedNode)) (old new : Log) (within : moved ≤ length cards) where
-  pub moves_safely : Commits keeps_word (plan cards moved) old new → keeps_word → MovesSafely moved cards old new
-  moves_safely commits word mark run tree begins =
-      let first = begins_reached mark moved run old.size tree cards old.base begins.marked begins.told begins.stands begins.read within in
-      AddsOnly-weaken (StandsForFront old.area old.base (plan cards moved)) (StandsStill 1 old.area old.size (length cards) run tree) old.history new.history
-      (λ image front. let there = plan_front old.size run tree cards moved old.base within first front.count front.within in ∣ record {
-        base = applied_all (take front.count (plan cards moved)) old.base;
-        settles = front.settles;
-        stands = there.0;
-        number_is = there.1;
-      } ∣₁)
-      (commits.moments word)
+  pub moves_safely : (keeps_word → AddsOnly (StandsForFront old.area old.base (plan cards moved)) old.history new.history)
+      → (keeps_word → MakesAtMost (2 + length (plan cards moved) * transaction_cost old.area) old new) → keeps_word → MovesSafely moved cards old new
+  moves_safely moments brief word = record {
+    moments = λ mark run tree begins.
+        let first = begins_reached mark moved run old.size tree cards old.base begins.marked begins.told begins.stands begins.read within in
+        AddsOnly-weaken (StandsForFront old.area old.base (plan cards moved)) (StandsStill 1 old.area old.size (length cards) run tree) old.history new.history
+        (λ image front. let there = plan_front old.size run tree cards moved old.base within first front.count front.within in ∣ record {
+          base = applied_all (take front.count (plan cards moved)) old.base;
+          settles = front.settles;
+          stands = there.0;
+          number_is = there.1;
+        } ∣₁)
+        (moments word);
+    brief = subst (λ (count : ℕ). MakesAtMost (2 + count * transaction_cost old.area) old new)
+        (length-map-range_with_len (step_at cards moved) 0 (in_all (length cards) moved)) (brief word);
+  }
 
   pub has_moved_all : old.area.end ≡ old.size → HasCommitted keeps_word (plan cards moved) old new → keeps_word → HasMovedAll moved cards old new
   has_moved_all whole has word mark run tree begins =
@@ -145,15 +151,18 @@ module _ (mark : Option ℕ) (size nodes run : ℕ) (image : Image) (tree : Tree
 
 module _ (keeps_word : Type 0) (old new : Log) where
   pub clears_safely : Commits keeps_word (clearing_updates ∷ []) old new → keeps_word → ClearsSafely old new
-  clears_safely commits word mark nodes run tree marked stands =
-      AddsOnly-weaken (StandsForFront old.area old.base (clearing_updates ∷ [])) (StandsStill 2 old.area old.size nodes run tree) old.history new.history
-      (λ image front. let there = either_stands mark old.size nodes run old.base tree stands marked front.count front.within in ∣ record {
-        base = applied_all (take front.count (clearing_updates ∷ [])) old.base;
-        settles = front.settles;
-        stands = there.0;
-        number_is = there.1;
-      } ∣₁)
-      (commits.moments word)
+  clears_safely commits word = record {
+    moments = λ mark nodes run tree marked stands.
+        AddsOnly-weaken (StandsForFront old.area old.base (clearing_updates ∷ [])) (StandsStill 2 old.area old.size nodes run tree) old.history new.history
+        (λ image front. let there = either_stands mark old.size nodes run old.base tree stands marked front.count front.within in ∣ record {
+          base = applied_all (take front.count (clearing_updates ∷ [])) old.base;
+          settles = front.settles;
+          stands = there.0;
+          number_is = there.1;
+        } ∣₁)
+        (commits.moments word);
+    brief = let few = commits.brief word in omega (arith, few);
+  }
 
   pub has_cleared : old.area.end ≡ old.size → HasCommitted keeps_word (clearing_updates ∷ []) old new → keeps_word → HasCleared old new
   has_cleared whole has word mark nodes run tree marked stands =

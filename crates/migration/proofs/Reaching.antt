@@ -1,5 +1,5 @@
 -- Each transaction of a migration leaves a volume of version 1 that holds the same tree.
-use Rattle.std.proofs.Common.{◌≡◌, ◌≤◌, ◌<◌, ◌+◌, ◌-◌, ◌*◌, ◌/◌, ◌⊎◌, ℕ, zero, suc, List, Option, Some, None, length, map, min, take, get_or, eq-eqb, inl, inr, refl, sym, ap, ◌∙◌, subst, arith, ⊎_elim}
+use Rattle.std.proofs.Common.{◌≡◌, ◌≤◌, ◌<◌, ◌+◌, ◌-◌, ◌*◌, ◌⊎◌, ℕ, zero, suc, List, Option, Some, None, length, map, min, take, get_or, eq-eqb, inl, inr, refl, sym, ap, ◌∙◌, subst, arith, ⊎_elim}
 use Rattle.std.specs.List.{range_with_len}
 use Rattle.std.proofs.lemmas.Bool.{cases_eq, cases_lt, le-leb, lt-leb}
 use Rattle.std.proofs.lemmas.List.FromFn.{length-map-range_with_len, take-map-range_with_len}
@@ -20,7 +20,7 @@ use Rattle.layout.proofs.SeatLaws.{no_seats_kept, spare_other}
 use Rattle.layout.proofs.Rewriting.{node_in_form, free_in_form, second_at, form_stays, rewritten_stands, rewritten_cards}
 use Rattle.model_tree.specs.Seats.Seats.{no_seats}
 use Rattle.model_tree.specs.Trees.Tree.{Tree}
-use Rattle.migration.specs.Plans.{moved_node, step, step_at, plan}
+use Rattle.migration.specs.Plans.{moved_node, step, step_at, plan, transactions_for}
 use Rattle.migration.proofs.Transactions.{mark_written, far_stays, node_written}
 
 -- the volume holds the tree, and the mark counts `moved` places
@@ -156,7 +156,7 @@ front_reaches size run tree cards moved (suc k) i (suc c) image front within rea
 
 -- so after each prefix of all of them the volume holds the tree
 abbrev pub in_all : (nodes moved : ℕ) → ℕ
-in_all nodes moved = (nodes - moved + 46) / 47
+in_all nodes moved = transactions_for (nodes - moved)
 
 pub begins_reached : (mark : Option ℕ) (moved run size : ℕ) (tree : Tree) (cards : List (Option CachedNode)) (image : Image) → IsMark numbers.One (length cards) mark → moved_by mark ≡ moved
     → TreeStands (version_1 mark) size (length cards) image run tree → cards ≡ all_second (cards_in (length cards) image) → moved ≤ length cards

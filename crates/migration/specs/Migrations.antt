@@ -1,13 +1,14 @@
 -- The effect of a migration on a volume.
-use Rattle.std.specs.Prelude.{◌≡◌, ℕ, false, List, [], Option, Some, length}
+use Rattle.std.specs.Prelude.{◌≡◌, ◌+◌, ◌-◌, ◌*◌, ℕ, false, List, [], Option, Some, length}
 use Rattle.disk.specs.Moments.{Image, AddsOnly}
 use Rattle.journal.specs.declared.layout.LogArea.{LogArea}
-use Rattle.journal.specs.Log.{Log}
+use Rattle.journal.specs.Log.{Log, MakesAtMost}
 use Rattle.journal.specs.Settled.{Settles}
 use Rattle.layout.specs.CachedNodes.{CachedNode, cards_in}
 use Rattle.layout.specs.Rewriting.{all_second}
 use Rattle.layout.specs.Stands.{Version, IsMark, TreeStands, StandsAs, bare, current_version, moved_by, version_1, version_2}
 use Rattle.layout.specs.declared.versions.VersionNumber.TheVariants as numbers
+use Rattle.migration.specs.Plans.{transactions_for}
 use Rattle.model_tree.specs.Seats.Seats.{no_seats}
 use Rattle.model_tree.specs.Trees.Tree.{Tree}
 
@@ -47,6 +48,10 @@ pub record StaysInPlace (old new : Log) : Type 0 where
   pub area : new.area ≡ old.area
   pub size : new.size ≡ old.size
 
+-- A transaction that is flushed makes at most this many writes and syncs, those of one flush.
+abbrev pub transaction_cost : LogArea → ℕ
+transaction_cost area = 2 * (area.sectors + 3)
+
 -- What a migration begins with: the volume holds the tree in version 1, its mark counts `moved`
 -- places, and the nodes are those of its sectors
 pub record BeginsMoving (mark : Option ℕ) (moved run : ℕ) (tree : Tree)
@@ -57,11 +62,13 @@ pub record BeginsMoving (mark : Option ℕ) (moved run : ℕ) (tree : Tree)
   pub stands : TreeStands (version_1 mark) log.size (length cards) log.base run tree
   pub read : cards ≡ all_second (cards_in (length cards) log.base)
 
--- At each moment the volume holds the tree in version 1, under the restart count that it had
-abbrev pub MovesSafely : (moved : ℕ) → List (Option CachedNode) → (old new : Log) → Type 0
-MovesSafely moved cards old new =
-    (mark : Option ℕ) (run : ℕ) (tree : Tree) → BeginsMoving mark moved run tree cards old
-    → AddsStill 1 (length cards) run tree old new
+-- However it ends: at each moment the volume holds the tree in version 1, under the restart count
+-- that it had. The commit record takes a write and a sync, and each transaction at most one flush.
+pub record MovesSafely (moved : ℕ) (cards : List (Option CachedNode)) (old new : Log) : Type 0 where
+  pub moments : (mark : Option ℕ) (run : ℕ) (tree : Tree)
+      → BeginsMoving mark moved run tree cards old → AddsStill 1 (length cards) run tree old new
+  pub brief : MakesAtMost (2 + transactions_for (length cards - moved) * transaction_cost old.area)
+      old new
 
 -- and in the end the mark counts all places
 abbrev pub HasMovedAll : (moved : ℕ) → List (Option CachedNode) → (old new : Log) → Type 0
@@ -69,12 +76,13 @@ HasMovedAll moved cards old new =
     (mark : Option ℕ) (run : ℕ) (tree : Tree) → BeginsMoving mark moved run tree cards old
     → IsMoved (version_1 (Some (length cards))) (length cards) run tree old new
 
--- The mark is removed from version 2, in which the volume holds the tree at each moment
-abbrev pub ClearsSafely : (old new : Log) → Type 0
-ClearsSafely old new =
-    (mark : Option ℕ) (nodes run : ℕ) (tree : Tree) → IsMark numbers.Two nodes mark
-    → TreeStands (version_2 mark no_seats) old.size nodes old.base run tree
-    → AddsStill 2 nodes run tree old new
+-- The mark is removed from version 2, in which the volume holds the tree at each moment, by one
+-- transaction
+pub record ClearsSafely (old new : Log) : Type 0 where
+  pub moments : (mark : Option ℕ) (nodes run : ℕ) (tree : Tree) → IsMark numbers.Two nodes mark
+      → TreeStands (version_2 mark no_seats) old.size nodes old.base run tree
+      → AddsStill 2 nodes run tree old new
+  pub brief : MakesAtMost (transaction_cost old.area) old new
 
 abbrev pub HasCleared : (old new : Log) → Type 0
 HasCleared old new =

@@ -35,10 +35,14 @@ abbrev pub step_at : List (Option CachedNode) → (moved i : ℕ) → List Updat
 step_at cards moved i =
     step cards (moved + 47 * i) (min 47 (length cards - (moved + 47 * i)))
 
+-- how many transactions move this many places, 47 each
+abbrev pub transactions_for : (places : ℕ) → ℕ
+transactions_for places = (places + 46) / 47
+
 -- All of them, if the first `moved` places are already done
 abbrev pub plan : List (Option CachedNode) → (moved : ℕ) → List (List Update)
 plan cards moved =
-    map (step_at cards moved) (range_with_len 0 ((length cards - moved + 46) / 47))
+    map (step_at cards moved) (range_with_len 0 (transactions_for (length cards - moved)))
 
 -- The last transaction: the mark is removed
 abbrev pub clearing_updates : List Update

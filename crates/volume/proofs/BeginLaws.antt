@@ -17,7 +17,7 @@ use Rattle.model_tree.specs.declared.limits.Limits.{Limits}
 use Rattle.volume.specs.VolumeState.{Holds, LeavesCurrent}
 use Rattle.volume.specs.Known.{IsServing, kept_in_image}
 use Rattle.volume.specs.Loads.{IsLoaded, read_as}
-use Rattle.volume.specs.Mounts.{StandsOn, StandsForEither, AddsRaised, BeginsBriefly, IsNotBegun}
+use Rattle.volume.specs.Mounts.{StandsOn, StandsForEither, AddsRaised, BeginsBriefly, IsNotBegun, begin_cost}
 use Rattle.volume.specs.Starts.{HasStarted}
 use Rattle.volume.specs.Views.{volume_state_by}
 use Rattle.volume.specs.declared.fault.MountFault.{MountFault}
@@ -101,6 +101,10 @@ begun_brief found base mark old mid new size is marked same few (two, unmarked) 
     let least = few two (one_mark found.version found.nodes mark None (omega (arith, parts.few)) is tt (sym marked ∙ unmarked)) in
     omega (arith, least, ap moment same)
 
+-- and no more than a run that begins
+pub begun_bounded : (found : Superblock) (old mid new : History) → mid ≡ old → moment new ≤ moment mid + begin_cost found → moment new ≤ moment old + begin_cost found
+begun_bounded found old mid new same few = omega (arith, few, ap moment same)
+
 -- if nothing was done, little was
 pub stays_brief : (found : Superblock) (base : Image) (old new : History) → new ≡ old → BeginsBriefly found base old new
 stays_brief found base old new same needs = omega (arith, ap moment same)
@@ -114,6 +118,7 @@ not_loaded found old mid new fault only is damaged reasons =
     record {
       moments = λ kept stands. subst (AddsOnly (StandsForEither found kept) old.history) (sym same) (AddsOnly-same (StandsForEither found kept) old.history);
       brief = stays_brief found old.base old.history new same;
+      bounded = omega (arith, ap moment same);
       no_tree = damaged;
       untouched = λ other. same;
       only = reasons;
@@ -128,10 +133,12 @@ not_damaged fault reasons damaged = ⊎_elim
 -- if the run did not begin, the device failed in it, or there was no memory for it
 pub not_started : (found : Superblock) (old mid after : Log) (new : History) (fault : MountFault) → mid ≡ record old { is_down = mid.is_down } → new ≡ after.history
     → AddsRaised found mid.base mid.history after.history → (fault ≡ mounts.Device) ⊎ (fault ≡ mounts.Memory)
-    → (fault ≡ mounts.Memory → after ≡ mid) → BeginsBriefly found old.base old.history after.history → IsNotBegun found old.base old.history new fault
-not_started found old mid after new fault only is adds reasons memory brief = record {
+    → (fault ≡ mounts.Memory → after ≡ mid) → BeginsBriefly found old.base old.history after.history
+    → moment after.history ≤ moment old.history + begin_cost found → IsNotBegun found old.base old.history new fault
+not_started found old mid after new fault only is adds reasons memory brief bounded = record {
   moments = subst (AddsRaised found old.base old.history) (sym is) (raised_from found old mid after.history only adds);
   brief = subst (BeginsBriefly found old.base old.history) (sym is) brief;
+  bounded = omega (arith, bounded, ap moment is);
   no_tree = λ damaged. absurd (not_damaged fault reasons damaged);
   untouched = λ other. ⊎_elim
       (λ (device : fault ≡ mounts.Device). absurd (other device))

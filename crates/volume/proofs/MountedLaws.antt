@@ -13,13 +13,13 @@ use Rattle.volume.specs.declared.mount.Superblock.{Superblock}
 use Rattle.volume.specs.declared.volume.Unmounted.{Unmounted}
 use Rattle.volume.specs.declared.superblock.Verdict.TheVariants as verdicts
 use Rattle.volume.specs.VolumeState.{VolumeState, kept_of}
-use Rattle.volume.specs.MountAnswers.{first_verdict, HasMounted, MountsBriefly, NeedsNoMigration, OnlyReplays, HasReason, IsMountRefused, ComesBack}
-use Rattle.volume.specs.Mounts.{BeginsBriefly, HasBegun, IsNotBegun, NeedsNoMove}
+use Rattle.volume.specs.MountAnswers.{first_verdict, HasMounted, MountIsBounded, MountsBriefly, NeedsNoMigration, mount_cost, OnlyReplays, HasReason, IsMountRefused, ComesBack}
+use Rattle.volume.specs.Mounts.{BeginsBriefly, HasBegun, IsNotBegun, NeedsNoMove, begin_cost}
 use Rattle.volume.specs.Refusals.{gate_fault}
 use Rattle.volume.specs.Remounts.{AddsMount}
-use Rattle.volume.specs.Superblock.{superblock, version_in}
+use Rattle.volume.specs.Superblock.{nodes_in, superblock, version_in}
 use Rattle.disk.proofs.MomentLemmas.{AddsOnly-same}
-use Rattle.volume.proofs.FirstLaws.{version_back}
+use Rattle.volume.proofs.FirstLaws.{version_back, word_nodes}
 use Rattle.volume.proofs.KeepLaws.{counted_later}
 use Rattle.volume.proofs.FoundLaws.{not_damaged, is_volume_there, count_full, settled_moments, found_stands, found_moments, seen_stands}
 
@@ -39,6 +39,10 @@ recovered_brief sectors old new few needs = omega (arith, few)
 untouched_brief : (sectors : ℕ) (old new : History) → new ≡ old → MountsBriefly sectors old new
 untouched_brief sectors old new same needs = omega (arith, ap moment same)
 
+-- nor more than any mount
+pub recovered_bounded : (old new : History) → moment new ≤ moment old + 102 → MountIsBounded old new
+recovered_bounded old new few = omega (arith, few)
+
 -- a recovery of what a commit record may name
 recovery_few : (to : List ℕ) → length to ≤ 96 → recovery_cost to ≤ 102
 recovery_few [] few = omega arith
@@ -53,6 +57,7 @@ pub refused_untouched : (sectors : ℕ) (old new : History) (fault : MountFault)
 refused_untouched sectors old new fault same reason = record {
   moments = untouched_mount sectors old new same;
   brief = untouched_brief sectors old new same;
+  bounded = recovered_bounded old new (omega (arith, ap moment same));
   writes = λ other. untouched_replays sectors old new same;
   reason = reason;
 }
@@ -104,7 +109,13 @@ module _ (sectors : ℕ) (old new : History) (sound : first_verdict sectors old 
   settled_mount nodes run kept base = settled_moments sectors nodes run kept (seen old.now) base old new replays
 
   failed : IsMountRefused sectors old new mounts.Device
-  failed = record { moments = settled_mount; brief = recovered_brief sectors old new few; writes = λ other. absurd (other refl); reason = tt }
+  failed = record {
+    moments = settled_mount;
+    brief = recovered_brief sectors old new few;
+    bounded = recovered_bounded old new few;
+    writes = λ other. absurd (other refl);
+    reason = tt;
+  }
 
   pub gate_refused : (fault : JournalFault) → (fault ≡ journals.Damaged → LeavesOnlySynced (in_front sectors) old new) → (fault ≡ journals.Memory → new ≡ old)
       → IsMountRefused sectors old new (gate_fault fault)
@@ -112,6 +123,7 @@ module _ (sectors : ℕ) (old new : History) (sound : first_verdict sectors old 
   gate_refused journals.Damaged damaged memory = record {
     moments = settled_mount;
     brief = recovered_brief sectors old new few;
+    bounded = recovered_bounded old new few;
     writes = λ other. record { moments = replays; formless = λ none. inr (damaged refl).only_synced };
     reason = record { first = inr sound; no_tree = λ nodes run kept base. (damaged refl).formless base.base base.settles };
   }
@@ -132,6 +144,14 @@ module _ (sectors : ℕ) (old mid : History) (found : Superblock) (base : Image)
   mounts_briefly : (new : History) → BeginsBriefly found base mid new → MountsBriefly sectors old new
   mounts_briefly new begins needs = let least = begins (needs_no_move needs) in omega (arith, least, few_moments)
 
+  -- the version and the number of nodes that were found are those of the first sector
+  mount_bounded : (new : History) → moment new ≤ moment mid + begin_cost found → MountIsBounded old new
+  mount_bounded new begins =
+      let version : version_in (seen old.now 0) ≡ found.version = ap version_in first ∙ version_back found.version found.sectors found.nodes found.run in
+      let nodes : nodes_in (seen old.now 0) ≡ found.nodes = ap nodes_in first ∙ word_nodes found.version found.sectors found.nodes found.run few in
+      let same : mount_cost (seen old.now 0) ≡ 102 + begin_cost found = rw (version, nodes) omega arith in
+      omega (arith, begins, few_moments, same)
+
   pub begun_found : (held : VolumeState) → AddsOnly (SettlesAs (in_front sectors) (seen old.now)) (synced old) mid → HasBegun found base mid held → HasMounted sectors old held
   begun_found held since begun = record {
     first = sound;
@@ -146,6 +166,7 @@ module _ (sectors : ℕ) (old mid : History) (found : Superblock) (base : Image)
         (synced old) mid held.history since (begun.moments kept);
     steps = omega (arith, since.later, begun.steps);
     brief = mounts_briefly held.history begun.brief;
+    bounded = mount_bounded held.history begun.bounded;
     current = begun.current;
     holds = begun.holds;
   }
@@ -155,6 +176,7 @@ module _ (sectors : ℕ) (old mid : History) (found : Superblock) (base : Image)
     moments = λ nodes run kept stands. found_moments sectors nodes run kept (seen old.now) stands base settles found.version found.sectors found.nodes found.run sectors_is few counted first
         old mid new replays (refused.moments kept);
     brief = mounts_briefly new refused.brief;
+    bounded = mount_bounded new refused.bounded;
     writes = λ other. record {
       moments = subst (λ (h : History). AddsOnly (SettlesAs (in_front sectors) (seen old.now)) old h) (sym (refused.untouched other)) replays;
       formless = λ none. absurd (none base settles);

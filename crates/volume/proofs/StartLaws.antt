@@ -1,5 +1,5 @@
 -- A run that begins on the nodes that were read.
-use Rattle.std.proofs.Common.{◌≡◌, ◌≤◌, ◌<◌, ◌+◌, ◌^◌, ◌∙◌, ℕ, Bool, true, false, List, [], Option, Some, None, is_some, length, inl, inr, refl, sym, ap, subst, arith}
+use Rattle.std.proofs.Common.{◌≡◌, ◌≤◌, ◌<◌, ◌+◌, ◌-◌, ◌*◌, ◌^◌, ◌∙◌, ℕ, Bool, true, false, List, [], Option, Some, None, is_some, length, inl, inr, refl, sym, ap, subst, arith}
 use Rattle.std.proofs.Math.Logic.{∥∥₁_map}
 use Rattle.std.specs.Prelude.{IsTrue, OnOk, Result, Ok, Err}
 use Rattle.std.specs.Option.{unwrap_or}
@@ -8,7 +8,7 @@ use Rattle.disk.proofs.MomentLemmas.{AddsOnly-weaken, AddsOnly-join}
 use Rattle.journal.specs.Layout.{in_front}
 use Rattle.journal.specs.declared.layout.LogArea.{LogArea}
 use Rattle.journal.specs.Calls.{IsSafe}
-use Rattle.journal.specs.Log.{Log, StandsForFront}
+use Rattle.journal.specs.Log.{Log, MakesAtMost, StandsForFront}
 use Rattle.journal.specs.Settled.{Settles}
 use Rattle.layout.specs.CachedNodes.{CachedNode, cards_in}
 use Rattle.layout.specs.Rewriting.{all_second}
@@ -21,11 +21,12 @@ use Rattle.layout.proofs.KeptLaws.{same_kept}
 use Rattle.layout.proofs.MarkOnce.{stands_told, version_number}
 use Rattle.layout.proofs.Rewriting.{current_second}
 use Rattle.migration.proofs.Committing.{no_front}
-use Rattle.migration.specs.Migrations.{BeginsMoving, StandsStill, AddsStill, HasMovedAll, Rests, StaysInPlace}
+use Rattle.migration.specs.Migrations.{BeginsMoving, StandsStill, AddsStill, HasMovedAll, Rests, StaysInPlace, transaction_cost}
+use Rattle.migration.specs.Plans.{transactions_for}
 use Rattle.model_tree.specs.Seats.Seats.{Seats, no_seats}
 use Rattle.model_tree.specs.Trees.Tree.{Tree}
 use Rattle.volume.specs.Loads.{AreLoaded, HoldsVolume, read_as}
-use Rattle.volume.specs.Mounts.{AddsRaised, IsAtRest, AllHaveMoved, IsRaisedTo, RaisesSafely, StandsForEither, StandsIn, StandsOn}
+use Rattle.volume.specs.Mounts.{AddsRaised, IsAtRest, AllHaveMoved, IsRaisedTo, RaisesSafely, StandsForEither, StandsIn, StandsOn, begin_cost, moving_transactions}
 use Rattle.volume.specs.Stands.{StandsForIn}
 use Rattle.volume.specs.Starts.{HasMovedTo, IsCleared, ServesFrom, StandsInSecond, is_marked, moved_mark}
 use Rattle.volume.specs.declared.mount.Superblock.{Superblock}
@@ -254,15 +255,51 @@ module _ (found : Superblock) (mark : Option ℕ) (old : Log) (marked : IsMark f
 pub then_marked : (version : VersionNumber) (nodes : ℕ) (mark : Option ℕ) (told : Bool) → told ≡ is_marked version mark → is_some (moved_mark version nodes mark) ≡ told
 then_marked version nodes mark told is = still_marked version nodes mark ∙ sym is
 
+-- What it costs to begin a run
+
+-- one flush of a volume
+few_flushed : (area : LogArea) (size : ℕ) → area ≡ in_front size → transaction_cost area ≡ 198
+few_flushed area size placed = ap transaction_cost placed
+
+-- the transactions that move the nodes of version 1
+pub moved_few : (version : VersionNumber) (nodes count moved : ℕ) (old new : Log) → version ≡ One → count ≡ nodes → old.area ≡ in_front old.size
+    → MakesAtMost (2 + transactions_for (count - moved) * transaction_cost old.area) old new → MakesAtMost (2 + 198 * moving_transactions version nodes) old new
+moved_few One nodes count moved old new one same placed few =
+    let cost = few_flushed old.area old.size placed in
+    let fewer : transactions_for (count - moved) ≤ transactions_for nodes = omega (arith, same) in
+    let all : MakesAtMost (2 + transactions_for (count - moved) * 198) old new =
+    subst (λ (n : ℕ). MakesAtMost (2 + transactions_for (count - moved) * n) old new) cost few in
+    omega (arith, all, fewer)
+moved_few Two nodes count moved old new one same placed few = absurd (one_not_two (sym one))
+
+pub unmoved_few : (version : VersionNumber) (nodes : ℕ) (old new : Log) → version ≡ Two → MakesAtMost 2 old new → MakesAtMost (2 + 198 * moving_transactions version nodes) old new
+unmoved_few One nodes old new two few = absurd (one_not_two two)
+unmoved_few Two nodes old new two few = few
+
+-- the one that removes the mark
+pub cleared_few : (old new : Log) → old.area ≡ in_front old.size → MakesAtMost (transaction_cost old.area) old new → MakesAtMost 198 old new
+cleared_few old new placed few = subst (λ (n : ℕ). MakesAtMost n old new) (few_flushed old.area old.size placed) few
+
+-- together
+pub start_few : (found : Superblock) (old moved raised new : Log) → MakesAtMost (2 + 198 * moving_transactions found.version found.nodes) old moved
+    → moment raised.history ≤ moment moved.history + 2 → MakesAtMost 198 raised new → MakesAtMost (begin_cost found) old new
+start_few found old moved raised new moves raises clears = omega (arith, moves, raises, clears)
+
 -- if the volume has version 2 and no mark, a run begins with at most two writes and two syncs
-pub start_brief : (version : VersionNumber) (mark : Option ℕ) (old moved raised new : Log) → version ≡ Two → mark ≡ None
-    → moment moved.history ≤ moment old.history + 2 → moment raised.history ≤ moment moved.history + 2 → (is_marked version mark ≡ false → new ≡ raised)
+pub start_brief : (version : VersionNumber) (nodes : ℕ) (mark : Option ℕ) (old moved raised new : Log) → version ≡ Two → mark ≡ None
+    → MakesAtMost (2 + 198 * moving_transactions version nodes) old moved → moment raised.history ≤ moment moved.history + 2 → (is_marked version mark ≡ false → new ≡ raised)
     → moment new.history ≤ moment old.history + 4
-start_brief One mark old moved raised new two none few more same = absurd (one_not_two two)
-start_brief Two (Some m) old moved raised new two none few more same = absurd (cc)
-start_brief Two None old moved raised new two none few more same =
+start_brief One nodes mark old moved raised new two none few more same = absurd (one_not_two two)
+start_brief Two nodes (Some m) old moved raised new two none few more same = absurd (cc)
+start_brief Two nodes None old moved raised new two none few more same =
     let is : moment new.history ≡ moment raised.history = ap (λ (log : Log). moment log.history) (same refl) in
     omega (arith, few, more, is)
+
+-- and at most two, if it stops before sector 0
+pub stop_brief : (version : VersionNumber) (nodes : ℕ) (old moved : Log) → version ≡ Two → MakesAtMost (2 + 198 * moving_transactions version nodes) old moved
+    → moment moved.history ≤ moment old.history + 2
+stop_brief One nodes old moved two few = absurd (one_not_two two)
+stop_brief Two nodes old moved two few = few
 
 -- Removing the mark
 

@@ -1,5 +1,5 @@
 -- What the result of a mount says.
-use Rattle.std.specs.Prelude.{ℕ, ⊤, ◌≡◌, ◌≤◌, ◌+◌, ◌^◌, ◌⊎◌}
+use Rattle.std.specs.Prelude.{ℕ, ⊤, List, ◌≡◌, ◌≤◌, ◌+◌, ◌*◌, ◌^◌, ◌⊎◌}
 use Rattle.disk.specs.Calls.{zero_sector}
 use Rattle.disk.specs.Cause.{IsCounted}
 use Rattle.disk.specs.Moments.{Image, History, AddsOnly, moment, seen, synced}
@@ -9,9 +9,10 @@ use Rattle.layout.specs.Stands.{Kept}
 use Rattle.layout.specs.declared.versions.VersionNumber.TheVariants as numbers
 use Rattle.model_tree.specs.Seats.Seats.{Seats, AreOfRuns}
 use Rattle.volume.specs.VolumeState.{VolumeState, Holds, IsJustMounted, LeavesCurrent}
+use Rattle.volume.specs.Mounts.{moving_transactions}
 use Rattle.volume.specs.Remounts.{AddsMount, IsFound}
 use Rattle.volume.specs.Stands.{IsBase}
-use Rattle.volume.specs.Superblock.{mount_verdict, version_in}
+use Rattle.volume.specs.Superblock.{mount_verdict, nodes_in, version_in}
 use Rattle.volume.specs.declared.fault.MountFault.{MountFault}
 use Rattle.volume.specs.declared.fault.MountFault.TheVariants as mounts
 use Rattle.volume.specs.declared.volume.Unmounted.{Unmounted}
@@ -39,6 +40,16 @@ pub record NeedsNoMigration (sectors : ℕ) (old : History) : Type 0 where
 abbrev pub MountsBriefly : (sectors : ℕ) → (old new : History) → Type 0
 MountsBriefly sectors old new = NeedsNoMigration sectors old → moment new ≤ moment old + 106
 
+-- A mount of any volume makes at most this many writes and syncs, by the version and the number of
+-- nodes in its first sector: those 106, and for each transaction at most the 198 of one flush. Of
+-- version 1 each of (nodes + 46) / 47 transactions moves 47 nodes, and one more removes the mark of
+-- the migration; of version 2 there is at most this one.
+abbrev pub mount_cost : (first : List ℕ) → ℕ
+mount_cost first = 106 + 198 * (moving_transactions (version_in first) (nodes_in first) + 1)
+
+abbrev pub MountIsBounded : (old new : History) → Type 0
+MountIsBounded old new = moment new ≤ moment old + mount_cost (seen old.now 0)
+
 -- A mount that serves: the first sector is sound, the tree that was there is served, and a crash
 -- leaves it in the current version, under the new count
 pub record HasMounted (sectors : ℕ) (old : History) (held : VolumeState) : Type 0 where
@@ -50,6 +61,7 @@ pub record HasMounted (sectors : ℕ) (old : History) (held : VolumeState) : Typ
   -- five steps at least: a sync, the commit record, a sync, sector 0, and a sync
   pub steps : moment old + 5 ≤ moment held.history
   pub brief : MountsBriefly sectors old held.history
+  pub bounded : MountIsBounded old held.history
   pub current : LeavesCurrent held
   pub holds : Holds held
 
@@ -98,6 +110,7 @@ HasReason sectors old new mounts.Device = ⊤
 pub record IsMountRefused (sectors : ℕ) (old new : History) (fault : MountFault) : Type 0 where
   pub moments : AddsMount sectors old new
   pub brief : MountsBriefly sectors old new
+  pub bounded : MountIsBounded old new
   pub writes : (fault ≡ mounts.Device → ⊥) → OnlyReplays sectors old new
   pub reason : HasReason sectors old new fault
 

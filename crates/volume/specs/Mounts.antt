@@ -1,5 +1,5 @@
 -- What a mount finds on the base of a journal.
-use Rattle.std.specs.Prelude.{ℕ, ⊤, false, [], Option, Some, Result, Ok, Err, ◌≡◌, ◌≤◌, ◌<◌, ◌+◌, ◌^◌, ◌⊎◌, List, IsTrue}
+use Rattle.std.specs.Prelude.{ℕ, ⊤, false, [], Option, Some, Result, Ok, Err, ◌≡◌, ◌≤◌, ◌<◌, ◌+◌, ◌*◌, ◌^◌, ◌⊎◌, List, IsTrue}
 use Rattle.disk.specs.Calls.{zero_sector}
 use Rattle.disk.specs.Moments.{Image, History, AddsOnly, moment}
 use Rattle.journal.specs.Layout.{in_front}
@@ -11,6 +11,7 @@ use Rattle.layout.specs.Stands.{AreKept, IsMark, Kept, MayHaveSeats, served_vers
 use Rattle.layout.specs.Superblock.{is_size}
 use Rattle.layout.specs.declared.versions.VersionNumber.{VersionNumber}
 use Rattle.layout.specs.declared.versions.VersionNumber.TheVariants as numbers
+use Rattle.migration.specs.Plans.{transactions_for}
 use Rattle.volume.specs.VolumeState.{VolumeState, Holds, LeavesCurrent, kept_of}
 use Rattle.volume.specs.Stands.{VolumeStands, StandsForIn}
 use Rattle.volume.specs.Superblock.{superblock, mount_verdict}
@@ -110,6 +111,16 @@ NeedsNoMove found base = (found.version ≡ numbers.Two) × (base 147 ≡ zero_s
 abbrev pub BeginsBriefly : Superblock → (base : Image) → (old new : History) → Type 0
 BeginsBriefly found base old new = NeedsNoMove found base → moment new ≤ moment old + 4
 
+-- the number of transactions that move the nodes of a volume, at most: of version 1, 47 nodes each
+abbrev pub moving_transactions : VersionNumber → (nodes : ℕ) → ℕ
+moving_transactions numbers.One nodes = transactions_for nodes
+moving_transactions numbers.Two nodes = 0
+
+-- A run begins with at most this many writes and syncs: those four, and 198 for each transaction
+-- that moves nodes, and for the one that removes the mark.
+abbrev pub begin_cost : Superblock → ℕ
+begin_cost found = 4 + 198 * (moving_transactions found.version found.nodes + 1)
+
 -- a run that begins on a base
 pub record HasBegun (found : Superblock) (base : Image) (old : History) (held : VolumeState)
     : Type 0 where
@@ -119,6 +130,7 @@ pub record HasBegun (found : Superblock) (base : Image) (old : History) (held : 
   pub moments : AddsRaised found base old held.history
   pub steps : moment old + 4 ≤ moment held.history
   pub brief : BeginsBriefly found base old held.history
+  pub bounded : moment held.history ≤ moment old + begin_cost found
   pub current : LeavesCurrent held
   pub holds : Holds held
 
@@ -127,6 +139,7 @@ pub record IsNotBegun (found : Superblock) (base : Image) (old new : History) (f
     : Type 0 where
   pub moments : AddsRaised found base old new
   pub brief : BeginsBriefly found base old new
+  pub bounded : moment new ≤ moment old + begin_cost found
   pub no_tree : fault ≡ mounts.Damaged → (kept : Kept) → StandsOn found base kept → ⊥
   pub untouched : (fault ≡ mounts.Device → ⊥) → new ≡ old
   pub only : (fault ≡ mounts.Device) ⊎ ((fault ≡ mounts.Damaged) ⊎ (fault ≡ mounts.Memory))

@@ -1,8 +1,8 @@
 -- What a run does to a volume before it serves.
-use Rattle.std.specs.Prelude.{◌≡◌, ◌≤◌, ◌+◌, ℕ, Bool, true, false, List, Option, Some, None, Result, OnOk, is_some}
+use Rattle.std.specs.Prelude.{◌≡◌, ◌≤◌, ◌+◌, ◌*◌, ℕ, Bool, true, false, List, Option, Some, None, Result, OnOk, is_some}
 use Rattle.disk.specs.Cause.{IsCounted}
 use Rattle.disk.specs.Moments.{Image, AddsOnly, moment}
-use Rattle.journal.specs.Log.{Log, Costs, IsSettled}
+use Rattle.journal.specs.Log.{Log, Costs, IsSettled, MakesAtMost}
 use Rattle.journal.specs.declared.fault.JournalFault.{JournalFault}
 use Rattle.layout.specs.CachedNodes.{CachedNode, cards_in}
 use Rattle.layout.specs.Rewriting.{all_second}
@@ -13,7 +13,7 @@ use Rattle.layout.specs.declared.versions.VersionNumber.TheVariants.{One, Two}
 use Rattle.migration.specs.declared.fault.MigrationFault.{MigrationFault}
 use Rattle.model_tree.specs.Seats.Seats.{Seats}
 use Rattle.volume.specs.Loads.{read_as}
-use Rattle.volume.specs.Mounts.{AddsRaised, IsAtRest, StandsIn}
+use Rattle.volume.specs.Mounts.{AddsRaised, IsAtRest, StandsIn, begin_cost, moving_transactions}
 use Rattle.volume.specs.Stands.{StandsForIn}
 use Rattle.volume.specs.declared.mount.Superblock.{Superblock}
 
@@ -55,7 +55,8 @@ pub record MovesNodes (keeps_word : Type 0) (found : Superblock) (mark : Option 
   pub size : new.size ≡ old.size
   pub rests : OnOk result (IsAtRest new)
   pub steps : keeps_word → OnOk result (moment old.history + 2 ≤ moment new.history)
-  pub brief : keeps_word → found.version ≡ Two → moment new.history ≤ moment old.history + 2
+  pub brief : keeps_word
+      → MakesAtMost (2 + 198 * moving_transactions found.version found.nodes) old new
   pub moments : keeps_word → (kept : Kept) → StandsIn found mark old.base kept
       → AddsOnly
       (StandsForIn (number_of_version found.version) found.sectors found.nodes found.run kept)
@@ -83,6 +84,7 @@ pub record Clears (keeps_word : Type 0) (marked : Bool) (old new : Log)
   pub rests : OnOk result (IsAtRest new)
   pub untouched : marked ≡ false → new ≡ old
   pub settled : keeps_word → IsSettled old → OnOk result (IsSettled new)
+  pub brief : keeps_word → MakesAtMost 198 old new
   pub moments : keeps_word → (mark : Option ℕ) (nodes run : ℕ) (kept : Kept)
       → is_some mark ≡ marked → StandsInSecond mark old.size nodes run old.base kept
       → AddsOnly (StandsForIn served_version old.size nodes run kept) old.history new.history
@@ -102,6 +104,7 @@ pub record ServesFrom (found : Superblock) (cards : List (Option CachedNode)) (s
 pub record StartsSafely (found : Superblock) (mark : Option ℕ) (old new : Log) : Type 0 where
   pub moments : AddsRaised found old.base old.history new.history
   pub brief : found.version ≡ Two → mark ≡ None → moment new.history ≤ moment old.history + 4
+  pub bounded : MakesAtMost (begin_cost found) old new
 
 pub record HasStarted (keeps_word : Type 0) (found : Superblock) (cards : List (Option CachedNode))
     (seats : Seats) (old new : Log) : Type 0 where

@@ -23,6 +23,10 @@ word i sector = from_be_bytes w32 (drop i sector)
 abbrev pub version_in : List ℕ → VersionNumber
 version_in sector = if word 8 sector == 1 then One else Two
 
+-- the number of nodes in a first sector
+abbrev pub nodes_in : List ℕ → ℕ
+nodes_in sector = word 16 sector
+
 -- the restart count at which no further mount is possible
 abbrev pub last_run : ℕ
 last_run = 2 ^ 32 - 1

@@ -6,7 +6,7 @@ use Rattle.journal.specs.Log.{Log}
 use Rattle.migration.specs.Commits.{AreTransactions, Commits, HasCommitted}
 use Rattle.migration.specs.Migrations.{StaysInPlace}
 use Rattle.migration.specs.Plans.{plan}
-use Rattle.migration.proofs.Committing.{first_commits, then_commits, then_committed, whole_stays}
+use Rattle.migration.proofs.Committing.{first_moments, then_moments, then_brief, then_committed, whole_stays}
 use Rattle.migration.proofs.Migrating.{plan_takes, moves_safely, has_moved_all}
 use Rattle.migration.proofs.nodes.migrate.Goals as goal
 use Rattle.migration.proofs.nodes.migrate.Given.{Over}
@@ -23,7 +23,8 @@ commit_all-requires-clause-takes g c =
 pub returns-in_err-rewrite_record-clause-moments : goal.returns-in_err-rewrite_record-clause-moments
 returns-in_err-rewrite_record-clause-moments g c =
     moves_safely g.D.Device.keeps_word c.args.moved c.args.table.now (log_of c.args.journal.now) (log_of c.rewrite_record.new.self) c.requires.within
-    (first_commits g.D.Device.keeps_word (plan c.args.table.now c.args.moved) (log_of c.args.journal.now) (log_of c.rewrite_record.new.self) c.requires.rests.listed c.in_err-rewrite_record.ensures.safe)
+    (first_moments g.D.Device.keeps_word (plan c.args.table.now c.args.moved) (log_of c.args.journal.now) (log_of c.rewrite_record.new.self) c.requires.rests.listed c.in_err-rewrite_record.ensures.safe)
+    (λ k. let few = c.in_err-rewrite_record.ensures.brief k in omega (arith, few))
 
 -- the record was written again, and the log stayed in its place
 place : (g : Over) (c : In_ok-rewrite_record g) → StaysInPlace (log_of c.args.journal.now) (log_of c.rewrite_record.new.self)
@@ -38,20 +39,22 @@ returns-in_err-commit_all-clause-moments g c =
     let at = (goal.at.returns-in_err-commit_all-clause-moments g c).In_ok-rewrite_record in
     let old : Log = log_of c.args.journal.now in
     let mid : Log = log_of c.rewrite_record.new.self in
+    let all = plan c.args.table.now c.args.moved in
+    let commits = subst (λ (l : List (List Update)). Commits g.D.Device.keeps_word l mid (log_of c.commit_all.new.journal)) c.in_ok-transactions.ensures c.in_err-commit_all.ensures.commits in
     moves_safely g.D.Device.keeps_word c.args.moved c.args.table.now old (log_of c.commit_all.new.journal) c.requires.within
-    (then_commits g.D.Device.keeps_word (plan c.args.table.now c.args.moved) old mid (log_of c.commit_all.new.journal) (base g at) (place g at)
-    (first_commits g.D.Device.keeps_word (plan c.args.table.now c.args.moved) old mid c.requires.rests.listed c.in_ok-rewrite_record.ensures.safe)
-    (subst (λ (l : List (List Update)). Commits g.D.Device.keeps_word l mid (log_of c.commit_all.new.journal)) c.in_ok-transactions.ensures c.in_err-commit_all.ensures.commits))
+    (then_moments g.D.Device.keeps_word all old mid (log_of c.commit_all.new.journal) (base g at) (place g at) c.requires.rests.listed c.in_ok-rewrite_record.ensures.safe commits)
+    (λ k. then_brief g.D.Device.keeps_word all old mid (log_of c.commit_all.new.journal) (base g at) (place g at) (c.in_ok-rewrite_record.ensures.brief k) commits k)
 
 pub returns-clause-moments : goal.returns-clause-moments
 returns-clause-moments g c =
     let at = (goal.at.returns-clause-moments g c).In_ok-rewrite_record in
     let old : Log = log_of c.args.journal.now in
     let mid : Log = log_of c.rewrite_record.new.self in
+    let all = plan c.args.table.now c.args.moved in
+    let commits = subst (λ (l : List (List Update)). Commits g.D.Device.keeps_word l mid (log_of c.commit_all.new.journal)) c.in_ok-transactions.ensures c.in_ok-commit_all.ensures.commits in
     moves_safely g.D.Device.keeps_word c.args.moved c.args.table.now old (log_of c.commit_all.new.journal) c.requires.within
-    (then_commits g.D.Device.keeps_word (plan c.args.table.now c.args.moved) old mid (log_of c.commit_all.new.journal) (base g at) (place g at)
-    (first_commits g.D.Device.keeps_word (plan c.args.table.now c.args.moved) old mid c.requires.rests.listed c.in_ok-rewrite_record.ensures.safe)
-    (subst (λ (l : List (List Update)). Commits g.D.Device.keeps_word l mid (log_of c.commit_all.new.journal)) c.in_ok-transactions.ensures c.in_ok-commit_all.ensures.commits))
+    (then_moments g.D.Device.keeps_word all old mid (log_of c.commit_all.new.journal) (base g at) (place g at) c.requires.rests.listed c.in_ok-rewrite_record.ensures.safe commits)
+    (λ k. then_brief g.D.Device.keeps_word all old mid (log_of c.commit_all.new.journal) (base g at) (place g at) (c.in_ok-rewrite_record.ensures.brief k) commits k)
 
 pub returns-clause-ok : goal.returns-clause-ok
 returns-clause-ok g c =

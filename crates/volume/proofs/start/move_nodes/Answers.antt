@@ -1,4 +1,4 @@
-use Rattle.std.proofs.Common.{◌≡◌, ◌∙◌, ℕ, ap, arith, subst, sym}
+use Rattle.std.proofs.Common.{◌≡◌, ◌∙◌, ℕ, length, ap, arith, subst, sym}
 use Rattle.disk.specs.Moments.{Image}
 use Rattle.journal.specs.Journal.{log_of}
 use Rattle.journal.specs.Log.{Log}
@@ -6,7 +6,7 @@ use Rattle.layout.specs.Stands.{moved_by}
 use Rattle.model_tree.specs.Seats.SeatViews.{seats_view}
 use Rattle.migration.specs.Migrations.{HasMovedAll, MovesSafely}
 use Rattle.volume.specs.Starts.{HasMovedTo}
-use Rattle.volume.proofs.StartLaws.{begins, ends_at_rest, may_migrate, moved_to, moves_safely, one_not_two, or_else_zero, rewritten_moments, so_moves, stay_moved}
+use Rattle.volume.proofs.StartLaws.{begins, ends_at_rest, may_migrate, moved_few, moved_to, moves_safely, or_else_zero, rewritten_moments, so_moves, stay_moved, unmoved_few}
 use Rattle.volume.proofs.start.move_nodes.Goals as goal
 
 pub migrate-requires-clause-rests : goal.migrate-requires-clause-rests
@@ -24,10 +24,11 @@ returns-in-One-clause-moves g c =
       size = c.migrate.ensures.place.size;
       rests = ends_at_rest old new c.migrate.result c.requires.rests.placed c.migrate.ensures.place c.migrate.ensures.rests;
       steps = c.migrate.ensures.steps;
-      brief = λ k two. absurd (one_not_two (sym c.in-One.is ∙ two));
+      brief = λ k. moved_few found.version found.nodes (length loaded.table) c.unwrap_or.result old new c.in-One.is c.requires.loaded.known.are_cards.count c.requires.rests.placed
+          (c.migrate.ensures.moments k).brief;
       moments = λ k kept stands.
           moves_safely word found loaded.mark loaded.table (seats_view loaded.seats) loaded.places old new c.requires.volume.size c.requires.rests.placed c.in-One.is c.requires.loaded kept stands
-          (subst (λ (n : ℕ). MovesSafely n loaded.table old new) told (c.migrate.ensures.moments k) loaded.mark found.run kept.tree
+          ((subst (λ (n : ℕ). MovesSafely n loaded.table old new) told (c.migrate.ensures.moments k)).moments loaded.mark found.run kept.tree
           (begins word found loaded.mark loaded.table (seats_view loaded.seats) loaded.places old new c.requires.volume.size c.requires.rests.placed c.in-One.is c.requires.loaded k kept stands));
       stands = λ k. so_moves c.migrate.result _ _
           (λ moved. moved_to word found loaded.mark loaded.table (seats_view loaded.seats) loaded.places old new c.requires.volume.size c.requires.rests.placed c.in-One.is c.requires.loaded
@@ -45,7 +46,7 @@ returns-in-Two-clause-moves g c =
       size = c.rewrite.ensures.safe.size;
       rests = so_moves c.rewrite.result _ _ (λ is. is.rests) c.rewrite.ensures.ok;
       steps = λ k. so_moves c.rewrite.result _ _ (λ is. omega (arith, is.cost k)) c.rewrite.ensures.ok;
-      brief = λ k two. c.rewrite.ensures.brief k;
+      brief = λ k. unmoved_few found.version found.nodes old new c.in-Two.is (c.rewrite.ensures.brief k);
       moments = λ k kept stands. rewritten_moments g.D.Device.keeps_word found mark old new c.requires.volume.size c.requires.loaded.marked c.requires.rests.listed c.requires.rests.placed
           c.rewrite.ensures.safe k kept stands;
       stands = λ k. so_moves c.rewrite.result _ _

@@ -8,7 +8,7 @@ use Rattle.model_tree.specs.Seats.SeatViews.{seats_view}
 use Rattle.volume.specs.Loads.{read_as}
 use Rattle.volume.specs.Mounts.{IsRaised}
 use Rattle.volume.proofs.FormatLaws.{on_ok}
-use Rattle.volume.proofs.StartLaws.{after_moves, after_raise, after_unmark, has_moved, serves_from, start_brief, then_marked, unmark_later}
+use Rattle.volume.proofs.StartLaws.{after_moves, after_raise, after_unmark, has_moved, serves_from, start_brief, start_few, stop_brief, then_marked, unmark_later}
 use Rattle.volume.proofs.start.start.Goals as goal
 
 pub returns-in_err-move_nodes-clause-safe : goal.returns-in_err-move_nodes-clause-safe
@@ -18,7 +18,8 @@ returns-in_err-move_nodes-clause-safe g c = λ k.
     record {
       moments = after_moves c.args.found c.args.loaded.now.mark (log_of c.args.journal.now) loaded.marked (loaded.marks k) (c.requires.base k)
           (log_of c.move_nodes.new.journal) (moves.moments k);
-      brief = λ two none. let few = moves.brief k two in omega (arith, few);
+      brief = λ two none. let few = stop_brief c.args.found.version c.args.found.nodes (log_of c.args.journal.now) (log_of c.move_nodes.new.journal) two (moves.brief k) in omega (arith, few);
+      bounded = let few = moves.brief k in omega (arith, few);
     }
 
 pub returns-then-is_err-clause-safe : goal.returns-then-is_err-clause-safe
@@ -29,7 +30,11 @@ returns-then-is_err-clause-safe g c = λ k.
     record {
       moments = after_raise c.args.found c.args.loaded.now.mark (log_of c.args.journal.now) loaded.marked (loaded.marks k) (c.requires.base k)
           (log_of c.move_nodes.new.journal) (moves.moments k) (moves.stands k) (log_of c.raise.new.journal) raises;
-      brief = λ two none. let few = moves.brief k two in let more = raises.brief in omega (arith, few, more);
+      brief = λ two none.
+          let few = stop_brief c.args.found.version c.args.found.nodes (log_of c.args.journal.now) (log_of c.move_nodes.new.journal) two (moves.brief k) in
+          let more = raises.brief in
+          omega (arith, few, more);
+      bounded = let few = moves.brief k in let more = raises.brief in omega (arith, few, more);
     }
 
 pub returns-then-is_err-2-clause-safe : goal.returns-then-is_err-2-clause-safe
@@ -48,8 +53,9 @@ returns-then-is_err-2-clause-safe g c = λ k.
           (λ kept stands. is.stands k _ kept (has_moved found mark old loaded.marked (loaded.marks k) (c.requires.base k)) stands)
           (log_of c.unmark.new.journal).history
           (λ kept stands. c.unmark.ensures.clears.moments k _ found.nodes (found.run + 1) kept (then_marked found.version found.nodes mark c.is_marked.result c.is_marked.ensures) stands);
-      brief = λ two none. start_brief found.version mark old moved raised (log_of c.unmark.new.journal) two none (moves.brief k two) (c.raise.ensures.moments k).brief
+      brief = λ two none. start_brief found.version found.nodes mark old moved raised (log_of c.unmark.new.journal) two none (moves.brief k) (c.raise.ensures.moments k).brief
           (λ unmarked. c.unmark.ensures.clears.untouched (c.is_marked.ensures ∙ unmarked));
+      bounded = start_few found old moved raised (log_of c.unmark.new.journal) (moves.brief k) (c.raise.ensures.moments k).brief (c.unmark.ensures.clears.brief k);
     }
 
 pub returns-clause-safe : goal.returns-clause-safe
@@ -68,8 +74,9 @@ returns-clause-safe g c = λ k.
           (λ kept stands. is.stands k _ kept (has_moved found mark old loaded.marked (loaded.marks k) (c.requires.base k)) stands)
           (log_of c.unmark.new.journal).history
           (λ kept stands. c.unmark.ensures.clears.moments k _ found.nodes (found.run + 1) kept (then_marked found.version found.nodes mark c.is_marked.result c.is_marked.ensures) stands);
-      brief = λ two none. start_brief found.version mark old moved raised (log_of c.unmark.new.journal) two none (moves.brief k two) (c.raise.ensures.moments k).brief
+      brief = λ two none. start_brief found.version found.nodes mark old moved raised (log_of c.unmark.new.journal) two none (moves.brief k) (c.raise.ensures.moments k).brief
           (λ unmarked. c.unmark.ensures.clears.untouched (c.is_marked.ensures ∙ unmarked));
+      bounded = start_few found old moved raised (log_of c.unmark.new.journal) (moves.brief k) (c.raise.ensures.moments k).brief (c.unmark.ensures.clears.brief k);
     }
 
 pub returns-clause-started : goal.returns-clause-started

@@ -14,7 +14,7 @@ use Rattle.volume.specs.Known.{AreKnownNodes, IsServing}
 use Rattle.volume.specs.Loads.{AreLoaded, HoldsVolume}
 use Rattle.volume.specs.Mounts.{StandsOn}
 use Rattle.volume.specs.Views.{volume_state}
-use Rattle.volume.proofs.BeginLaws.{begun_brief, begun_current, begun_holds, begun_serving, begun_stood, not_loaded, not_started, kept_read, raised_from, same_seats}
+use Rattle.volume.proofs.BeginLaws.{begun_bounded, begun_brief, begun_current, begun_holds, begun_serving, begun_stood, not_loaded, not_started, kept_read, raised_from, same_seats}
 use Rattle.volume.proofs.FormedLaws.{formed_later, loaded_formed, tree_formed}
 use Rattle.volume.proofs.volume.Volume.begin.Goals as goal
 
@@ -81,6 +81,7 @@ returns-in-Ok-start-clause-begun g c = λ k.
       moments = raised_from found old mid new.history only (c.start.ensures.safe k).moments;
       brief = begun_brief found old.base loaded.mark old.history mid.history new.history c.requires.volume.sized are.marked (are.marks k)
           (ap (λ (log : Log). log.history) only) (c.start.ensures.safe k).brief;
+      bounded = begun_bounded found old.history mid.history new.history (ap (λ (log : Log). log.history) only) (c.start.ensures.safe k).bounded;
       steps = omega (arith, started.steps k, ap (λ (log : Log). moment log.history) only);
       current = begun_current word found old mid new loaded.mark cards (seats_view loaded.seats) loaded.places are started only size c.start.ensures.size limits nodes k;
       holds = begun_holds word found old mid new loaded.mark cards (seats_view loaded.seats) loaded.places are started only size c.start.ensures.size limits nodes k;
@@ -140,3 +141,4 @@ returns-in-Err-start-clause-refused g c = λ k.
     (λ is. c.in-Err-start.ensures.memory (ap (λ x. Err x) is))
     (begun_brief found old.base c.in-Ok.loaded.mark old.history mid.history new.history c.requires.volume.sized are.marked (are.marks k)
     (ap (λ (log : Log). log.history) only) starts.brief)
+    (begun_bounded found old.history mid.history new.history (ap (λ (log : Log). log.history) only) starts.bounded)
