@@ -96,7 +96,7 @@ agreed keeps_word now old new asked request done before after keeps agree steps 
     record { world = world; number = 0; has = has; kept = refl; lasting_is = inl refl } in
     record {
       run = ap (λ (t : Table). t.run) (sym table_is) ∙ (further_run world 0 now request request.ended ∙ (ap (λ (t : Table). t.run) has.table_is ∙ (agree.run ∙ sym changes.volume_changes.same.run)));
-      seats = ap (λ (t : Table). t.seats) (sym table_is) ∙ sym (changes.volume_changes.ends.seats keeps (kept_of_world turn.world) _ (lasts turn.executed, gives, inl refl));
+      seats = ap (λ (t : Table). t.seats) (sym table_is) ∙ sym (changes.volume_changes.ends.seats keeps (kept_of_world turn.world) _ (lasts turn.executed, gives, refl));
     }
 
 pub agreed_if : (keeps_word : Type 0) (now : ℕ) (old new : SharedState) (asked : Asked) (request : InProgress) (result : Result Stepped StepError) (before after : ℕ) → keeps_word

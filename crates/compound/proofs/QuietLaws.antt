@@ -90,10 +90,10 @@ answers_still keeps_word given old new before after same told up stays quiet =
     never : (b : Bool) → b ≡ false → b ≡ true → ⊥
     never b is other = cc
 
-    none_lasts : keeps_word → (kept : Kept) (lasting : Bool) → deferred old.volume old.defers given kept lasting → lasting ≡ false
+    none_lasts : keeps_word → (kept : Kept) (lasting : Bool) → deferred old.defers given kept lasting → lasting ≡ false
     none_lasts keeps kept lasting is =
         let seats = stays keeps kept is.0 is.1 in
-        none_and old.volume is.0 old.defers lasting kept is.2 seats (quiet keeps kept is.0 is.1 seats)
+        none_and is.0 old.defers lasting is.2 (quiet keeps kept is.0 is.1 seats)
 
 -- and on no device
 pub answers_quietly : (keeps_word : Type 0) (given : Given) (old new : FileSystem) (before after : ℕ) → new ≡ old → after ≡ before → old.volume.is_down ≡ false
@@ -115,8 +115,8 @@ left_all keeps_word given old new before after changes =
 module _ (keeps_word : Type 0) (given other : Given) (weaker : keeps_word → (after : Kept) (lasts : Bool) → other after lasts → given after lasts)
     (alike : (after : Kept) (lasts : Bool) → other after lasts → (kept : Kept) × (lasting : Bool) × given kept lasting × (kept.tree ≡ after.tree))
     (old new : FileSystem) (before after : ℕ) where
-  ends_when : (ending : Ending) → EndsAs keeps_word (deferred old.volume old.defers given) old.volume new.volume before after ending
-      → EndsAs keeps_word (deferred old.volume old.defers other) old.volume new.volume before after ending
+  ends_when : (ending : Ending) → EndsAs keeps_word (deferred old.defers given) old.volume new.volume before after ending
+      → EndsAs keeps_word (deferred old.defers other) old.volume new.volume before after ending
   ends_when Done ends = record {
     still_up = ends.still_up;
     seats = λ keeps kept lasts is. ends.seats keeps kept lasts (is.0, weaker keeps kept is.0 is.1, is.2);
@@ -128,10 +128,10 @@ module _ (keeps_word : Type 0) (given other : Given) (weaker : keeps_word → (a
     cause = ends.cause;
     shows = ⊎_elim
         (λ (same : ShowsAs old.volume.tree new.volume.tree). inl same)
-        (λ (each : (kept : Kept) (lasts : Bool) → deferred old.volume old.defers given kept lasts → ShowsAs kept.tree new.volume.tree).
+        (λ (each : (kept : Kept) (lasts : Bool) → deferred old.defers given kept lasts → ShowsAs kept.tree new.volume.tree).
         inr (λ kept lasts is.
         let so = alike kept is.0 is.1 in
-        subst (λ (tree : Tree). ShowsAs tree new.volume.tree) so.3 (each so.0 _ (so.1, so.2, inl refl))))
+        subst (λ (tree : Tree). ShowsAs tree new.volume.tree) so.3 (each so.0 _ (so.1, so.2, refl))))
         ends.shows;
   }
 

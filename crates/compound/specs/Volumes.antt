@@ -1,6 +1,5 @@
 -- What the operations of a COMPOUND do to the file system below it, by the definition.
-use Rattle.std.specs.Prelude.{ℕ, Bool, false, List, Option, Some, None, Result, Ok, Err, ◌≡◌}
-use Rattle.fs.specs.Changes.{HasToLast}
+use Rattle.std.specs.Prelude.{ℕ, Bool, false, List, Option, Some, None, Result, Ok, Err, ◌≡◌, ◌≢◌, ◌⊎◌}
 use Rattle.fs.specs.FileSystem.{FileSystem}
 use Rattle.layout.specs.Stands.{Kept}
 use Rattle.model.specs.Operations.Operation.{Argument}
@@ -37,6 +36,11 @@ undone_step_ending (Err undone) = fault_ending undone.fault
 abbrev pub lasts : Option Entry → Bool
 lasts None = false
 lasts (Some entry) = is_durable entry
+
+-- whether what is kept has to last: all of it if the seats change, and otherwise if `durable` says
+-- so
+abbrev pub HasToLast : VolumeState → (durable : Bool) → Given
+HasToLast held durable after lasting = (lasting ≡ durable) ⊎ (after.seats ≢ held.seats)
 
 -- of an operation that ran
 abbrev pub entry_by : World → InProgress → Argument → HasRun → Option Entry
@@ -81,8 +85,8 @@ pub record TurnGives (state : SharedState) (turn : World → (number : ℕ) → 
   pub lasting_is :
       HasToLast state.files.volume (lasts (turn world number).executed) after lasting
 
--- the tree stays, and the seats are these; if that is a change it lasts, with all that there was
--- before it
+-- the tree stays, and the seats are these; if that is a change it has to last, with all that there
+-- was before it
 abbrev pub IsSeated : VolumeState → Seats → Given
 IsSeated held seats after lasting =
     (after ≡ record { tree = held.tree; seats = seats }) × HasToLast held false after lasting

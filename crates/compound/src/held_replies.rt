@@ -11,7 +11,8 @@ use fs::{Fs, FsFault};
 use model_tree::seats::SeatEdits;
 use session::is_idle;
 
-/// The volume keeps the seats, with these edits. Nothing is written if each place stays.
+/// The volume keeps the seats, with these edits, or they wait for the next flush. Nothing is
+/// written if each place stays.
 ///
 /// # Errors
 /// After `Memory` nothing changed; after `Device` the file system is down.

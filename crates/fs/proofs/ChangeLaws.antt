@@ -1,5 +1,5 @@
 -- What calls do to a file system.
-use Rattle.std.proofs.Common.{◌≡◌, ◌⊎◌, ℕ, Bool, true, false, not, ◌&&◌, ◌||◌, inl, inr, ⊎_elim, refl, sym, ap, ◌∙◌, subst, arith, true≢false}
+use Rattle.std.proofs.Common.{◌≡◌, ◌⊎◌, ℕ, Bool, true, false, not, ◌&&◌, inl, inr, ⊎_elim, refl, sym, ap, ◌∙◌, subst, arith, true≢false}
 use Rattle.std.specs.Prelude.{Result, Ok, Err, IfErr, IsErrOf}
 use Rattle.disk.specs.Moments.{AddsOnly, moment}
 use Rattle.disk.proofs.MomentLemmas.{AddsOnly-same}
@@ -10,13 +10,12 @@ use Rattle.model.specs.Operations.Operation.{Argument}
 use Rattle.model.specs.Operations.Step.{State}
 use Rattle.fs.specs.declared.fault.FsFault.{FsFault}
 use Rattle.fs.specs.declared.fault.FsFault.TheVariants as fault
-use Rattle.fs.specs.Changes.{FsChanges, FsFlushes, HasToLast, LetsWait, deferred, fs_ending}
-use Rattle.model_tree.specs.Trees.Tree.{Tree}
+use Rattle.fs.specs.Changes.{FsChanges, FsFlushes, LetsWait, deferred, fs_ending}
 use Rattle.model_tree.specs.Seats.Seats.{Seats}
 use Rattle.fs.specs.FileSystem.{FileSystem}
 use Rattle.fs.specs.Operations.{IsNotDone}
 use Rattle.fs.specs.Refusals.{MindsRoom, fault_of, volume_fault}
-use Rattle.volume.specs.Changes.{Given, Ending, Done, Nothing, Broken, EndsAs, IsTree, IsSeats, Stays, VolumeChanges, ending_of}
+use Rattle.volume.specs.Changes.{Given, Ending, Done, Nothing, Broken, EndsAs, IsTree, Stays, VolumeChanges, ending_of}
 use Rattle.volume.specs.declared.fault.VolumeFault.{VolumeFault}
 use Rattle.volume.specs.declared.fault.VolumeFault.TheVariants as volumes
 use Rattle.volume.specs.VolumeState.{VolumeState, IsRecent, StandsForOne, MayAdd, with_tree}
@@ -49,9 +48,9 @@ module _ (keeps_word : Type 0) (given other : Given) (weaker : (after : Kept) (l
   }
 
 -- also if it is deferred
-deferred_by : (held : VolumeState) (defers : Bool) (given other : Given) → ((after : Kept) (lasts : Bool) → other after lasts → given after lasts)
-    → (after : Kept) (lasting : Bool) → deferred held defers other after lasting → deferred held defers given after lasting
-deferred_by held defers given other weaker after lasting is = (is.0, weaker after is.0 is.1, is.2)
+deferred_by : (defers : Bool) (given other : Given) → ((after : Kept) (lasts : Bool) → other after lasts → given after lasts)
+    → (after : Kept) (lasting : Bool) → deferred defers other after lasting → deferred defers given after lasting
+deferred_by defers given other weaker after lasting is = (is.0, weaker after is.0 is.1, is.2)
 
 pub waits_by : (keeps_word : Type 0) (given other : Given) → (keeps_word → (after : Kept) (lasts : Bool) → other after lasts → given after lasts) → (old new : FileSystem) (ending : Ending)
     → LetsWait keeps_word given old new ending → LetsWait keeps_word other old new ending
@@ -66,34 +65,25 @@ waits_by keeps_word given other weaker old new ending lets = record {
 pub changes_by : (keeps_word : Type 0) (given other : Given) (weaker : (after : Kept) (lasts : Bool) → other after lasts → given after lasts) (old new : FileSystem) (before after : ℕ) (ending : Ending)
     → FsChanges keeps_word given old new before after ending → FsChanges keeps_word other old new before after ending
 changes_by keeps_word given other weaker old new before after ending changes = record {
-  volume_changes = volume_by keeps_word (deferred old.volume old.defers given) (deferred old.volume old.defers other)
-      (deferred_by old.volume old.defers given other weaker) old.volume new.volume before after ending
+  volume_changes = volume_by keeps_word (deferred old.defers given) (deferred old.defers other)
+      (deferred_by old.defers given other weaker) old.volume new.volume before after ending
       changes.volume_changes;
   no_count = changes.no_count;
   lets_wait = waits_by keeps_word given other (λ keeps. weaker) old new ending changes.lets_wait;
 }
 
--- What has to last if the seats stay, and if it is deferred
-
-pub seats_stay : (held : VolumeState) (durable lasting : Bool) (after : Kept) → HasToLast held durable after lasting → after.seats ≡ held.seats → lasting ≡ durable
-seats_stay held durable lasting after last stay = elim last [
-  | inl is ↦ is
-  | inr differ ↦ absurd (differ stay)
-]
+-- What has to last if nothing does by the definition, and if it is deferred
 
 and_false : (b : Bool) → (b && false) ≡ false
 and_false true = refl
 and_false false = refl
 
-tree_only : (held : VolumeState) (edited : Tree) (after : Kept) → after ≡ with_tree held edited → after.seats ≡ held.seats
-tree_only held edited after is = ap (λ (k : Kept). k.seats) is
-
-module _ (held : VolumeState) (lasts defers lasting : Bool) (after : Kept) (last : HasToLast held (lasts && not defers) after lasting) (stay : after.seats ≡ held.seats) where
+module _ (lasts defers lasting : Bool) (last : lasting ≡ (lasts && not defers)) where
   pub none_and : lasts ≡ false → lasting ≡ false
-  none_and none = seats_stay held _ lasting after last stay ∙ ap (λ (b : Bool). b && not defers) none
+  none_and none = last ∙ ap (λ (b : Bool). b && not defers) none
 
   pub and_none : defers ≡ true → lasting ≡ false
-  and_none at = seats_stay held _ lasting after last stay ∙ (ap (λ (b : Bool). lasts && not b) at ∙ and_false lasts)
+  and_none at = last ∙ (ap (λ (b : Bool). lasts && not b) at ∙ and_false lasts)
 
 -- the same file system, except for its volume and what was counted
 pub lets_nothing_wait : (keeps_word : Type 0) (given : Given) (old new : FileSystem) (ending : Ending) → new.defers ≡ old.defers → new.waits ≡ old.waits
@@ -109,39 +99,45 @@ lets_nothing_wait keeps_word given old new ending mode same none = record {
 never_true : (b : Bool) → b ≡ true → b ≡ false → ⊥
 never_true b one other = true≢false (sym one ∙ other)
 
--- edits that are kept at once, or may be lost until the next flush
+-- edits of the tree or of the seats, that are kept at once, or may be lost until the next flush
 
-module _ (keeps_word : Type 0) (old new : FileSystem) (before after : ℕ) (ending : Ending) (edited : Tree) (no_count : (ending ≡ Done → ⊥) → new.changes ≡ old.changes)
+abbrev pub with_seats : VolumeState → Seats → Kept
+with_seats held seats = record { tree = held.tree; seats = seats }
+
+module _ (keeps_word : Type 0) (old new : FileSystem) (before after : ℕ) (ending : Ending) (edited : Kept) (no_count : (ending ≡ Done → ⊥) → new.changes ≡ old.changes)
     (mode : new.defers ≡ old.defers) where
+  abbrev Keeps : Given
+  Keeps kept lasts = kept ≡ edited
+
   abbrev Loses : Given
-  Loses kept lasts = (kept ≡ with_tree old.volume edited) × (lasts ≡ false)
+  Loses kept lasts = (kept ≡ edited) × (lasts ≡ false)
 
   -- an unstable one
   pub unstable : new.waits ≡ old.waits → VolumeChanges keeps_word Loses old.volume new.volume before after ending
       → FsChanges keeps_word Loses old new before after ending
   unstable same changes = record {
-    volume_changes = volume_by keeps_word Loses (deferred old.volume old.defers Loses)
-        (λ kept lasting is. (is.1.0, none_and old.volume is.0 old.defers lasting kept is.2 (tree_only old.volume edited kept is.1.0) is.1.1)) old.volume new.volume before after ending changes;
+    volume_changes = volume_by keeps_word Loses (deferred old.defers Loses)
+        (λ kept lasting is. (is.1.0, none_and is.0 old.defers lasting is.2 is.1.1)) old.volume new.volume before after ending changes;
     no_count = no_count;
     lets_wait = lets_nothing_wait keeps_word Loses old new ending mode same (λ defers kept is. true≢false is.1);
   }
 
   -- one that is kept
-  pub at_once : old.defers ≡ false → new.waits ≡ old.waits → VolumeChanges keeps_word (IsTree old.volume edited) old.volume new.volume before after ending
-      → FsChanges keeps_word (IsTree old.volume edited) old new before after ending
+  pub at_once : old.defers ≡ false → new.waits ≡ old.waits → VolumeChanges keeps_word Keeps old.volume new.volume before after ending
+      → FsChanges keeps_word Keeps old new before after ending
   at_once keeps same changes = record {
-    volume_changes = volume_by keeps_word (IsTree old.volume edited) (deferred old.volume old.defers (IsTree old.volume edited))
+    volume_changes = volume_by keeps_word Keeps (deferred old.defers Keeps)
         (λ kept lasting is. is.1) old.volume new.volume before after ending changes;
     no_count = no_count;
-    lets_wait = lets_nothing_wait keeps_word (IsTree old.volume edited) old new ending mode same (λ defers kept is. never_true old.defers defers keeps);
+    lets_wait = lets_nothing_wait keeps_word Keeps old new ending mode same (λ defers kept is. never_true old.defers defers keeps);
   }
 
   -- one that waits
   pub later : old.defers ≡ true → new.waits ≡ true → ending ≡ Done → VolumeChanges keeps_word Loses old.volume new.volume before after ending
-      → FsChanges keeps_word (IsTree old.volume edited) old new before after ending
+      → FsChanges keeps_word Keeps old new before after ending
   later defers waits done changes = record {
-    volume_changes = volume_by keeps_word Loses (deferred old.volume old.defers (IsTree old.volume edited))
-        (λ kept lasting is. (is.1, and_none old.volume is.0 old.defers lasting kept is.2 (tree_only old.volume edited kept is.1) defers)) old.volume new.volume before after ending changes;
+    volume_changes = volume_by keeps_word Loses (deferred old.defers Keeps)
+        (λ kept lasting is. (is.1, and_none is.0 old.defers lasting is.2 defers)) old.volume new.volume before after ending changes;
     no_count = no_count;
     lets_wait = record {
       mode = mode;
@@ -154,10 +150,10 @@ module _ (keeps_word : Type 0) (old new : FileSystem) (before after : ℕ) (endi
 
   -- one that was refused
   pub refused_later : old.defers ≡ true → new.waits ≡ old.waits → (ending ≡ Done → ⊥) → VolumeChanges keeps_word Loses old.volume new.volume before after ending
-      → FsChanges keeps_word (IsTree old.volume edited) old new before after ending
+      → FsChanges keeps_word Keeps old new before after ending
   refused_later defers same not_done changes = record {
-    volume_changes = volume_by keeps_word Loses (deferred old.volume old.defers (IsTree old.volume edited))
-        (λ kept lasting is. (is.1, and_none old.volume is.0 old.defers lasting kept is.2 (tree_only old.volume edited kept is.1) defers)) old.volume new.volume before after ending changes;
+    volume_changes = volume_by keeps_word Loses (deferred old.defers Keeps)
+        (λ kept lasting is. (is.1, and_none is.0 old.defers lasting is.2 defers)) old.volume new.volume before after ending changes;
     no_count = no_count;
     lets_wait = record {
       mode = mode;
@@ -167,34 +163,6 @@ module _ (keeps_word : Type 0) (old new : FileSystem) (before after : ℕ) (endi
       waits = λ keeps done deferring kept is. absurd (not_done done);
     };
   }
-
--- seats that were put, in either mode
-
-module _ (keeps_word : Type 0) (old new : FileSystem) (before after : ℕ) (seats : Seats) where
-  pub seats_put : (ending : Ending) → ((ending ≡ Done → ⊥) → new.changes ≡ old.changes) → new.defers ≡ old.defers → (ending ≡ Done → new.waits ≡ (old.waits || old.defers))
-      → ((ending ≡ Done → ⊥) → new.waits ≡ old.waits) → (ending ≡ Done ⊎ (ending ≡ Done → ⊥))
-      → VolumeChanges keeps_word (IsSeats old.volume seats) old.volume new.volume before after ending
-      → FsChanges keeps_word (IsSeats old.volume seats) old new before after ending
-  seats_put ending no_count mode waits undone either changes = record {
-    volume_changes = volume_by keeps_word (IsSeats old.volume seats) (deferred old.volume old.defers (IsSeats old.volume seats))
-        (λ kept lasting is. is.1) old.volume new.volume before after ending changes;
-    no_count = no_count;
-    lets_wait = record {
-      mode = mode;
-      waits_on = λ was. ⊎_elim (λ (done : ending ≡ Done). waits done ∙ ap (λ (b : Bool). b || old.defers) was) (λ (not_done : ending ≡ Done → ⊥). undone not_done ∙ was) either;
-      at_once = λ at. ⊎_elim (λ (done : ending ≡ Done). waits done ∙ (ap (λ (b : Bool). old.waits || b) at ∙ or_false old.waits)) (λ (not_done : ending ≡ Done → ⊥). undone not_done) either;
-      undone = undone;
-      waits = λ keeps done defers kept is. waits done ∙ (ap (λ (b : Bool). old.waits || b) defers ∙ or_true old.waits);
-    };
-  }
-    where
-      or_false : (b : Bool) → (b || false) ≡ b
-      or_false true = refl
-      or_false false = refl
-
-      or_true : (b : Bool) → (b || true) ≡ true
-      or_true true = refl
-      or_true false = refl
 
 -- how the volume's fault is passed on
 
@@ -231,8 +199,8 @@ flush_refused keeps_word old new before after fault counts mode waits changes = 
 pub stays : (keeps_word : Type 0) (old new : FileSystem) (before after : ℕ) (ending : Ending) → ((ending ≡ Done → ⊥) → new.changes ≡ old.changes) → new.defers ≡ old.defers → new.waits ≡ old.waits
     → VolumeChanges keeps_word (Stays old.volume) old.volume new.volume before after ending → FsChanges keeps_word (Stays old.volume) old new before after ending
 stays keeps_word old new before after ending no_count mode same changes = record {
-  volume_changes = volume_by keeps_word (Stays old.volume) (deferred old.volume old.defers (Stays old.volume))
-      (λ kept lasting is. (is.1.0, none_and old.volume is.0 old.defers lasting kept is.2 (ap (λ (k : Kept). k.seats) is.1.0) is.1.1)) old.volume new.volume before after ending changes;
+  volume_changes = volume_by keeps_word (Stays old.volume) (deferred old.defers (Stays old.volume))
+      (λ kept lasting is. (is.1.0, none_and is.0 old.defers lasting is.2 is.1.1)) old.volume new.volume before after ending changes;
   no_count = no_count;
   lets_wait = lets_nothing_wait keeps_word (Stays old.volume) old new ending mode same (λ defers kept is. true≢false is.1);
 }
@@ -240,7 +208,7 @@ stays keeps_word old new before after ending no_count mode same changes = record
 -- nothing was done yet
 pub waiting : (keeps_word : Type 0) (old new : FileSystem) (failed : ℕ) → new.volume ≡ old.volume → new.changes ≡ old.changes → new.defers ≡ old.defers → old.volume.is_down ≡ false
     → old.defers ≡ true → new.waits ≡ true → FsChanges keeps_word (IsTree old.volume old.volume.tree) old new failed failed Done
-waiting keeps_word old new failed same counts mode up defers waits = later keeps_word old new failed failed Done old.volume.tree (λ undone. counts) mode defers waits refl (record {
+waiting keeps_word old new failed same counts mode up defers waits = later keeps_word old new failed failed Done (with_tree old.volume old.volume.tree) (λ undone. counts) mode defers waits refl (record {
   same = record {
     sectors = ap (λ (h : VolumeState). h.sectors) same;
     limits = ap (λ (h : VolumeState). h.limits) same;

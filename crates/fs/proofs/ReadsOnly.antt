@@ -31,7 +31,7 @@ only_reads : (keeps_word : Type 0) (old new : FileSystem) (before after : ℕ) (
     → new.defers ≡ old.defers → new.waits ≡ old.waits → VolumeChanges keeps_word (IsTree old.volume tree) old.volume new.volume before after ending
     → FsChanges keeps_word (IsTree old.volume tree) old new before after ending
 only_reads keeps_word old new before after tree ending not_done counts mode same changes = record {
-  volume_changes = volume_by keeps_word (IsTree old.volume tree) (deferred old.volume old.defers (IsTree old.volume tree))
+  volume_changes = volume_by keeps_word (IsTree old.volume tree) (deferred old.defers (IsTree old.volume tree))
       (λ kept lasting is. is.1) old.volume new.volume before after ending changes;
   no_count = λ undone. counts;
   lets_wait = record {

@@ -1,13 +1,12 @@
 -- What a call does to a file system, stated once for each call of this crate and of those above it
 -- that may change the tree.
-use Rattle.std.specs.Prelude.{ℕ, Bool, true, false, not, ◌&&◌, Result, Ok, Err, ◌≡◌, ◌≢◌, ◌⊎◌}
+use Rattle.std.specs.Prelude.{ℕ, Bool, true, false, not, ◌&&◌, Result, Ok, Err, ◌≡◌}
 use Rattle.layout.specs.Stands.{Kept}
 use Rattle.fs.specs.declared.fault.FsFault.{FsFault}
 use Rattle.fs.specs.declared.fault.FsFault.TheVariants as fault
 use Rattle.fs.specs.FileSystem.{FileSystem}
 use Rattle.volume.specs.Changes as volume
 use Rattle.volume.specs.Changes.{Given, Ending, Done, Nothing, Broken}
-use Rattle.volume.specs.VolumeState.{VolumeState}
 
 -- how a call ends
 abbrev pub fs_ending : {T : Type 0} → Result T FsFault → Ending
@@ -18,16 +17,10 @@ fs_ending (Err fault.Memory) = Nothing
 fs_ending (Err fault.Device) = Broken
 fs_ending (Err fault.Down) = Nothing
 
--- whether what is kept has to last: all of it if the seats change, and otherwise if `durable` says
--- so
-abbrev pub HasToLast : VolumeState → (durable : Bool) → Given
-HasToLast held durable after lasting = (lasting ≡ durable) ⊎ (after.seats ≢ held.seats)
-
--- If a file system defers, nothing has to last yet unless the seats change: a change of them is
--- flushed in either mode, with all that waits.
-abbrev pub deferred : VolumeState → (defers : Bool) → Given → Given
-deferred held defers given after lasting =
-    (lasts : Bool) × given after lasts × HasToLast held (lasts && not defers) after lasting
+-- if a file system defers, nothing has to last yet
+abbrev pub deferred : (defers : Bool) → Given → Given
+deferred defers given after lasting =
+    (lasts : Bool) × given after lasts × (lasting ≡ (lasts && not defers))
 
 -- What waits for the next flush: if it defers, all that has to last by the definition, and
 -- otherwise what waited before
@@ -44,7 +37,7 @@ pub record LetsWait (keeps_word : Type 0) (given : Given) (old new : FileSystem)
 pub record FsChanges (keeps_word : Type 0) (given : Given) (old new : FileSystem)
     (failed_before failed_after : ℕ) (ending : Ending) : Type 0 where
   pub volume_changes :
-      volume.VolumeChanges keeps_word (deferred old.volume old.defers given) old.volume new.volume
+      volume.VolumeChanges keeps_word (deferred old.defers given) old.volume new.volume
       failed_before failed_after ending
   pub no_count : (ending ≡ Done → ⊥) → new.changes ≡ old.changes
   pub lets_wait : LetsWait keeps_word given old new ending

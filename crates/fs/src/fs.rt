@@ -266,8 +266,8 @@ impl<D: Device> Fs<D> {
         Ok(())
     }
 
-    /// Edits the seats of persistent sessions: `Volume::put_seats`. It does not change the tree,
-    /// and keeps every change so far, even those that wait.
+    /// Edits the seats of persistent sessions, and keeps that and every change so far; or it waits
+    /// for the next flush. It does not change the tree.
     ///
     /// # Errors
     ///
@@ -287,8 +287,12 @@ impl<D: Device> Fs<D> {
         ensures refuses { IfErr result (λ fault. (fault ≡ FsFault.Memory)
             ⊎ ((fault ≡ FsFault.Device) ⊎ (fault ≡ FsFault.Down))) }
     {
-        self.volume.put_seats(edits)?;
-        self.waits |= self.defers;
+        if self.defers {
+            self.volume.change_seats(edits)?;
+            self.waits = true;
+        } else {
+            self.volume.put_seats(edits)?;
+        }
         Ok(())
     }
 }

@@ -4,6 +4,7 @@ pub mod StampLaws
 pub mod RunLaws
 pub mod Headline
 pub mod HeldLaws
+pub mod SettledLaws
 pub mod SoundLaws
 pub mod ResultRuns
 pub mod ServedOnceLaws

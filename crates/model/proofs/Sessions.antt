@@ -9,6 +9,7 @@ pub mod SlotRuns
 pub mod SlotsHeld
 pub mod KeptLaws
 pub mod SeatLaws
+pub mod SameSeats
 pub mod AllOf
 pub mod AlteredRuns
 pub mod StoringTurns

@@ -2,7 +2,7 @@
 
 ghost use Rattle.model.specs.Server.RuledOut.{NoSkip, NoEarlyReply, NoTakingBack, NoReplyAlone, NoSecondRun, NoForgetting, NoGap, OneATurn, EndsByHolding, HangsUpLast, HangUpIsEvents, EachEventHappens};
 ghost use Rattle.model.specs.Server.Runs.{EveryRun, EveryHeldIsKept, EveryStamp};
-ghost use Rattle.model.specs.Sessions.SeatRuns.{EveryReplyIsHeld, EverySeatStays, EveryRunCanFollow, EveryDeadSession, EveryNumberOnce, EveryReplyStaysHeld, EveryReplyIsStored, EverySessionSits, EveryFreeingIsAsked};
+ghost use Rattle.model.specs.Sessions.SeatRuns.{EveryReplyIsHeld, EveryTakenIsSettled, EverySeatStays, EveryRunCanFollow, EveryDeadSession, EveryNumberOnce, EveryReplyStaysHeld, EveryReplyIsStored, EverySessionSits, EveryFreeingIsAsked};
 ghost use Rattle.model.specs.Server.ServedOnce.{EveryServedSlot};
 ghost use Rattle.model.specs.Sessions.StateIdRuns.{EveryOtherRunRefuses, EveryStateIdGoesOn, JoinsAreCounted};
 
@@ -63,12 +63,15 @@ pub fn every_stateid_goes_on()
     ensures other_run { EveryOtherRunRefuses }
 {}
 
-/// Exactly once over restarts, on sessions that have a seat, over any list of runs and crashes: a
+/// Exactly once over restarts, on sessions that have a seat, over any list of runs and crashes. A
 /// reply that was stored is held until the next of its slot is or its seat is freed, together with
-/// a tree that has what it names; a session of an earlier run is answered from what its seat holds,
-/// and runs nothing; so a slot runs a number again only after the 2^32 - 1 others.
+/// a tree that has what it names. While something waits for a flush, this holds of the replies that
+/// were stored when last nothing did, and each that was taken is one of them. A session of an
+/// earlier run gets what its seat holds, and runs nothing; so a slot runs a number again only after
+/// the 2^32 - 1 others.
 pub fn every_life()
     ensures held { EveryReplyIsHeld }
+    ensures taken { EveryTakenIsSettled }
     ensures stays { EverySeatStays }
     ensures follows { EveryRunCanFollow }
     ensures dead { EveryDeadSession }

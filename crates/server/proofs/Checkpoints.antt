@@ -47,7 +47,7 @@ keeping_moments world waits held recent new is adds event = AddsOnly-weaken
 pub agrees_still : {T : Type 0} (keeps_word : Type 0) (old new : FileSystem) (before after : ℕ) (table : Table) (result : Result T FsFault)
     → FsChanges keeps_word (Stays old.volume) old new before after (fs_ending result) → keeps_word → Agrees old table → new.volume.is_down ≡ false → Agrees new table
 agrees_still keeps_word old new before after table (Ok done) changes keeps agrees up =
-    agrees_on old new table changes.volume_changes.same.run (changes.volume_changes.ends.seats keeps (kept_of old.volume) false (false, (refl, refl), inl refl)) agrees
+    agrees_on old new table changes.volume_changes.same.run (changes.volume_changes.ends.seats keeps (kept_of old.volume) false (false, (refl, refl), refl)) agrees
 agrees_still keeps_word old new before after table (Err faults.Device) changes keeps agrees up =
     absurd (true≢false (sym changes.volume_changes.ends.down ∙ up))
 agrees_still keeps_word old new before after table (Err fault) changes keeps agrees up = agrees_on old new table changes.volume_changes.same.run (ap (λ (h : VolumeState). h.seats) changes.volume_changes.ends) agrees
@@ -71,22 +71,19 @@ module _ (old new : FileSystem) (table : Table) (opens : Opens) (connections : K
       Checkpoints (record { serving = serving_of old recent; volume = old.volume }) (record { serving = serving_of new left; volume = new.volume })
 
   -- if it is done
-  pub checkpointed : new.volume.tree ≡ old.volume.tree → new.volume.seats ≡ old.volume.seats → old.volume.is_down ≡ false → new.volume.is_down ≡ false → KeepsRecent old.volume new.volume
+  pub checkpointed : new.volume.tree ≡ old.volume.tree → old.volume.is_down ≡ false → new.volume.is_down ≡ false → KeepsRecent old.volume new.volume
       → AddsKept old.volume (kept_of old.volume) new.volume.history → MakesAtMost 396 old.volume new.volume → (recent : List Left) → IsReady old.volume recent → Keeps recent recent
-  checkpointed trees seats up still_up keeps adds brief recent ready = record {
+  checkpointed trees up still_up keeps adds brief recent ready = record {
     serving =
         ap (λ (world : World). serving_by world recent new.volume.is_down new.waits) (kept_world old new table opens connections same changes trees)
         ∙ ap₂ (serving_by (world_by (shared old table opens) connections) recent) (still_up ∙ sym up) waits_same;
     moves = λ event. record {
-      moments = keeping_moments (world_by (shared old table opens) connections) old.waits old.volume recent new.volume.history ready.recent adds event;
-      leaves = leaves_now new.volume recent (keeps (map kept_by recent) ready.recent).leaves;
+      moments = keeping_moments (world_by (shared old table opens) connections) old.waits old.volume recent new.volume.history ready adds event;
+      leaves = leaves_now new.volume recent (keeps (map kept_by recent) ready).leaves;
       same = same;
       brief = brief;
     };
-    ready = record {
-      recent = keeps (map kept_by recent) ready.recent;
-      seated = λ one among. ready.seated one among ∙ sym seats;
-    };
+    ready = keeps (map kept_by recent) ready;
   }
 
   -- if the device fails in it
@@ -105,13 +102,13 @@ module _ (old new : FileSystem) (table : Table) (opens : Opens) (connections : K
         down = down;
         waits = waits_same;
         no_others = λ one among. inl (⊎_elim
-            (λ (first : one ≡ left_of (kept_of old.volume)). subst (IsAmong recent) (sym first) (among_left recent (kept_of old.volume) ready.recent.newest))
+            (λ (first : one ≡ left_of (kept_of old.volume)). subst (IsAmong recent) (sym first) (among_left recent (kept_of old.volume) ready.newest))
             (λ (rest : IsAmong recent one). rest)
             (among_more (left_of (kept_of old.volume)) recent one among));
       };
       moves = record {
-        moments = keeping_moments (world_by (shared old table opens) connections) old.waits old.volume recent new.volume.history ready.recent adds event;
-        leaves = broken_leaves old.volume new.volume (kept_of old.volume) recent ready.recent adds same;
+        moments = keeping_moments (world_by (shared old table opens) connections) old.waits old.volume recent new.volume.history ready adds event;
+        leaves = broken_leaves old.volume new.volume (kept_of old.volume) recent ready adds same;
         same = same;
         brief = brief;
       };
@@ -138,11 +135,11 @@ module _ (old new : FileSystem) (table : Table) (opens : Opens) (connections : K
   }
 
   -- if it is done
-  pub flushed_all : new.volume.tree ≡ old.volume.tree → new.volume.seats ≡ old.volume.seats → table.seats ≡ old.volume.seats → old.volume.is_down ≡ false → new.volume.is_down ≡ false → new.waits ≡ false
+  pub flushed_all : new.volume.tree ≡ old.volume.tree → table.seats ≡ old.volume.seats → old.volume.is_down ≡ false → new.volume.is_down ≡ false → new.waits ≡ false
       → AddsKept old.volume (kept_of old.volume) new.volume.history → MakesAtMost 396 old.volume new.volume → LeavesKept old.volume new.volume (kept_of old.volume) true
       → (recent : List Left) → IsReady old.volume recent → (after : List Left) × FlushesAll (seen_of old recent) (seen_of new after)
-  flushed_all trees seats seated up still_up none_waits adds brief leaves recent ready =
-      let left = leaves (map kept_by recent) ready.recent in (
+  flushed_all trees seated up still_up none_waits adds brief leaves recent ready =
+      let left = leaves (map kept_by recent) ready in (
         map left_of left.0,
         record {
           flushes = record {
@@ -154,15 +151,12 @@ module _ (old new : FileSystem) (table : Table) (opens : Opens) (connections : K
                 ∙ ap (λ (s : Seats). let l : Left = record { tree = old.volume.tree; seats = s } in l) (sym seated);
           };
           moves = λ event. record {
-            moments = keeping_moments (world_by (shared old table opens) connections) old.waits old.volume recent new.volume.history ready.recent adds event;
+            moments = keeping_moments (world_by (shared old table opens) connections) old.waits old.volume recent new.volume.history ready adds event;
             leaves = leaves_now new.volume (map left_of left.0) (recent_left new.volume left.0 left.1.ready).leaves;
             same = same;
             brief = brief;
           };
-          ready = record {
-            recent = recent_left new.volume left.0 left.1.ready;
-            seated = λ one among. ap (λ (kept : Kept). kept.seats) (only left.0 left.1 one among) ∙ sym seats;
-          };
+          ready = recent_left new.volume left.0 left.1.ready;
         },
       )
     where

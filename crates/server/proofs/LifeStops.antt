@@ -5,6 +5,7 @@ use Rattle.std.proofs.Math.Logic.{∥∥₁_elim, ∥∥₁_map, ∥∥₁_prop}
 use Rattle.std.proofs.Props.{props}
 use Rattle.disk.specs.Moments.{seen}
 use Rattle.layout.specs.Stands.{Kept}
+use Rattle.model.specs.Server.Runs as runs
 use Rattle.model.specs.Server.Runs.{Serving, Stored, MayHoldSeats, IsRun, effect_of, mounted, Left, left_after, IsAfterEvent}
 use Rattle.model.specs.Sessions.SeatRuns.{Stop, AreSeats, HoldsFrom, IsFreed}
 use Rattle.model_tree.specs.Seats.Seats.{Seats, SeatsApart, has_seat, held_at, held_in, run_of}
@@ -12,32 +13,38 @@ use Rattle.model.specs.Server.ServedOnce.{numbers_in}
 use Rattle.model.specs.Sessions.SessionRuns.{CountsFrom}
 use Rattle.model.specs.Server.World.{ServerLimits}
 use Rattle.model.proofs.Sessions.SeatLaws.{seat_holds, holds_there}
-use Rattle.model.proofs.Sessions.SeatLives.{counted, its_own, every_seat_stays, every_run_can_follow}
+use Rattle.model.proofs.Sessions.SeatLives.{counted, its_own, every_seat_stays, seat_stays_up, every_run_can_follow}
 use Rattle.model.proofs.Sessions.SeatReplies.{every_reply_is_stored}
-use Rattle.model.proofs.Sessions.SeatRunLaws.{every_reply_is_held, every_dead_session}
+use Rattle.model.proofs.Sessions.SeatRunLaws.{every_reply_is_held, every_taken_is_settled, every_dead_session}
 use Rattle.model.proofs.Sessions.SeatsFreed.{every_freeing_is_asked}
 use Rattle.model.proofs.Sessions.SeatsSit.{every_session_sits}
 use Rattle.model.proofs.Sessions.SlotLaw.{others_between}
 use Rattle.volume.proofs.RemountLaws.{seen_left}
 use Rattle.server.specs.Headline.{Stopped, Follows, executed_in}
-use Rattle.server.specs.LifeLaws.{history_in, stored_in, freed_in, LeavesSeats, OnMap, OnMount, WasUp, EveryHeld, EveryStays, EveryFollows, EveryDead, EverySits, EveryStored, EveryAsked, EveryEnded, AreRuns, last_of, numbers_over, EveryOnce, WasFreed, table_in, IsGivenAgain, EveryRetried}
+use Rattle.server.specs.LifeLaws.{history_in, stored_in, freed_in, settled_by, stored_when_taken, IsSettled, EveryTaken, LeavesSeats, OnMap, OnMount, WasUp, EveryHeld, EveryStays, EveryFollows, EveryDead, EverySits, EveryStored, EveryAsked, EveryEnded, AreRuns, last_of, numbers_over, EveryOnce, WasFreed, table_in, IsGivenAgain, EveryRetried}
 use Rattle.server.specs.Seen.{left_of}
 use Rattle.server.specs.Views.{server_limits}
 use Rattle.server.proofs.SeatsEnd.{frees_ended}
-use Rattle.server.proofs.Stops.{IsJoined, joined, mounted_leaves, every_stop, every_run_again, follows_run}
+use Rattle.server.proofs.Stops.{HasCounts, IsJoined, joined, mounted_leaves, every_stop, every_run_again, follows_run}
 
 -- One of the model's
 
 abbrev limits_of : Stopped → ServerLimits
 limits_of stopped = server_limits stopped.first.volume.limits stopped.settings
 
-calls_joined : (stopped : Stopped) → IsJoined stopped.first stopped.calls stopped.old
+calls_joined : (stopped : Stopped) → IsJoined stopped.first stopped.calls stopped.old stopped.served
 calls_joined stopped =
     joined stopped.first stopped.old stopped.calls (mounted_leaves stopped.settings stopped.run stopped.start stopped.first stopped.mounted) stopped.served
 
+its_counted : (stopped : Stopped)
+    → (run : IsRun (mounted (limits_of stopped) stopped.run stopped.start.tree stopped.start.seats) stopped.old.serving (history_in stopped))
+    × HasCounts run (settled_by stopped.served) (stored_when_taken stopped.served)
+its_counted stopped =
+    subst (λ (s : Serving). (run : IsRun s stopped.old.serving (history_in stopped)) × HasCounts run (settled_by stopped.served) (stored_when_taken stopped.served))
+    stopped.mounted.serves ((calls_joined stopped).run, (calls_joined stopped).counts)
+
 its_run : (stopped : Stopped) → IsRun (mounted (limits_of stopped) stopped.run stopped.start.tree stopped.start.seats) stopped.old.serving (history_in stopped)
-its_run stopped =
-    subst (λ (s : Serving). IsRun s stopped.old.serving (history_in stopped)) stopped.mounted.serves (calls_joined stopped).run
+its_run stopped = (its_counted stopped).0
 
 abbrev MayHold : Stopped → Seats → Type 0
 MayHold stopped left = MayHoldSeats stopped.old.serving stopped.event left
@@ -56,6 +63,11 @@ stop_of stopped left leaves = record {
   is_run = its_run stopped;
   leaves = leaves;
 }
+
+-- a reply that is settled is so in the model
+its_settled : (stopped : Stopped) (i : ℕ) → IsSettled stopped i → stopped.old.serving.waits ≡ true → i < runs.settled_by (its_run stopped)
+unfolding its_run
+its_settled stopped i settled waits = subst (λ (n : ℕ). i < n) (its_counted stopped).1.settled_is (settled waits)
 
 -- The seats that its crash left are such
 
@@ -85,6 +97,16 @@ now_left stopped up =
     (after.tree, inr (subst (λ (b : Bool). IsAfterEvent stopped.old.serving.world stopped.event b after) (sym up) refl))
 
 -- Of one run
+
+pub every_taken : EveryTaken
+unfolding its_run
+every_taken stopped =
+    let left = some_left stopped in
+    let below = every_taken_is_settled (limits_of stopped) (stop_of stopped left.0 left.1) in
+    let counts = (its_counted stopped).1 in
+    let settled = counts.settled_is in
+    let taken = counts.taken_is in
+    omega (arith, below, settled, taken)
 
 pub every_stays : EveryStays
 every_stays stopped left leaves id seat there =
@@ -179,8 +201,8 @@ module _ (stored : List Stored) (i : ℕ) (one : Stored) where
   ])
 
 pub every_held : EveryHeld
-every_held first rest are left leaves i one at =
-    carried_on (stored_in first) i one first (λ l may. every_reply_is_held (limits_of first) (stop_of first l may) i one at) rest are left leaves
+every_held first rest are left leaves i one at settled =
+    carried_on (stored_in first) i one first (λ l may. every_reply_is_held (limits_of first) (stop_of first l may) i one at (its_settled first i settled)) rest are left leaves
 
 -- and asked for again
 
@@ -197,16 +219,14 @@ module _ (stored : List Stored) (i : ℕ) (one : Stored) where
         (subst (λ (place : ℕ). held_at one.session place (table_in last).seats ≡ Some now.reply.held) (sym slot) now.held) (number, refl);
   }
 
-  -- the seats of a server that is up are those that a crash would leave
-  up_left : (last : Stopped) → WasUp last → MayHold last (table_in last).seats
-  up_left last up = let held = held_now last in subst (MayHold last) ((every_dead last up).seats held.0 held.1) (held.0.tree, inl held.1)
-
   given_in : (last : Stopped) → HoldsFrom last.start.seats stored i one → WasUp last
       → IsGivenAgain (table_in last) stored i one ⊎ IsFreed (table_in last).seats (freed_in last) one.session
-  given_in last holds up = elim (carried stored i one last holds (table_in last).seats (up_left last up)) [
-    | inl now ↦ inl (given_again last holds up now)
-    | inr freed ↦ inr freed
-  ]
+  given_in last holds up =
+      let seat = seat_holds one.session one.slot last.start.seats holds.reply.held holds.held in
+      elim (seat_stays_up (limits_of last) (stop_of last _ (now_left last up)) up one.session seat.0 seat.1) [
+        | inl stays ↦ inl (given_again last holds up (holds_there last.start.seats (table_in last).seats stored i one holds (ap (held_in one.slot) (stays ∙ sym seat.1))))
+        | inr freed ↦ inr freed
+      ]
 
   abbrev IsGivenOr : (last : Stopped) → (freed : Type 0) → Type 0
   IsGivenOr last freed = IsGivenAgain (table_in last) stored i one ⊎ freed
@@ -229,5 +249,5 @@ module _ (stored : List Stored) (i : ℕ) (one : Stored) where
   ])
 
 pub every_retried : EveryRetried
-every_retried first next rest are up i one at =
-    retried_on (stored_in first) i one first next (λ left may. every_reply_is_held (limits_of first) (stop_of first left may) i one at) rest are up
+every_retried first next rest are up i one at settled =
+    retried_on (stored_in first) i one first next (λ left may. every_reply_is_held (limits_of first) (stop_of first left may) i one at (its_settled first i settled)) rest are up

@@ -33,7 +33,6 @@ use Rattle.server.specs.Seen.{Seen, kept_by, left_of, IsReady, LeavesNow, MayKee
 use Rattle.server.proofs.Pairs.{among_left}
 use Rattle.server.proofs.Worlds.{happened_quietly}
 use Rattle.volume.proofs.FrontLaws.{among_rest}
-use Rattle.volume.proofs.ServeLaws.{among_one}
 use Rattle.volume.proofs.LoadLaws.{any_limits}
 use Rattle.disk.proofs.MomentLemmas.{AddsOnly-same}
 
@@ -103,16 +102,16 @@ broken_leaves held after_held after recent is adds same image left = ⊎_elim
 
 -- a call that does an event without the device
 pub does_quietly : (held : VolumeState) (old new : World) (down waits : Bool) (event : Event) (said : Said) → executed_of old event ≡ None → down ≡ false → new ≡ effect_of old event
-    → new.table.seats ≡ held.seats → said ≡ event_told old event → MayBeTaken waits event → (recent : List runs.Left) → IsReady held recent → (after : List runs.Left)
+    → (effect_of old event).table ≡ old.table → said ≡ event_told old event → MayBeTaken waits event → (recent : List runs.Left) → IsReady held recent → (after : List runs.Left)
     × (does : Does (record { serving = serving_by old recent down waits; volume = held }) event said (record { serving = serving_by new after down waits; volume = held }))
     × (does.happens.defers ≡ false)
 unfolding happened_quietly
-does_quietly held old new down waits event said none up is seated says taken recent ready = (
+does_quietly held old new down waits event said none up is table says taken recent ready = (
   recent,
   record {
-    happens = happened_quietly old new recent held.seats ready.seated down down waits event none up up is seated taken;
+    happens = happened_quietly old new recent down down waits event none table up up is taken;
     says = says;
-    moves = moves_none _ _ event held (leaves_now held recent ready.recent.leaves);
+    moves = moves_none _ _ event held (leaves_now held recent ready.leaves);
     ready = ready;
   },
   refl,
@@ -161,10 +160,7 @@ module _ (fs : FileSystem) (table : Table) (opens : Opens) (connections : Keyed 
     });
     starts = starts;
     room = room;
-    ready = record {
-      recent = holds;
-      seated = λ one among. ap (λ (l : runs.Left). l.seats) (among_one (left_of (kept_of fs.volume)) one among);
-    };
+    ready = holds;
   }
 
 -- the tree that was found is one with which this run may begin

@@ -9,10 +9,10 @@ use Rattle.compound.specs.declared.fault.Fault.{Fault}
 use Rattle.compound.specs.declared.fault.Fault.TheVariants as faults
 use Rattle.compound.specs.declared.step.StepError.{StepError}
 use Rattle.compound.specs.declared.step.Stepped.{Stepped}
-use Rattle.fs.specs.Changes.{FsChanges, LetsWait, HasToLast, deferred}
+use Rattle.fs.specs.Changes.{FsChanges, LetsWait, deferred}
 use Rattle.fs.specs.FileSystem.{FileSystem}
 use Rattle.layout.specs.Stands.{Kept}
-use Rattle.volume.specs.Changes.{Given, Done, LeavesOnCrash}
+use Rattle.volume.specs.Changes.{Given, Done}
 use Rattle.volume.specs.VolumeState.{VolumeState, IsSameVolume, AddsKept, MayAdd, StandsForOne, IsRecent}
 use Rattle.model_tree.specs.declared.limits.Limits.{Limits}
 use Rattle.model_tree.specs.Trees.Keyed.{Keyed, at, with}
@@ -25,12 +25,13 @@ use Rattle.model.specs.Server.World as world
 use Rattle.model.specs.Server.World.{World, one, with_connection}
 use Rattle.server.specs.declared.turn.Turn.{Turn}
 use Rattle.server.specs.Connections.{ConnectionTurns, IsRising, HasGoneOn, turn_view}
-use Rattle.server.specs.Seen.{MayKeepDuring, IsReady, kept_by, left_of}
+use Rattle.server.specs.Seen.{MayKeepDuring, kept_by}
 use Rattle.server.specs.Views.{world_by, server_limits, serving_by}
 use Rattle.model.proofs.Sessions.AlteredRuns.{one_settings}
 use Rattle.server.proofs.Turning.{one_is, agrees_on}
-use Rattle.server.proofs.Pairs.{among_left, recent_left, same_seats, lasting_by, lasting_more, has_to_last}
-use Rattle.server.proofs.Worlds.{may_be_left_from, seats_left}
+use Rattle.model.proofs.Sessions.SameSeats.{same_seats}
+use Rattle.server.proofs.Pairs.{among_left, lasting_by, has_to_last}
+use Rattle.server.proofs.Worlds.{may_be_left_from}
 
 pub has_state : (state : SharedState) (connections : Keyed world.Connection) → HasState (world_by state connections) state
 has_state state connections = record {
@@ -88,15 +89,10 @@ gone_on_at old new number before after there written further =
 abbrev pub turn_of : SharedState → Keyed world.Connection → (number now : ℕ) → world.Turned
 turn_of state connections number now = one (world_by state connections) number now
 
--- whether that has to last, and whether it has to now
+-- whether that has to last
 abbrev pub turn_lasts : SharedState → Keyed world.Connection → (number now : ℕ) → Bool
 turn_lasts state connections number now =
     lasting_by (same_seats (turn_of state connections number now).world.table.seats state.files.volume.seats) (lasts (turn_of state connections number now).executed)
-
-abbrev pub turn_lasts_now : SharedState → Keyed world.Connection → (number now : ℕ) → Bool
-turn_lasts_now state connections number now =
-    lasting_by (same_seats (turn_of state connections number now).world.table.seats state.files.volume.seats)
-    (lasts (turn_of state connections number now).executed && not state.files.defers)
 
 gives_one : (state : SharedState) (connections : Keyed world.Connection) (number now : ℕ) (before : world.Connection) → at number connections ≡ Some before
     → TurnGives state (λ w n. world.turned w n now (Some before)) (kept_of_world (turn_of state connections number now).world) (turn_lasts state connections number now)
@@ -114,30 +110,18 @@ gives_one state connections number now before is =
     }
 
 -- the same by whether the file system defers
-lasts_now : (held : VolumeState) (after : Kept) (same : (after.seats ≡ held.seats) ⊎ (after.seats ≢ held.seats)) (durable defers : Bool)
-    → HasToLast held (lasting_by same durable && not defers) after (lasting_by same (durable && not defers))
-unfolding lasting_by
-lasts_now held after (inl same) durable defers = inl refl
-lasts_now held after (inr differs) durable defers = inr differs
-
 pub gives_deferred : (state : SharedState) (connections : Keyed world.Connection) (number now : ℕ) (before : world.Connection) → at number connections ≡ Some before
-    → deferred state.files.volume state.files.defers (TurnGives state (λ w n. world.turned w n now (Some before))) (kept_of_world (turn_of state connections number now).world)
-    (turn_lasts_now state connections number now)
-gives_deferred state connections number now before is = (
-  turn_lasts state connections number now,
-  gives_one state connections number now before is,
-  lasts_now state.files.volume (kept_of_world (turn_of state connections number now).world)
-      (same_seats (turn_of state connections number now).world.table.seats state.files.volume.seats) (lasts (turn_of state connections number now).executed) state.files.defers,
-)
+    → deferred state.files.defers (TurnGives state (λ w n. world.turned w n now (Some before))) (kept_of_world (turn_of state connections number now).world)
+    (turn_lasts state connections number now && not state.files.defers)
+gives_deferred state connections number now before is = (turn_lasts state connections number now, gives_one state connections number now before is, refl)
 
 -- and what lets something wait
 pub gives_waiting : (state : SharedState) (connections : Keyed world.Connection) (number now : ℕ) (before : world.Connection) → at number connections ≡ Some before
     → (keeps_word : Type 0) (new : FileSystem) → LetsWait keeps_word (TurnGives state (λ w n. world.turned w n now (Some before))) state.files new Done → keeps_word
-    → state.files.defers ≡ true → lasts (turn_of state connections number now).executed ≡ true → new.waits ≡ true
+    → state.files.defers ≡ true → turn_lasts state connections number now ≡ true → new.waits ≡ true
 gives_waiting state connections number now before is keeps_word new lets keeps defers lasting =
     lets.waits keeps refl defers (kept_of_world (turn_of state connections number now).world)
-    (subst (λ (b : Bool). TurnGives state (λ w n. world.turned w n now (Some before)) (kept_of_world (turn_of state connections number now).world) b)
-    (lasting_more (same_seats (turn_of state connections number now).world.table.seats state.files.volume.seats) (lasts (turn_of state connections number now).executed) lasting)
+    (subst (λ (b : Bool). TurnGives state (λ w n. world.turned w n now (Some before)) (kept_of_world (turn_of state connections number now).world) b) lasting
     (gives_one state connections number now before is))
 
 -- what a crash within it may leave
@@ -158,18 +142,6 @@ turning_moments state old number now recent new is up moments =
     either kept (inr goes) =
         subst (MayKeepDuring (serving_of state old recent) (runs.Turns number now)) (sym goes)
         (may_be_left_from (world_by state old) recent state.files.volume.is_down state.files.waits (runs.Turns number now) up)
-
--- and what one after it may leave
-pub ready_turned : (state : SharedState) (old : Keyed world.Connection) (number now : ℕ) (recent : List runs.Left) (held : VolumeState) (left : List Kept) → IsReady state.files.volume recent
-    → state.files.volume.is_down ≡ false → held.seats ≡ (turn_of state old number now).world.table.seats
-    → LeavesOnCrash held (kept_of_world (turn_of state old number now).world) (turn_lasts_now state old number now) (map kept_by recent) left → IsReady held (map left_of left)
-ready_turned state old number now recent held left ready up seats leaves = record {
-  recent = recent_left held left leaves.ready;
-  seated = λ one among.
-      seats_left held state.files.volume.seats (world_by state old) recent left state.files.volume.is_down state.files.waits (runs.Turns number now) up ready.seated
-      (same_seats (turn_of state old number now).world.table.seats state.files.volume.seats) (lasts (turn_of state old number now).executed && not state.files.defers) leaves one among
-      ∙ sym seats;
-}
 
 -- The table agrees with the volume after a step too, unless that is down
 

@@ -1,6 +1,6 @@
 -- The calls of a server are a run of the machine, and what a crash within one leaves represents
 -- what the machine may leave.
-use Rattle.std.proofs.Common.{◌≡◌, ◌<◌, ◌+◌, ◌^◌, ℕ, List, refl, sym, ap, ◌∙◌, subst, inl, arith, ⊎_elim}
+use Rattle.std.proofs.Common.{◌≡◌, ◌<◌, ◌+◌, ◌^◌, ℕ, cond, List, length, refl, sym, ap, ◌∙◌, subst, inl, arith, ⊎_elim}
 use Rattle.std.proofs.Math.Logic.{∥∥₁_elim, ∥∥₁_map}
 use Rattle.std.proofs.Props.{props}
 use Rattle.disk.specs.Moments.{Image, History, LeftSince, moment, seen}
@@ -18,7 +18,7 @@ use Rattle.model.proofs.Operations.GivenLaws.{every_stamp_is_given}
 use Rattle.model.proofs.Server.StampLaws.{every_stamp}
 use Rattle.model.specs.Server.StampRuns.{AreGiven}
 use Rattle.model.specs.Server.Runs as runs
-use Rattle.model.specs.Server.Runs.{Serving, Event, Takes, IsRun, AreStamped, history_after, history_failing, effect_of, mounted}
+use Rattle.model.specs.Server.Runs.{Serving, Event, Takes, RunHistory, IsRun, AreStamped, taken_with, history_after, history_failing, effect_of, mounted}
 use Rattle.model.specs.Server.World.{World}
 use Rattle.volume.proofs.RemountLaws.{seen_left, rests_left, lasting, served_good}
 use Rattle.volume.specs.Formats.{IsFresh}
@@ -26,6 +26,7 @@ use Rattle.volume.specs.Remounts.{StandsForGood, LeavesGood}
 use Rattle.server.specs.Headline.{IsMounted, IsGoodKept, EveryStop, EveryRun, EveryFirst, IsNewVolume, Formatted, Powers, NeverLost, IsNotLost, EveryTrace, Stopped, executed_in, Follows, IsLater, Next, Then, EveryLife, EveryStamping, EveryAnswer}
 use Rattle.volume.specs.VolumeState.{StandsForOne}
 use Rattle.server.specs.Seen.{Seen, left_of, LeavesNow, MayKeepDuring, Moves, ServerCall, IsServed, Begins, Goes_on, Fails_at, Stays_down, Keeps_on, Flushed, world_after, history_of, AreTold, event_told}
+use Rattle.server.specs.LifeLaws.{settled_by, stored_when_taken}
 use Rattle.server.specs.Views.{server_limits}
 use Rattle.server.proofs.Moves.{left_now}
 use Rattle.server.proofs.Pairs.{among_left}
@@ -43,9 +44,15 @@ stopped_in old new event leaves moves image left = ⊎_elim
 
 -- The calls so far
 
-pub record IsJoined (first : Seen) (calls : List ServerCall) (last : Seen) : Type 0 where
+-- of the replies that were stored, how many were when last nothing waited, and when one was taken
+pub record HasCounts {first last : Serving} {history : RunHistory} (run : IsRun first last history) (settled taken : ℕ) : Type 0 where
+  pub settled_is : settled ≡ runs.settled_by run
+  pub taken_is : taken ≡ runs.stored_when_taken run
+
+pub record IsJoined (first : Seen) (calls : List ServerCall) (last : Seen) (served : IsServed first calls last) : Type 0 where
   pub world : last.serving.world ≡ world_after first.serving.world calls
   pub run : IsRun first.serving last.serving (history_of first.serving.world calls)
+  pub counts : HasCounts run (settled_by served) (stored_when_taken served)
   pub leaves : LeavesNow last
   pub same : IsSameVolume first.volume last.volume
 
@@ -56,46 +63,74 @@ same_on a b c ab bc = record {
   run = bc.run ∙ ab.run;
 }
 
-pub joined : (first last : Seen) (calls : List ServerCall) → LeavesNow first → IsServed first calls last → IsJoined first calls last
+-- the run in the world of the calls, with what it has settled
+abbrev Counted : (first last : Serving) → RunHistory → (settled taken : ℕ) → Type 0
+Counted first last history settled taken = (run : IsRun first last history) × HasCounts run settled taken
+
+pub joined : (first last : Seen) (calls : List ServerCall) → LeavesNow first → (served : IsServed first calls last) → IsJoined first calls last served
 joined first last calls leaves Begins = record {
   world = refl;
   run = runs.Begins;
+  counts = record { settled_is = refl; taken_is = refl };
   leaves = leaves;
   same = record { sectors = refl; limits = refl; run = refl };
 }
 joined first last calls leaves (Goes_on {calls = earlier} {old = old} {new = new} event said before does) =
     let was = joined first old earlier leaves before in
     let history = history_of first.serving.world earlier in
+    let count : RunHistory → ℕ → ℕ = λ (h : RunHistory) (before : ℕ). cond new.serving.waits before (length h.stored) in
+    let more : Counted first.serving new.serving (history_after history (world_after first.serving.world earlier) event)
+    (count (history_after history (world_after first.serving.world earlier) event) (settled_by before)) (taken_with event (length history.stored) (stored_when_taken before)) =
+    subst (λ (w : World). Counted first.serving new.serving (history_after history w event) (count (history_after history w event) (settled_by before)) (taken_with event (length history.stored) (stored_when_taken before)))
+    was.world (
+      runs.Goes_on event was.run does.happens,
+      record {
+        settled_is = ap (count (history_after history old.serving.world event)) was.counts.settled_is;
+        taken_is = ap (taken_with event (length history.stored)) was.counts.taken_is;
+      },
+    ) in
     record {
       world = does.happens.world ∙ ap (λ (w : World). effect_of w event) was.world;
-      run = subst (λ (w : World). IsRun first.serving new.serving (history_after history w event)) was.world (runs.Goes_on event was.run does.happens);
+      run = more.0;
+      counts = more.1;
       leaves = does.moves.leaves;
       same = same_on first.volume old.volume new.volume was.same does.moves.same;
     }
 joined first last calls leaves (Fails_at {calls = earlier} {old = old} {new = new} event before breaks) =
     let was = joined first old earlier leaves before in
     let history = history_of first.serving.world earlier in
+    let more : Counted first.serving new.serving (history_failing history (world_after first.serving.world earlier) event) (settled_by before) (stored_when_taken before) =
+    subst (λ (w : World). Counted first.serving new.serving (history_failing history w event) (settled_by before) (stored_when_taken before)) was.world
+    (runs.Fails_at event was.run breaks.fails, record { settled_is = was.counts.settled_is; taken_is = was.counts.taken_is }) in
     record {
       world = breaks.fails.world ∙ was.world;
-      run = subst (λ (w : World). IsRun first.serving new.serving (history_failing history w event)) was.world (runs.Fails_at event was.run breaks.fails);
+      run = more.0;
+      counts = more.1;
       leaves = breaks.moves.leaves;
       same = same_on first.volume old.volume new.volume was.same breaks.moves.same;
     }
 joined first last calls leaves (Stays_down {calls = earlier} {old = old} {new = new} connection said before gives) =
     let was = joined first old earlier leaves before in
     let history = history_of first.serving.world earlier in
+    let more : Counted first.serving new.serving (history_after history (world_after first.serving.world earlier) (Takes connection)) (settled_by before) (length history.stored) =
+    subst (λ (w : World). Counted first.serving new.serving (history_after history w (Takes connection)) (settled_by before) (length history.stored)) was.world
+    (runs.Stays_down connection was.run gives.stays, record { settled_is = was.counts.settled_is; taken_is = refl }) in
     record {
       world = gives.stays.world ∙ ap (λ (w : World). effect_of w (Takes connection)) was.world;
-      run = subst (λ (w : World). IsRun first.serving new.serving (history_after history w (Takes connection))) was.world (runs.Stays_down connection was.run gives.stays);
+      run = more.0;
+      counts = more.1;
       leaves = gives.moves.leaves;
       same = same_on first.volume old.volume new.volume was.same gives.moves.same;
     }
 joined first last calls leaves (Keeps_on {old = old} {new = new} before keeps) =
     let was = joined first old calls leaves before in
     let moves = keeps.moves (Takes 0) in
+    let more : Counted first.serving new.serving (history_of first.serving.world calls) (settled_by before) (stored_when_taken before) =
+    subst (λ (s : Serving). Counted first.serving s (history_of first.serving.world calls) (settled_by before) (stored_when_taken before)) (sym keeps.serving) (was.run, was.counts) in
     record {
       world = ap (λ (s : Serving). s.world) keeps.serving ∙ was.world;
-      run = subst (λ (s : Serving). IsRun first.serving s (history_of first.serving.world calls)) (sym keeps.serving) was.run;
+      run = more.0;
+      counts = more.1;
       leaves = moves.leaves;
       same = same_on first.volume old.volume new.volume was.same moves.same;
     }
@@ -105,6 +140,7 @@ joined first last calls leaves (Flushed {old = old} {new = new} before flushes) 
     record {
       world = flushes.flushes.world ∙ was.world;
       run = runs.Flushed was.run flushes.flushes;
+      counts = record { settled_is = refl; taken_is = was.counts.taken_is };
       leaves = moves.leaves;
       same = same_on first.volume old.volume new.volume was.same moves.same;
     }
@@ -112,7 +148,7 @@ joined first last calls leaves (Flushed {old = old} {new = new} before flushes) 
 -- a server that was just mounted leaves what it begins with
 pub mounted_leaves : (settings : Settings) (run : ℕ) (start : Kept) (first : Seen) → IsMounted settings run start first → LeavesNow first
 mounted_leaves settings run start first mounted image left =
-    let one = mounted.ready.recent.leaves image left in
+    let one = mounted.ready.leaves image left in
     (one.0, among_left first.serving.left one.0 one.1, one.2)
 
 -- The laws

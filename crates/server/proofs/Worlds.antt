@@ -1,5 +1,5 @@
 -- Events of a server that keeps each change at once, or lets it wait for the next flush.
-use Rattle.std.proofs.Common.{◌≡◌, ◌+◌, ◌<◌, ◌≤◌, ℕ, Bool, true, false, not, ◌&&◌, List, [], ◌∷◌, ◌++◌, length, None, Some, Result, Ok, Err, IfOk, OnOk, OnErr, refl, sym, ap, ◌∙◌, subst, inl, inr, cond, arith, lt-ltb, ◌≢◌, ◌⊎◌}
+use Rattle.std.proofs.Common.{◌≡◌, ◌+◌, ◌<◌, ◌≤◌, ℕ, Bool, true, false, not, ◌&&◌, List, [], ◌∷◌, ◌++◌, length, None, Some, Result, Ok, Err, IfOk, OnOk, OnErr, refl, sym, ap, ◌∙◌, subst, inl, inr, cond, arith, lt-ltb, ◌≢◌}
 use Rattle.std.specs.List.{IsAmong}
 use Rattle.std.specs.Prelude.{map}
 use Rattle.std.proofs.lemmas.Bool.{cases_eq, false≢true}
@@ -7,10 +7,10 @@ use Rattle.layout.specs.Stands.{Kept}
 use Rattle.model_tree.specs.Trees.Keyed.{Keyed, at, with, without}
 use Rattle.model.specs.Wire.Record.{RecordLimits, Front, Partial, Refused, Whole, front}
 use Rattle.model.specs.Wire.Rpc.{is_call_read, read_call}
-use Rattle.model.specs.Server.Runs.{Event, Happens, TakesNone, MayBeTaken, DeviceFails, StaysDown, effect_of, executed_of, executed_by, Left, left_after, MayBeLeft, IsAfterEvent, Serving}
-use Rattle.model_tree.specs.Seats.Seats.{Seats}
+use Rattle.model.specs.Server.Runs.{Event, Happens, TakesNone, MayBeTaken, DeviceFails, StaysDown, effect_of, executed_of, executed_by, Left, left_after, MayBeLeft, IsAfterEvent, Serving, is_durable}
 use Rattle.model.specs.Server.World as world
-use Rattle.model.specs.Server.World.{World, Quiet, Closed, arrives, arrives_at, arrived, takes, without_reply, connects, can_connect, connection_changed, with_connection, hangs_up, is_busy}
+use Rattle.model.specs.Sessions.Session.{Table}
+use Rattle.model.specs.Server.World.{World, Entry, Quiet, Closed, arrives, arrives_at, arrived, takes, without_reply, connects, can_connect, connection_changed, with_connection, hangs_up, is_busy}
 use Rattle.model_tree.proofs.Trees.KeyedLaws.{at-with_same, at-with_other, at-without_same, at-without_other}
 use Rattle.compound.specs.States.{SharedState}
 use Rattle.compound.specs.Volumes.{kept_of_world, lasts}
@@ -26,7 +26,8 @@ use Rattle.server.specs.Connections.{IsOfRun, connections_of, connection_view}
 use Rattle.server.proofs.SlabLaws.{with_slot, grew, grew_count}
 use Rattle.server.specs.Seen.{kept_by, left_of}
 use Rattle.server.specs.Views.{world_by, serving_by}
-use Rattle.server.proofs.Pairs.{among_kept, among_left, same_seats, lasting_by, lasting_more}
+use Rattle.model.proofs.Sessions.SameSeats.{same_seats}
+use Rattle.server.proofs.Pairs.{among_kept, among_left, lasting_by, lasting_more, lasting_changed}
 
 -- Events
 
@@ -39,11 +40,11 @@ pub may_take : (waits : Bool) (event : Event) → waits ≡ false → MayBeTaken
 may_take false event none = tt
 may_take true event none = absurd (false≢true (sym none))
 
--- an event that executes nothing leaves what might be left
-unfoldable pub happened_quietly : (old new : World) (recent : List Left) (kept : Seats) → ((one : Left) → IsAmong recent one → one.seats ≡ kept) → (old_down new_down waits : Bool) (event : Event) → executed_of old event ≡ None → old_down ≡ false → new_down ≡ false
-    → new ≡ effect_of old event → new.table.seats ≡ kept → MayBeTaken waits event
+-- an event that executes nothing and keeps the table leaves what might be left
+unfoldable pub happened_quietly : (old new : World) (recent : List Left) (old_down new_down waits : Bool) (event : Event) → executed_of old event ≡ None → (effect_of old event).table ≡ old.table → old_down ≡ false → new_down ≡ false
+    → new ≡ effect_of old event → MayBeTaken waits event
     → Happens (serving_by old recent old_down waits) event (serving_by new recent new_down waits)
-happened_quietly old new recent kept are_kept old_down new_down waits event none up still is seated taken = record {
+happened_quietly old new recent old_down new_down waits event none table up still is taken = record {
   up = up;
   world = is;
   still_up = still;
@@ -56,17 +57,17 @@ happened_quietly old new recent kept are_kept old_down new_down waits event none
   durable = λ at_once entry e lasts left among.
       let done : executed_of old event ≡ Some entry = subst (λ (b : Bool). executed_by old event b ≡ Some entry) up e in
       let never : ⊥ = cc in absurd never;
-  seats = λ left among. are_kept left among ∙ sym seated;
+  seats = λ at_once changed. absurd (changed (ap (λ (w : World). w.table.seats) is ∙ ap (λ (t : Table). t.seats) table));
+  seats_deferred = λ defers. absurd (false≢true defers);
 }
 
 -- what there is after it may be left
 pub may_be_left_from : (old : World) (left : List Left) (down waits : Bool) (event : Event) → down ≡ false → MayBeLeft (serving_by old left down waits) event (left_after (effect_of old event))
 may_be_left_from old left down waits event up = inr (subst (λ (b : Bool). IsAfterEvent old event b (left_after (effect_of old event))) (sym up) refl)
 
--- An event that leaves a crash some of what it might leave before, with the same seats, and what
--- there is after it, and after what has to last only that: if the seats change, that is so
-module _ (held : VolumeState) (before : Seats) (old : World) (recent : List Left) (left : List Kept) (down waits : Bool) (event : Event) (up : down ≡ false)
-    (seated : (one : Left) → IsAmong recent one → one.seats ≡ before) where
+-- An event that leaves a crash some of what it might leave before, and what there is after it, and
+-- after what has to last only that
+module _ (held : VolumeState) (old : World) (recent : List Left) (left : List Kept) (down waits : Bool) (event : Event) (up : down ≡ false) where
   abbrev after : Kept
   after = kept_of_world (effect_of old event)
 
@@ -82,48 +83,53 @@ module _ (held : VolumeState) (before : Seats) (old : World) (recent : List Left
     | inr behind ↦ after_it one behind
   ]
 
-  pub seats_left : (same : (after.seats ≡ before) ⊎ (after.seats ≢ before)) → (lasting : Bool) → LeavesOnCrash held after (lasting_by same lasting) (map kept_by recent) left
-      → (one : Left) → IsAmong (map left_of left) one → one.seats ≡ after.seats
-  unfolding lasting_by
-  seats_left (inl same) lasting leaves one among = elim (leaves.no_others (kept_by one) (among_kept left one among)) [
-    | inl stays ↦ seated one (among_left recent (kept_by one) stays) ∙ sym same
-    | inr behind ↦ ap (λ (k : Kept). k.seats) behind
-  ]
-  seats_left (inr differs) lasting leaves one among = ap (λ (k : Kept). k.seats) (leaves.durable refl (kept_by one) (among_kept left one among))
-
 -- what has to last is kept at once if the call does not defer
 pub kept_at_once : (lasting defers : Bool) → lasting ≡ true → defers ≡ false → (lasting && not defers) ≡ true
 kept_at_once true false one other = refl
 kept_at_once true true one other = absurd (false≢true (sym other))
 kept_at_once false defers one other = absurd (false≢true one)
 
-unfoldable pub happened_leaving : (before held : VolumeState) (old new : World) (recent : List Left) (left : List Kept) → ((one : Left) → IsAmong recent one → one.seats ≡ before.seats) → (old_down new_down old_waits new_waits its_defers : Bool) (event : Event) → old_down ≡ false → new_down ≡ false
+-- whether what the event leaves has to last
+abbrev pub has_to_last_by : (before : VolumeState) → World → Event → Bool
+has_to_last_by before old event = lasting_by (same_seats (effect_of old event).table.seats before.seats) (lasts (executed_of old event))
+
+unfoldable pub happened_leaving : (before held : VolumeState) (old new : World) (recent : List Left) (left : List Kept) → old.table.seats ≡ before.seats → (old_down new_down old_waits new_waits its_defers : Bool) (event : Event) → old_down ≡ false → new_down ≡ false
     → new ≡ effect_of old event
-    → LeavesOnCrash held (kept_of_world (effect_of old event)) (lasting_by (same_seats (effect_of old event).table.seats before.seats) (lasts (executed_of old event) && not its_defers)) (map kept_by recent) left
+    → LeavesOnCrash held (kept_of_world (effect_of old event)) (has_to_last_by before old event && not its_defers) (map kept_by recent) left
     → MayBeTaken old_waits event → (old_waits ≡ true → new_waits ≡ true) → (its_defers ≡ false → new_waits ≡ old_waits)
-    → (its_defers ≡ true → lasts (executed_of old event) ≡ true → new_waits ≡ true)
+    → (its_defers ≡ true → has_to_last_by before old event ≡ true → new_waits ≡ true)
     → Happens (serving_by old recent old_down old_waits) event (serving_by new (map left_of left) new_down new_waits)
 happened_leaving before held old new recent left seated old_down new_down old_waits new_waits its_defers event up still is leaves taken waits_on at_once owes = record {
   up = up;
   world = is;
   still_up = still;
-  no_others = others_left held before.seats old recent left old_down old_waits event up seated (lasting_by same (lasts (executed_of old event) && not its_defers)) leaves;
+  no_others = others_left held old recent left old_down old_waits event up (has_to_last_by before old event && not its_defers) leaves;
   defers = its_defers;
-  deferred = λ defers entry e durable. owes defers (ap lasts (subst (λ (b : Bool). executed_by old event b ≡ Some entry) up e) ∙ durable);
+  deferred = λ defers entry e durable. owes defers (durable_lasts entry e durable);
   waits_on = waits_on;
   at_once = at_once;
   taken = taken;
   durable = λ once entry e durable one among.
-      let done : executed_of old event ≡ Some entry = subst (λ (b : Bool). executed_by old event b ≡ Some entry) up e in
-      let fits : EntryFits old.tree (effect_of old event).tree (Some entry) = subst (EntryFits old.tree (effect_of old event).tree) done (event_fits old event) in
-      ap (λ (k : Kept). k.tree) (leaves.durable (lasting_more same (lasts (executed_of old event) && not its_defers) (kept_at_once (lasts (executed_of old event)) its_defers (ap lasts done ∙ durable) once)) (kept_by one) (among_kept left one among))
+      let fits : EntryFits old.tree (effect_of old event).tree (Some entry) = subst (EntryFits old.tree (effect_of old event).tree) (done entry e) (event_fits old event) in
+      ap (λ (k : Kept). k.tree) (leaves.durable (kept_at_once (has_to_last_by before old event) its_defers (durable_lasts entry e durable) once) (kept_by one) (among_kept left one among))
       ∙ fits.1;
-  seats = λ one among. seats_left held before.seats old recent left old_down old_waits event up seated same (lasts (executed_of old event) && not its_defers) leaves one among
-      ∙ sym (ap (λ (w : World). w.table.seats) is);
+  seats = λ once changed one among.
+      ap left_of (leaves.durable (kept_at_once (has_to_last_by before old event) its_defers (changed_lasts changed) once) (kept_by one) (among_kept left one among))
+      ∙ ap left_after (sym is);
+  seats_deferred = λ defers changed. owes defers (changed_lasts changed);
 }
   where
-    same : ((effect_of old event).table.seats ≡ before.seats) ⊎ ((effect_of old event).table.seats ≢ before.seats)
-    same = same_seats (effect_of old event).table.seats before.seats
+    done : (entry : Entry) → executed_by old event old_down ≡ Some entry → executed_of old event ≡ Some entry
+    done entry e = subst (λ (b : Bool). executed_by old event b ≡ Some entry) up e
+
+    durable_lasts : (entry : Entry) → executed_by old event old_down ≡ Some entry → is_durable entry ≡ true → has_to_last_by before old event ≡ true
+    durable_lasts entry e durable =
+        lasting_more (same_seats (effect_of old event).table.seats before.seats) (lasts (executed_of old event)) (ap lasts (done entry e) ∙ durable)
+
+    changed_lasts : new.table.seats ≢ old.table.seats → has_to_last_by before old event ≡ true
+    changed_lasts changed =
+        lasting_changed (same_seats (effect_of old event).table.seats before.seats) (lasts (executed_of old event))
+        (λ stay. changed (ap (λ (w : World). w.table.seats) is ∙ (stay ∙ sym seated)))
 
 pub failed_from : (old new : World) (left : List Left) (old_down new_down old_waits new_waits : Bool) (event : Event) → old_down ≡ false → new_down ≡ true → new ≡ old → new_waits ≡ old_waits
     → DeviceFails (serving_by old left old_down old_waits) event (serving_by new (left_after (effect_of old event) ∷ left) new_down new_waits)

@@ -1,14 +1,14 @@
 -- Exactly once over restarts, of a server on its device: RFC 8881, sections 2.10.6.1 and 2.10.6.5.
 -- The seats that a crash leaves hold the replies that were given, and a session of an earlier run
 -- runs nothing.
-use Rattle.std.specs.Prelude.{ℕ, false, true, ◌↔◌, List, [], ◌∷◌, ◌++◌, option_to_list, slice_get, find, Option, Some, ◌≡◌, ◌<◌, ◌⊎◌}
+use Rattle.std.specs.Prelude.{ℕ, false, true, ◌↔◌, List, [], ◌∷◌, ◌++◌, length, option_to_list, slice_get, find, if◌then◌else◌, Option, Some, ◌≡◌, ◌<◌, ◌≤◌, ◌⊎◌}
 use Rattle.std.specs.List.{list_any}
 use Rattle.disk.specs.Moments.{Image, History}
 use Rattle.layout.specs.Stands.{Kept}
 use Rattle.model.specs.Operations.Answer.{CreateSessionAnswer}
 use Rattle.model_tree.specs.Trees.Keyed.{at}
 use Rattle.model.specs.Operations.Operation.{Argument, SequenceArguments}
-use Rattle.model.specs.Server.Runs.{Event, Stored, effect_of, executed_of, is_done, done_with, names_after}
+use Rattle.model.specs.Server.Runs.{Event, Stored, effect_of, executed_of, is_done, done_with, names_after, taken_with}
 use Rattle.model.specs.Server.Runs as runs
 use Rattle.model.specs.Sessions.SeatRuns.{AreSeats, AnswersBySeats, GivesHeld, HoldsFrom, IsFreed, IsFreedBy, MakesSession, storing, freeing, request_in}
 use Rattle.model_tree.specs.Seats.Seats.{Seat, Seats, seat_of, has_seat}
@@ -20,7 +20,7 @@ use Rattle.volume.specs.VolumeState.{VolumeState}
 use Rattle.volume.specs.Remounts.{IsFound}
 use Rattle.volume.specs.Stands.{StandsFor}
 use Rattle.server.specs.Headline.{Stopped, LeftBy, IsMountedAfter, Follows, executed_in}
-use Rattle.server.specs.Seen.{history_of}
+use Rattle.server.specs.Seen.{Seen, ServerCall, Did, IsServed, Begins, Goes_on, Fails_at, Stays_down, Keeps_on, Flushed, history_of}
 
 -- A run that was stopped
 
@@ -38,6 +38,41 @@ stored_in stopped = (history_in stopped).stored
 abbrev pub freed_in : Stopped → List (List ℕ)
 freed_in stopped = (history_in stopped).freed
     ++ freeing stopped.old.serving stopped.event stopped.old.serving.is_down
+
+-- Of the replies that were stored, how many were when last nothing waited: a flush has kept them.
+-- Those stored since then wait for the next one.
+abbrev pub settled_by : {first last : Seen} {calls : List ServerCall}
+    → IsServed first calls last → ℕ
+settled_by Begins = 0
+settled_by {first = first} (Goes_on {calls = calls} {new = new} event said before does) =
+    if new.serving.waits then settled_by before
+    else length (history_of first.serving.world (Did event said ∷ calls)).stored
+settled_by (Fails_at event before breaks) = settled_by before
+settled_by (Stays_down connection said before gives) = settled_by before
+settled_by (Keeps_on before checkpoints) = settled_by before
+settled_by {first = first} (Flushed {calls = calls} before flushes) =
+    length (history_of first.serving.world calls).stored
+
+-- and how many were when a reply was taken last
+abbrev pub stored_when_taken : {first last : Seen} {calls : List ServerCall}
+    → IsServed first calls last → ℕ
+stored_when_taken Begins = 0
+stored_when_taken {first = first} (Goes_on {calls = calls} event said before does) =
+    taken_with event (length (history_of first.serving.world calls).stored)
+    (stored_when_taken before)
+stored_when_taken (Fails_at event before breaks) = stored_when_taken before
+stored_when_taken {first = first} (Stays_down {calls = calls} connection said before gives) =
+    length (history_of first.serving.world calls).stored
+stored_when_taken (Keeps_on before checkpoints) = stored_when_taken before
+stored_when_taken (Flushed before flushes) = stored_when_taken before
+
+-- The i-th was stored when last nothing waited. While nothing waits each one was.
+abbrev pub IsSettled : Stopped → ℕ → Type 0
+IsSettled stopped i = stopped.old.serving.waits ≡ true → i < settled_by stopped.served
+
+-- A reply is taken only while nothing waits: so each reply that was ever taken is among those.
+abbrev pub EveryTaken : Type 0
+EveryTaken = (stopped : Stopped) → stored_when_taken stopped.served ≤ settled_by stopped.served
 
 -- Seats that its crash left: those that an image of it represents, or that a mount since then
 -- serves
@@ -69,7 +104,8 @@ EveryFollows = (stopped : Stopped) (left : Seats) → LeavesSeats stopped left �
     → stopped.run < next → AreSeats next left
 
 -- A session of an earlier run gets what its seat holds and is refused all else, and it runs
--- nothing; and while the server is up a crash would leave the seats that its replies come from.
+-- nothing; and while the server is up and nothing waits, a crash would leave the seats that its
+-- replies come from.
 abbrev pub EveryDead : Type 0
 EveryDead = (stopped : Stopped) → WasUp stopped → AnswersBySeats stopped.old.serving stopped.run
 
@@ -157,12 +193,12 @@ WasFreed id first [] left = IsFreed left (freed_in first) id
 WasFreed id first (next ∷ rest) left =
     IsFreed next.start.seats (freed_in first) id ⊎ WasFreed id next rest left
 
--- Each reply that a seat held in the first is held by what the crash of the last leaves, or the
--- next one of its slot is, or the seat was freed on the way.
+-- Each reply that a seat held in the first, and that was settled at its crash, is held by what the
+-- crash of the last leaves, or the next one of its slot is, or the seat was freed on the way.
 abbrev pub EveryHeld : Type 0
 EveryHeld = (first : Stopped) (rest : List Stopped) → AreRuns first rest
     → (left : Seats) → LeavesSeats (last_of first rest) left → (i : ℕ) (one : Stored)
-    → slice_get (history_in first).stored i ≡ Some one
+    → slice_get (history_in first).stored i ≡ Some one → IsSettled first i
     → ∥ (HoldsFrom left (stored_in first) i one ⊎ WasFreed one.session first rest left) ∥₁
 
 -- A reply, or one to a later request of its slot, is given when it is asked for again: under the
@@ -178,6 +214,6 @@ pub record IsGivenAgain (table : Table) (stored : List Stored) (i : ℕ) (one : 
 abbrev pub EveryRetried : Type 0
 EveryRetried = (first next : Stopped) (rest : List Stopped) → AreRuns first (next ∷ rest)
     → WasUp (last_of next rest) → (i : ℕ) (one : Stored)
-    → slice_get (history_in first).stored i ≡ Some one
+    → slice_get (history_in first).stored i ≡ Some one → IsSettled first i
     → ∥ (IsGivenAgain (table_in (last_of next rest)) (stored_in first) i one
     ⊎ WasFreed one.session first (next ∷ rest) (table_in (last_of next rest)).seats) ∥₁

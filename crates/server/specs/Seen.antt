@@ -23,11 +23,9 @@ left_of kept = record { tree = kept.tree; seats = kept.seats }
 abbrev pub kept_by : runs.Left → Kept
 kept_by left = record { tree = left.tree; seats = left.seats }
 
--- What a crash may leave of a volume, now and within the next call. Each has the volume's seats: a
--- change of these is flushed.
-pub record IsReady (held : VolumeState) (left : List runs.Left) : Type 0 where
-  pub recent : IsRecent held (map kept_by left)
-  pub seated : (one : runs.Left) → IsAmong left one → one.seats ≡ held.seats
+-- what a crash may leave of a volume, now and within the next call
+abbrev pub IsReady : VolumeState → List runs.Left → Type 0
+IsReady held left = IsRecent held (map kept_by left)
 
 -- so the next call can be made
 abbrev pub IsSeenReady : Seen → Type 0

@@ -1,7 +1,7 @@
 //! What holds of every run of a server.
 
 ghost use Rattle.server.specs.Headline.{EveryRun, EveryStop, EveryTrace, EveryLife, EveryStamping, EveryFirst, NeverLost, EveryAnswer};
-ghost use Rattle.server.specs.LifeLaws.{EveryHeld, EveryStays, EveryFollows, EveryDead, EveryOnce, EveryRetried, EverySits, EveryStored, EveryAsked, EveryEnded};
+ghost use Rattle.server.specs.LifeLaws.{EveryHeld, EveryTaken, EveryStays, EveryFollows, EveryDead, EveryOnce, EveryRetried, EverySits, EveryStored, EveryAsked, EveryEnded};
 ghost use Rattle.server.specs.RunLaws.{HangUpIsCalls, IsBounded, NeverEmpty, OnlyIdle};
 
 /// Whatever bytes arrive on whatever connections, and wherever the server crashes: however often
@@ -41,12 +41,15 @@ pub fn every_run()
 
 /// Exactly once over restarts, on sessions that have a seat, over any list of runs that follow one
 /// another: a reply that a slot was given is held by what a crash leaves until the slot's next
-/// reply is, or the seat was freed, and a client asked for that. A session of an earlier run gets
-/// what its seat holds and runs nothing, so a slot runs a number again only after the 2^32 - 1
-/// others.
+/// reply is, or the seat was freed, and a client asked for that. While something waits for a flush,
+/// this holds of the replies that were stored when last nothing did, and each that was taken is one
+/// of them. A session of an earlier run gets what its seat holds and runs nothing, so a slot runs a
+/// number again only after the 2^32 - 1 others.
 pub fn every_life()
     // what was held in a run is held at the crash of each later one
     ensures held { EveryHeld }
+    // each reply that was taken is one of those
+    ensures taken { EveryTaken }
     // and is given again in each, to whoever asks for it again
     ensures retried { EveryRetried }
     // a seat that a run began with is left as it was, or was freed

@@ -37,7 +37,6 @@ record IsLevel (start : Tree) (done : List Entry) (replies : List (Stored × Lis
 
 record HoldsSeats (start : Tree) (serving : Serving) (history : RunHistory) : Type 0 where
   base : Holds start serving history
-  same : serving.waits ≡ true → serving.is_down ≡ false → (left : Left) → IsAmong serving.left left → left.seats ≡ serving.world.table.seats
   levels : (left : Left) → IsAmong serving.left left → IsLevel start history.done history.replies base.settled left
 
 HeldBelow-all : (level : ℕ) (replies : List (Stored × List ℕ)) (seats : Seats) → AreReplied level replies → HeldBelow level replies seats
@@ -49,7 +48,6 @@ HeldBelow-all level replies seats below stored names among there =
 seats_settled : (start : Tree) (serving : Serving) (history : RunHistory) → Holds start serving history → serving.waits ≡ false → HoldsSeats start serving history
 seats_settled start serving history is none = record {
   base = is;
-  same = λ waits. absurd (false≢true (sym none ∙ waits));
   levels = λ left among. record {
     level = is.settled;
     above = omega arith;
@@ -80,7 +78,7 @@ event_stored history world (Takes connection) stored names among = absurd (let l
 -- What may be left while an event happens, of a server that is up. While something waits, a reply
 -- that the event lets a seat hold, and that one held before it, was stored before.
 module _ (start : Tree) (serving : Serving) (event : Event) (history : RunHistory) (is : HoldsSeats start serving history) (up : serving.is_down ≡ false)
-    (known : serving.waits ≡ true → IsKnown serving.world event history.replies) where
+    (known : serving.waits ≡ true → (left : Left) → IsAmong serving.left left → IsKnown serving.world event left.seats history.replies) where
   abbrev all_done : List Entry
   all_done = Joined history.done (executed_of serving.world event)
 
@@ -107,9 +105,7 @@ module _ (start : Tree) (serving : Serving) (event : Event) (history : RunHistor
       by_waits true waits = λ stored names among there. elim (either_list history.replies (replies_of history serving.world event) (stored, names) among) [
         | inl before ↦ its_before stored names before there
         | inr new ↦
-            let seats = is.same waits up left left_before in
-            let now = ap (held_at stored.session stored.slot) (sym seats) ∙ there in
-            let listed = known waits stored (event_stored history serving.world event stored names new) now in
+            let listed = known waits left left_before stored (event_stored history serving.world event stored names new) there in
             its_before stored listed.names listed.among there
       ]
         where
@@ -160,7 +156,7 @@ replies_behind history world (Takes connection) = append-nil history.replies ∙
 
 -- A run
 
-module _ (start : Tree) (old new : Serving) (event : Event) (history : RunHistory) (is : HoldsSeats start old history) (known : old.waits ≡ true → IsKnown old.world event history.replies) where
+module _ (start : Tree) (old new : Serving) (event : Event) (history : RunHistory) (is : HoldsSeats start old history) (known : old.waits ≡ true → (left : Left) → IsAmong old.left left → IsKnown old.world event left.seats history.replies) where
   seats_go : Happens old event new → HoldsSeats start new (history_after history old.world event)
   seats_go happens = by_waits new.waits refl
     where
@@ -168,7 +164,6 @@ module _ (start : Tree) (old new : Serving) (event : Event) (history : RunHistor
       by_waits false none = seats_settled start new (history_after history old.world event) (goes start old new event history is.base happens) none
       by_waits true waits = record {
         base = goes_by start old new event history is.base happens true waits;
-        same = λ _ up left among. happens.seats left among;
         levels = λ left among.
             subst (λ (settled : ℕ). IsLevel start (history_after history old.world event).done (history_after history old.world event).replies settled left)
             (sym (settled_on start old new event history is.base happens waits))
@@ -181,7 +176,6 @@ module _ (start : Tree) (old new : Serving) (event : Event) (history : RunHistor
   seats_fail : DeviceFails old event new → HoldsSeats start new (history_failing history old.world event)
   seats_fail fails = record {
     base = fails_at start old new event history is.base fails;
-    same = λ _ up. absurd (false≢true (sym up ∙ fails.down));
     levels = λ left among.
         subst (λ (settled : ℕ). IsLevel start (history_failing history old.world event).done (history_failing history old.world event).replies settled left)
         (sym (settled_failing start old new event history is.base fails))
@@ -189,7 +183,8 @@ module _ (start : Tree) (old new : Serving) (event : Event) (history : RunHistor
   }
 
 module _ (start : Tree) (first : Serving) (begins : Holds start first no_history) (none : first.waits ≡ false)
-    (known : (serving : Serving) (history : RunHistory) → IsRun first serving history → serving.is_down ≡ false → (event : Event) → IsKnown serving.world event history.replies) where
+    (known : (serving : Serving) (history : RunHistory) → IsRun first serving history → serving.is_down ≡ false → (event : Event)
+    → (left : Left) → IsAmong serving.left left → IsKnown serving.world event left.seats history.replies) where
   seats_hold : (serving : Serving) (history : RunHistory) → IsRun first serving history → HoldsSeats start serving history
   seats_hold serving history Begins = seats_settled start first no_history begins none
   seats_hold serving history (Goes_on {old = old} {new = new} {history = earlier} event run happens) =
@@ -221,7 +216,8 @@ kept_of start done handed_out replies settled left chain lawful below is = recor
       record { names = its.names; among = its.among; below = still_good start done its.names is.level left.tree lawful its.below is.stands };
 }
 
-module _ (start : Tree) (serving : Serving) (history : RunHistory) (is : HoldsSeats start serving history) (event : Event) (known : serving.waits ≡ true → serving.is_down ≡ false → IsKnown serving.world event history.replies) where
+module _ (start : Tree) (serving : Serving) (history : RunHistory) (is : HoldsSeats start serving history) (event : Event)
+    (known : serving.waits ≡ true → serving.is_down ≡ false → (left : Left) → IsAmong serving.left left → IsKnown serving.world event left.seats history.replies) where
   level_ended : (left : Left) → (down : Bool) → serving.is_down ≡ down → MayBeLeft serving event left
       → IsLevel start (Ended start serving history is.base event down) (replies_with history serving.world event down) is.base.settled left
   level_ended left false up may = may_level start serving event history is up (λ waits. known waits up) left may

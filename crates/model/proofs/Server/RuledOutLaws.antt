@@ -61,23 +61,15 @@ no_taking_back limits run start seats serving history i change is_run handed_out
     let prefix = every_run limits run start seats serving history is_run event tree may in
     (prefix.k, prefix.good i change handed_out (still_there history.done _ i change there) durable, prefix.holds)
 
--- the seats that a crash leaves of a server that is up are those of its table
-seats_same : (limits : ServerLimits) (run : ℕ) (start : Tree) (seats : Seats) (serving : Serving) (history : RunHistory) → IsRun (mounted limits run start seats) serving history
-    → serving.is_down ≡ false → (left : Left) → IsAmong serving.left left → left.seats ≡ serving.world.table.seats
-seats_same limits run start seats serving history Begins up left among = ap (λ (l : Left). l.seats) (only_one (record { tree = start; seats = seats }) left among)
-seats_same limits run start seats serving history (Goes_on event is_run happens) up left among = happens.seats left among
-seats_same limits run start seats serving history (Fails_at event is_run fails) up left among = absurd (false≢true (sym up ∙ fails.down))
-seats_same limits run start seats serving history (Stays_down connection is_run stays) up left among = absurd (false≢true (sym up ∙ stays.still_down))
-seats_same limits run start seats serving history (Flushed is_run flushes) up left among =
-    ap (λ (l : Left). l.seats) (flushes.newest left among) ∙ ap (λ (w : World). w.table.seats) (sym flushes.world)
-
 pub no_reply_alone : NoReplyAlone
-no_reply_alone limits run start seats old new history event is_run happens changed left among = elim (happens.no_others left among) [
-  | inl before ↦ absurd (changed (sym (happens.seats left among) ∙ seats_same limits run start seats old history is_run happens.up left before))
-  | inr after ↦
-      let is : left ≡ left_after (effect_of old.world event) = subst (λ (b : Bool). IsAfterEvent old.world event b left) happens.up after in
-      is ∙ ap left_after (sym happens.world)
+no_reply_alone old new event happens changed either left among = elim either [
+  | inl once ↦ happens.seats once changed left among
+  | inr none ↦ by_mode none happens.defers refl
 ]
+  where
+    by_mode : new.waits ≡ false → (b : Bool) → happens.defers ≡ b → left ≡ left_after new.world
+    by_mode none false mode = happens.seats mode changed left among
+    by_mode none true mode = absurd (false≢true (sym none ∙ happens.seats_deferred mode changed))
 
 -- SEQUENCE
 
@@ -526,7 +518,8 @@ each_event_happens old event up taken =
         durable = λ mode entry e lasts left among.
             lasts_flushed old.world.tree (effect_of old.world event).tree left.tree (executed_of old.world event) entry fits (sym is ∙ e)
             (ap (λ (l : Left). l.tree) (only_one after left among));
-        seats = λ left among. ap (λ (l : Left). l.seats) (only_one after left among);
+        seats = λ mode changed left among. only_one after left among;
+        seats_deferred = λ mode. absurd (false≢true mode);
       },
       (0, (omega arith, refl)),
     )

@@ -6,7 +6,7 @@ use Rattle.std.proofs.lemmas.Slice.Eq.{bytes_eq-Decides}
 use Rattle.model_tree.specs.declared.status.Status.TheVariants as status
 use Rattle.model.specs.Operations.Answer.{Answer, Outcome, Done, Refused}
 use Rattle.model.specs.Operations.Operation.{Argument, SequenceArguments, operation_of}
-use Rattle.model.specs.Server.Runs.{Event, Arrives, Turns, HangsUp, Connects, Takes, effect_of, executed_of, executed_by, executed, done_with, Stored, freed_between, freed_of, RunHistory, history_after, history_failing, taken_by, Serving, Left, mounted, IsAfterEvent, MayBeLeft, DeviceFails, IsRun, Begins, Goes_on, Fails_at, Stays_down, Flushed}
+use Rattle.model.specs.Server.Runs.{Event, Arrives, Turns, HangsUp, Connects, Takes, effect_of, executed_of, executed_by, executed, done_with, Stored, freed_between, freed_of, RunHistory, history_after, history_failing, taken_by, Serving, Left, mounted, IsAfterEvent, left_after, MayBeLeft, Happens, DeviceFails, IsRun, Begins, Goes_on, Fails_at, Stays_down, Flushed, settled_by}
 use Rattle.model.specs.Sessions.SeatRuns.{AreSeats, Stop, freeing, stored_in, freed_in, executed_in, HoldsFrom, IsFreed, EverySeatStays, EveryRunCanFollow, AreLives, numbers_over, EveryNumberOnce, last_of, WasFreed, EveryReplyStaysHeld}
 use Rattle.model_tree.specs.Seats.Seats.{Seat, Seats, seat_of, has_seat, held_in, run_of, SeatsApart}
 use Rattle.model.specs.Server.ServedOnce.{number_by, numbers_in}
@@ -16,6 +16,7 @@ use Rattle.model.specs.Sessions.SessionRuns.{CountsFrom}
 use Rattle.model_tree.specs.Trees.Tree.{Tree}
 use Rattle.model.specs.Server.World.{ServerLimits, World, InProgress, Gives, Replays, Entry, Turned, begun, started_in, refuses, run, is_to_hold, closes, behind, is_last, with_result, one, reply_at, arrives, takes, connects, hangs_up, noting}
 use Rattle.model.proofs.Server.Headline.{only_one, done_behind, taken_done}
+use Rattle.model.proofs.Server.SettledLaws.{is_behind}
 use Rattle.model.proofs.Sessions.SeatLaws.{among_left, among_right, freed_listed, seat_holds, holds_there}
 use Rattle.model.proofs.Sessions.AllOf.{all-found}
 use Rattle.model.proofs.Sessions.SeatTables.{id_in, in_run, id_of_run}
@@ -76,7 +77,7 @@ differ b one other = true≢false (sym one ∙ other)
 module _ (limits : ServerLimits) (run : ℕ) (start : Tree) (first : Seats) (small : run < 2 ^ 32) (are : AreSeats run first) where
   module _ (serving : Serving) (history : RunHistory) (is_run : IsRun (mounted limits run start first) serving history) (so : RunSo run first serving history) (up : serving.is_down ≡ false)
       (event : Event) where
-    seated : RunSeated run serving history
+    seated : RunSeated run serving history (settled_by is_run)
     seated = run_seated limits run start first small are serving history is_run
 
     its_held : Held limits serving.world
@@ -115,6 +116,18 @@ module _ (limits : ServerLimits) (run : ℕ) (start : Tree) (first : Seats) (sma
         by_reply None = still (takes world connection) (takes_table world connection) so
         by_reply (Some reply) = still (takes world connection) (takes_table world connection) so
 
+  -- what may be left after an event was left before, or has the seats of the world
+  left_now : (old new : Serving) (event : Event) (history : RunHistory) → RunSo run first old history → Happens old event new
+      → SeatsSo run first (history_after history old.world event).freed new.world.table.seats → (left : Left) → MayBeLeft old event left
+      → SeatsSo run first (history_after history old.world event).freed left.seats
+  left_now old new event history was happens so left (inl before) =
+      let more = is_behind history old.world event in
+      subst (λ (gone : List (List ℕ)). SeatsSo run first gone left.seats) (sym more.freed_is) (so_more run first history.freed more.freed left.seats (was.held left before))
+  left_now old new event history was happens so left (inr after) =
+      let is : left ≡ left_after (effect_of old.world event) = subst (λ (b : Bool). IsAfterEvent old.world event b left) happens.up after in
+      subst (SeatsSo run first (history_after history old.world event).freed)
+      (sym (ap (λ (l : Left). l.seats) is ∙ ap (λ (w : World). w.table.seats) (sym happens.world))) so
+
   run_so : (serving : Serving) (history : RunHistory) → IsRun (mounted limits run start first) serving history → RunSo run first serving history
   run_so serving history Begins = record { up = λ up. begins; held = λ left among. subst (SeatsSo run first []) (sym (ap (λ (l : Left). l.seats) (only_one (record { tree = start; seats = first }) left among))) begins }
     where
@@ -126,7 +139,7 @@ module _ (limits : ServerLimits) (run : ℕ) (start : Tree) (first : Seats) (sma
       let table : new.world.table ≡ (effect_of old.world event).table = ap (λ (w : World). w.table) happens.world in
       let so : SeatsSo run first (history_after earlier old.world event).freed new.world.table.seats =
       subst (λ (t : Table). SeatsSo run first (history_after earlier old.world event).freed t.seats) (sym table) (behind_so earlier old.world event (was.up happens.up) now) in
-      record { up = λ up. so; held = λ left among. subst (SeatsSo run first (history_after earlier old.world event).freed) (sym (happens.seats left among)) so }
+      record { up = λ up. so; held = λ left among. left_now old new event earlier was happens so left (happens.no_others left among) }
   run_so serving history (Fails_at {old = old} {new = new} {history = earlier} event is_run fails) =
       let was = run_so old earlier is_run in
       record {
@@ -171,6 +184,13 @@ left_so limits stop = by_down stop.serving.is_down refl stop.leaves.1
 pub every_seat_stays : EverySeatStays
 every_seat_stays limits stop id seat there = (left_so limits stop).stays id seat there
 
+-- and the server has it, while it is up
+pub seat_stays_up : (limits : ServerLimits) (stop : Stop limits) → stop.serving.is_down ≡ false → (id : List ℕ) (seat : Seat) → seat_of id stop.seats ≡ Some seat
+    → (seat_of id stop.serving.world.table.seats ≡ Some seat) ⊎ IsFreed stop.serving.world.table.seats (freed_in stop) id
+seat_stays_up limits stop up id seat there =
+    let so = (run_so limits stop.run stop.start stop.seats stop.counted stop.begins stop.serving stop.history stop.is_run).up up in
+    (so_more stop.run stop.seats stop.history.freed (freeing stop.serving stop.event stop.serving.is_down) stop.serving.world.table.seats so).stays id seat there
+
 pub every_run_can_follow : EveryRunCanFollow
 every_run_can_follow limits stop next later = record {
   apart = (left_so limits stop).apart;
@@ -200,7 +220,7 @@ module _ (limits : ServerLimits) (stored : List Stored) (i : ℕ) (one : Stored)
   ]
 
 pub every_reply_stays_held : EveryReplyStaysHeld
-every_reply_stays_held limits first lives are i one at = elim (every_reply_is_held limits first i one at) [
+every_reply_stays_held limits first lives are i one at settled = elim (every_reply_is_held limits first i one at settled) [
   | inl holds ↦ elim (carried_on limits (stored_in first) i one first lives are holds) [
     | inl last ↦ inl last
     | inr freed ↦ inr (inr freed)

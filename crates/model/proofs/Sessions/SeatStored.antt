@@ -5,7 +5,7 @@ use Rattle.std.specs.List.{IsAmong}
 use Rattle.std.proofs.lemmas.Bool.{true≢false}
 use Rattle.model_tree.specs.Seats.Seats.{HeldReply, Seats, has_seat, held_at, run_of}
 use Rattle.model_tree.specs.Trees.Tree.{Tree}
-use Rattle.model.specs.Server.Runs.{Event, Arrives, Turns, HangsUp, Connects, Takes, effect_of, RunHistory, Serving, Stored, stored_as, kept_in, held_of_session, kept_at, stored_by, stored_of, naming_stored, names_after, replies_by, taken_by, history_after, mounted, IsRun, Begins, Goes_on, Fails_at, Stays_down, Flushed, AreSeats}
+use Rattle.model.specs.Server.Runs.{Event, Arrives, Turns, HangsUp, Connects, Takes, effect_of, RunHistory, Serving, Left, Stored, stored_as, kept_in, held_of_session, kept_at, stored_by, stored_of, naming_stored, names_after, replies_by, taken_by, history_after, mounted, IsRun, Begins, Goes_on, Fails_at, Stays_down, Flushed, AreSeats}
 use Rattle.model.specs.Sessions.Session.{Table, Session, is_session, slot_at}
 use Rattle.model.specs.Server.World.{ServerLimits, World, one, reply_at}
 use Rattle.model.proofs.Sessions.AllOf.{all-found}
@@ -21,9 +21,10 @@ pub record IsListed (replies : List (Stored × List ℕ)) (stored : Stored) : Ty
   pub names : List ℕ
   pub among : IsAmong replies (stored, names)
 
-abbrev pub IsKnown : World → Event → List (Stored × List ℕ) → Type 0
-IsKnown world event replies =
-    (stored : Stored) → stored_of world event ≡ Some stored → held_at stored.session stored.slot world.table.seats ≡ Some stored.held → IsListed replies stored
+-- a reply that an event stores, and that these seats hold already, is listed
+abbrev pub IsKnown : World → Event → Seats → List (Stored × List ℕ) → Type 0
+IsKnown world event seats replies =
+    (stored : Stored) → stored_of world event ≡ Some stored → held_at stored.session stored.slot seats ≡ Some stored.held → IsListed replies stored
 
 -- What is stored is of a session of the table
 
@@ -112,10 +113,12 @@ run_listed first serving history (Stays_down {old = old} {new = new} {history = 
 run_listed first serving history (Flushed {old = old} {new = new} is_run flushes) up = run_listed first old history is_run flushes.up
 
 pub run_is_known : (limits : ServerLimits) (run : ℕ) (start : Tree) (seats : Seats) → run < 2 ^ 32 → AreSeats run seats → (serving : Serving) (history : RunHistory)
-    → IsRun (mounted limits run start seats) serving history → serving.is_down ≡ false → (event : Event) → IsKnown serving.world event history.replies
+    → IsRun (mounted limits run start seats) serving history → serving.is_down ≡ false → (event : Event) → (left : Left) → IsAmong serving.left left
+    → IsKnown serving.world event left.seats history.replies
 unfolding AreListed
-run_is_known limits run start seats small are serving history is_run up event stored is there =
-    let seated = (run_seated limits run start seats small are serving history is_run).up up in
+run_is_known limits run start seats small are serving history is_run up event left among stored is there =
+    let all = run_seated limits run start seats small are serving history is_run in
+    let seated = all.up up in
     let held = run_held limits run start seats serving history is_run in
     let after = event_seated limits run serving.world held seated.1 history.stored history.freed seated.0 event in
     let found = event_there serving.world event stored is in
@@ -123,4 +126,4 @@ run_is_known limits run start seats small are serving history is_run up event st
     let of_run = all-found (λ (session : Session). in_run session.client ≡ run) (is_session stored.session) sessions found.0 after.0.of_run found.1 in
     let named : id_in found.0 ≡ stored.session = id_of stored.session found.0 (found_passes (is_session stored.session) sessions found.0 found.1) in
     let its_run : run_of stored.session ≡ run = ap run_of (sym named) ∙ id_of_run run found.0.client found.0.serial small of_run in
-    run_listed (mounted limits run start seats) serving history is_run up stored (seated.0.theirs stored.session stored.slot stored.held its_run there)
+    run_listed (mounted limits run start seats) serving history is_run up stored (all.theirs up left among stored.session stored.slot stored.held its_run there)

@@ -45,13 +45,12 @@ NoTakingBack =
     × (tree ≡ tree_after start (take k (done_with history (executed serving event))))
 
 -- One that keeps a reply and loses its change: if an event changes the seats, a crash after it
--- leaves nothing from before it.
+-- leaves nothing from before it, or the event defers and they wait.
 abbrev pub NoReplyAlone : Type 0
 NoReplyAlone =
-    (limits : ServerLimits) (run : ℕ) (start : Tree) (seats : Seats) (old new : Serving)
-    (history : RunHistory) (event : Event)
-    → IsRun (mounted limits run start seats) old history → Happens old event new
+    (old new : Serving) (event : Event) (happens : Happens old event new)
     → new.world.table.seats ≢ old.world.table.seats
+    → (happens.defers ≡ false) ⊎ (new.waits ≡ false)
     → (left : Left) → IsAmong new.left left → left ≡ left_after new.world
 
 -- One that runs a retry again: if the slot keeps the reply to this number, nothing runs.

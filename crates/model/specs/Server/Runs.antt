@@ -306,9 +306,9 @@ abbrev pub MayBeTaken : (waits : Bool) → Event → Type 0
 MayBeTaken false event = Unit {0}
 MayBeTaken true event = TakesNone event
 
--- an event happens; then, of a durable operation only the tree after it may be left, and only the
--- seats after it: if these change, nothing from before. If the event defers, a durable operation
--- need not be kept yet: it waits for the next flush.
+-- An event happens. Then, of a durable operation only the tree after it may be left; and if the
+-- seats change, nothing from before. If the event defers, neither need be kept yet: what has to
+-- last waits for the next flush.
 pub record Happens (old : Serving) (event : Event) (new : Serving) : Type 0 where
   pub up : old.is_down ≡ false
   pub world : new.world ≡ effect_of old.world event
@@ -323,7 +323,10 @@ pub record Happens (old : Serving) (event : Event) (new : Serving) : Type 0 wher
   pub waits_on : old.waits ≡ true → new.waits ≡ true
   pub at_once : defers ≡ false → new.waits ≡ old.waits
   pub taken : MayBeTaken old.waits event
-  pub seats : (left : Left) → IsAmong new.left left → left.seats ≡ new.world.table.seats
+  pub seats : defers ≡ false → new.world.table.seats ≢ old.world.table.seats
+      → (left : Left) → IsAmong new.left left → left ≡ left_after new.world
+  pub seats_deferred : defers ≡ true → new.world.table.seats ≢ old.world.table.seats
+      → new.waits ≡ true
 
 -- A flush of all that waits: of what a crash might leave, only the newest remains. It is no event,
 -- since no client sees it.
@@ -376,6 +379,31 @@ pub data IsRun (start : Serving) : Serving → RunHistory → Type 0 where
       → IsRun start new (history_after history old.world (Takes connection))
   Flushed : {old new : Serving} {history : RunHistory} → IsRun start old history → Flushes old new
       → IsRun start new history
+
+-- Of the replies that were stored, how many were when last nothing waited: a flush has kept them.
+-- Those stored since then wait for the next one.
+abbrev pub settled_by : {start serving : Serving} {history : RunHistory}
+    → IsRun start serving history → ℕ
+settled_by Begins = 0
+settled_by (Goes_on {old = old} {new = new} {history = history} event run happens) =
+    if new.waits then settled_by run else length (history_after history old.world event).stored
+settled_by (Fails_at event run fails) = settled_by run
+settled_by (Stays_down connection run stays) = settled_by run
+settled_by (Flushed {history = history} run flushes) = length history.stored
+
+-- and how many were when a reply was taken last
+abbrev pub taken_with : Event → (now before : ℕ) → ℕ
+taken_with (Takes connection) now before = now
+taken_with event now before = before
+
+abbrev pub stored_when_taken : {start serving : Serving} {history : RunHistory}
+    → IsRun start serving history → ℕ
+stored_when_taken Begins = 0
+stored_when_taken (Goes_on {history = history} event run happens) =
+    taken_with event (length history.stored) (stored_when_taken run)
+stored_when_taken (Fails_at event run fails) = stored_when_taken run
+stored_when_taken (Stays_down {history = history} connection run stays) = length history.stored
+stored_when_taken (Flushed run flushes) = stored_when_taken run
 
 -- Good prefixes
 

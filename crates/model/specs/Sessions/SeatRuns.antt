@@ -10,7 +10,7 @@ use Rattle.model.specs.Operations.Operation.{Argument, CreateSessionArguments, S
 use Rattle.model.specs.Wire.Record.{framed}
 use Rattle.model.specs.Wire.Rpc.{Success, reply_text}
 pub use Rattle.model.specs.Server.Runs.{AreSeats}
-use Rattle.model.specs.Server.Runs.{Event, before, effect_of, executed_of, is_done, names_after, Stored, RunHistory, Serving, Left, mounted, executed, done_with, stored_by, stored_of, freed_of, MayHoldSeats, IsRun}
+use Rattle.model.specs.Server.Runs.{Event, before, effect_of, executed_of, is_done, names_after, Stored, RunHistory, Serving, Left, mounted, executed, done_with, stored_by, stored_of, freed_of, MayHoldSeats, IsRun, settled_by, stored_when_taken}
 use Rattle.model_tree.specs.Seats.Seats.{HeldReply, Seat, Seats, run_of, seat_of, has_seat, held_at}
 use Rattle.model.specs.declared.holding.Holding.{Holding}
 use Rattle.model.specs.declared.holding.Holding.TheVariants as holdings
@@ -73,13 +73,28 @@ pub record IsFreed (seats : Seats) (freed : List (List ℕ)) (id : List ℕ) : T
   pub gone : has_seat id seats ≡ false
   pub listed : IsAmong freed id
 
+-- how many of its replies were stored when last nothing waited
+abbrev pub settled_in : {limits : ServerLimits} → Stop limits → ℕ
+settled_in stop = settled_by stop.is_run
+
+-- The i-th is one of those. While nothing waits each one is.
+abbrev pub IsSettled : {limits : ServerLimits} → Stop limits → ℕ → Type 0
+IsSettled stop i = stop.serving.waits ≡ true → i < settled_in stop
+
 -- Each reply that a seat held, and so each one that was made for a slot of a session with a seat,
--- is held by what a crash leaves, until the next of its slot is, or the seat is freed.
+-- is held by what a crash leaves, until the next of its slot is, or the seat is freed. One that was
+-- stored while something waited has to last from the next flush on.
 abbrev pub EveryReplyIsHeld : Type 0
 EveryReplyIsHeld =
     (limits : ServerLimits) (stop : Stop limits) (i : ℕ) (one : Stored)
-    → slice_get stop.history.stored i ≡ Some one
+    → slice_get stop.history.stored i ≡ Some one → IsSettled stop i
     → HoldsFrom stop.left (stored_in stop) i one ⊎ IsFreed stop.left (freed_in stop) one.session
+
+-- A reply is taken only while nothing waits: so each reply that was ever taken is among those.
+abbrev pub EveryTakenIsSettled : Type 0
+EveryTakenIsSettled =
+    (limits : ServerLimits) (stop : Stop limits)
+    → stored_when_taken stop.is_run ≤ settled_in stop
 
 -- A seat that a run begins with is left as it is, or it is freed.
 abbrev pub EverySeatStays : Type 0
@@ -111,11 +126,12 @@ pub record AnswersDead (table : Table) (id : List ℕ) (uid count : ℕ)
       → begin uid count arguments table ≡ Refuses (dead_refusal id table.seats)
   pub never : begin uid count arguments table ≡ Runs → ⊥
 
--- while it is up the server has the seats that a crash would leave
+-- while it is up and nothing waits, the server has the seats that a crash would leave
 pub record AnswersBySeats (serving : Serving) (run : ℕ) : Type 0 where
   pub dead : (id : List ℕ) → run_of id < run → (uid count : ℕ) (arguments : SequenceArguments)
       → arguments.session ≡ id → AnswersDead serving.world.table id uid count arguments
-  pub seats : (left : Left) → IsAmong serving.left left → left.seats ≡ serving.world.table.seats
+  pub seats : serving.waits ≡ false → (left : Left) → IsAmong serving.left left
+      → left.seats ≡ serving.world.table.seats
 
 abbrev pub EveryDeadSession : Type 0
 EveryDeadSession =
@@ -270,10 +286,11 @@ abbrev pub WasFreed : {limits : ServerLimits} → (id : List ℕ) → List (Stop
 WasFreed id [] = ⊥
 WasFreed id (stop ∷ lives) = IsFreed stop.left (freed_in stop) id ⊎ WasFreed id lives
 
--- What was held in a run is held at the crash of each later one, or its seat was freed on the way.
+-- What was held in a run, and was settled at its crash, is held at the crash of each later one, or
+-- its seat was freed on the way.
 abbrev pub EveryReplyStaysHeld : Type 0
 EveryReplyStaysHeld =
     (limits : ServerLimits) (first : Stop limits) (lives : List (Stop limits)) → AreLives first lives
-    → (i : ℕ) (one : Stored) → slice_get first.history.stored i ≡ Some one
+    → (i : ℕ) (one : Stored) → slice_get first.history.stored i ≡ Some one → IsSettled first i
     → HoldsFrom (last_of first lives).left (stored_in first) i one
     ⊎ WasFreed one.session (first ∷ lives)

@@ -1,6 +1,6 @@
 use Rattle.model.proofs.Server.HeldLaws.{every_held_is_kept}
 use Rattle.model.proofs.Sessions.SeatLives.{every_seat_stays, every_run_can_follow, every_number_once, every_reply_stays_held}
-use Rattle.model.proofs.Sessions.SeatRunLaws.{every_reply_is_held, every_dead_session}
+use Rattle.model.proofs.Sessions.SeatRunLaws.{every_reply_is_held, every_taken_is_settled, every_dead_session}
 use Rattle.model.proofs.Sessions.SeatReplies.{every_reply_is_stored}
 use Rattle.model.proofs.Sessions.SeatsFreed.{every_freeing_is_asked}
 use Rattle.model.proofs.Sessions.SeatsSit.{every_session_sits}
@@ -8,6 +8,9 @@ use Rattle.model.proofs.runs.every_life.Goals as goal
 
 pub returns-clause-held : goal.returns-clause-held
 returns-clause-held c = every_reply_is_held
+
+pub returns-clause-taken : goal.returns-clause-taken
+returns-clause-taken c = every_taken_is_settled
 
 pub returns-clause-stays : goal.returns-clause-stays
 returns-clause-stays c = every_seat_stays

@@ -1,8 +1,11 @@
-use Rattle.server.proofs.LifeStops.{every_held, every_stays, every_follows, every_dead, every_once, every_retried, every_sits, every_stored, every_asked, every_ended}
+use Rattle.server.proofs.LifeStops.{every_held, every_taken, every_stays, every_follows, every_dead, every_once, every_retried, every_sits, every_stored, every_asked, every_ended}
 use Rattle.server.proofs.laws.every_life.Goals as goal
 
 pub returns-clause-held : goal.returns-clause-held
 returns-clause-held c = every_held
+
+pub returns-clause-taken : goal.returns-clause-taken
+returns-clause-taken c = every_taken
 
 pub returns-clause-stays : goal.returns-clause-stays
 returns-clause-stays c = every_stays

@@ -6,6 +6,7 @@ use Rattle.fs.specs.declared.fault.FsFault.TheVariants as fault
 use Rattle.fs.proofs.ChangeLaws.{full_room, done_room, at_once, told_so, waiting}
 use Rattle.volume.specs.Changes.{Done, IsTree}
 use Rattle.fs.proofs.ReadLaws.{commit_early, commit_goes_on, committed, commit_fails}
+use Rattle.volume.specs.VolumeState.{with_tree}
 use Rattle.volume.proofs.ServeLaws.{told_err}
 use Rattle.fs.proofs.fs.Fs.commit.Goals as goal
 
@@ -44,12 +45,12 @@ returns-in_err-flush-clause-volume g c =
     let fault = c.in_err-flush.field-0.0 in
     rw (told_err c.from_residual-in_err-flush.result (volume_fault fault) c.from_residual-in_err-flush.ensures.1)
     (told_so g.D.Device.keeps_word (IsTree fs.volume fs.volume.tree) _ _ _ _ fault
-    (at_once g.D.Device.keeps_word _ _ _ _ _ fs.volume.tree (λ undone. refl) refl c.if-self.false refl c.in_err-flush.ensures.volume))
+    (at_once g.D.Device.keeps_word _ _ _ _ _ (with_tree fs.volume fs.volume.tree) (λ undone. refl) refl c.if-self.false refl c.in_err-flush.ensures.volume))
 
 pub returns-clause-volume : goal.returns-clause-volume
 unfolding fs_of fs_failures
 returns-clause-volume g c =
-    at_once g.D.Device.keeps_word _ _ _ _ Done (fs_of c.args.self.now).volume.tree (λ undone. refl) refl c.if-self.false refl c.in_ok-flush.ensures.volume
+    at_once g.D.Device.keeps_word _ _ _ _ Done (with_tree (fs_of c.args.self.now).volume (fs_of c.args.self.now).volume.tree) (λ undone. refl) refl c.if-self.false refl c.in_ok-flush.ensures.volume
 
 pub returns-then-self-clause-volume : goal.returns-then-self-clause-volume
 unfolding fs_of fs_failures

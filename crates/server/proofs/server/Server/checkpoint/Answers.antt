@@ -35,8 +35,8 @@ returns-in-Ok-clause-ok g c = λ keeps.
     let did = c.in-Ok.ensures in
     let volume = did.volume.volume_changes in
     checkpointed (fs_of s.fs) (fs_of c.checkpoint.new.self) (table_of s.table) (opens_of s.opens) (connections_of s.connections) volume.same did.changes did.waits
-    (did.shows.tree_is keeps) (volume.ends.seats keeps (kept_of (fs_of s.fs).volume) false (false, (refl, refl), inl refl)) (sym c.if-is_down.ensures) volume.ends.still_up (did.recent keeps)
-    (volume.moments keeps (kept_of (fs_of s.fs).volume) false (false, (refl, refl), inl refl)) (volume.brief keeps)
+    (did.shows.tree_is keeps) (sym c.if-is_down.ensures) volume.ends.still_up (did.recent keeps)
+    (volume.moments keeps (kept_of (fs_of s.fs).volume) false (false, (refl, refl), refl)) (volume.brief keeps)
 
 pub returns-in-Ok-clause-kept : goal.returns-in-Ok-clause-kept
 unfolding world_of volume_of server_failures
@@ -63,7 +63,7 @@ returns-in-Err-clause-fails g c = λ keeps up.
     (λ down. true≢false (sym (did.down.0 (ap Err down)) ∙ up)) in
     let failed = rw device at did.volume in
     checkpoint_fails (fs_of s.fs) (fs_of c.checkpoint.new.self) (table_of s.table) (opens_of s.opens) (connections_of s.connections) volume.same did.changes did.waits
-    up failed.volume_changes.ends.down (volume.moments keeps (kept_of (fs_of s.fs).volume) false (false, (refl, refl), inl refl)) (volume.brief keeps)
+    up failed.volume_changes.ends.down (volume.moments keeps (kept_of (fs_of s.fs).volume) false (false, (refl, refl), refl)) (volume.brief keeps)
 
 pub returns-in-Err-clause-refused : goal.returns-in-Err-clause-refused
 unfolding world_of volume_of server_failures

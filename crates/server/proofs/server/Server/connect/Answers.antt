@@ -6,6 +6,7 @@ use Rattle.server.specs.Connections.{connections_of, connection_view, IsOfRun}
 use Rattle.server.specs.declared.fault.ServerFault.TheVariants as faults
 use Rattle.server.specs.Views.{waits_of, world_of, volume_of, world_by}
 use Rattle.model.specs.Server.Runs as runs
+use Rattle.model.proofs.Server.ServedOnceLaws.{connects_table}
 use Rattle.server.proofs.Moves.{does_quietly}
 use Rattle.server.proofs.Refusals.{told_by}
 use Rattle.server.proofs.SlabLaws.{count_of, with_slot, stands_none, grew}
@@ -63,7 +64,7 @@ returns-clause-ok g c =
     λ keeps. does_quietly (fs_of s.fs).volume _ _ _ _ (runs.Connects conn) _ refl up
     (connected (shared_of s.fs s.table s.opens) (connections_of s.connections) _ conn (connection_view c.in_ok-connection.connection) can
     (with_slot s.connections c.insert.new.self conn c.in_ok-connection.connection updates) c.in_ok-connection.ensures)
-    (s.agrees keeps up).seats refl (may_be _ (runs.Connects conn) tt)
+    (connects_table _ conn) refl (may_be _ (runs.Connects conn) tt)
 
 pub returns-clause-is_full : goal.returns-clause-is_full
 unfolding world_of

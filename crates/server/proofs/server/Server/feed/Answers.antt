@@ -6,6 +6,7 @@ use Rattle.rpc.specs.Assembly.{record_limits}
 use Rattle.server.specs.Connections.{IsOfRun, connections_of, connection_view}
 use Rattle.server.specs.Seen.{Took, taken_on}
 use Rattle.server.specs.Views.{waits_of, world_of, volume_of, world_by}
+use Rattle.model.proofs.Server.ServedOnceLaws.{arrives_table}
 use Rattle.server.proofs.Moves.{does_quietly}
 use Rattle.server.proofs.SlabLaws.{stands, stands_none, wrote, wrote_count}
 use Rattle.server.proofs.Worlds.{may_be, AllOfRun, all_of_run_with, arrived_of_run, fed}
@@ -42,7 +43,7 @@ returns-in_default-feed-clause-closed g c =
     λ keeps is. does_quietly (fs_of s.fs).volume _ _ _ _ (runs.Arrives c.args.conn c.args.piece.now) _ refl up
     (fed (shared_of s.fs s.table s.opens) (connections_of s.connections) _ c.args.conn c.args.piece.now (connection_view before) (connection_view after)
     there (wrote s.connections c.args.conn before after c.in-Some.ensures.value) c.feed.ensures.arrived)
-    (s.agrees keeps up).seats (ap Took (sym (ap (taken_on (world_by (shared_of s.fs s.table s.opens) (connections_of s.connections)) c.args.piece.now) there ∙ none))) (may_be _ (runs.Arrives c.args.conn c.args.piece.now) tt)
+    (arrives_table _ c.args.conn c.args.piece.now) (ap Took (sym (ap (taken_on (world_by (shared_of s.fs s.table s.opens) (connections_of s.connections)) c.args.piece.now) there ∙ none))) (may_be _ (runs.Arrives c.args.conn c.args.piece.now) tt)
 
 pub returns-in_default-feed-clause-is_none : goal.returns-in_default-feed-clause-is_none
 unfolding world_of
@@ -62,7 +63,7 @@ returns-clause-ok g c =
     λ keeps. does_quietly (fs_of s.fs).volume _ _ _ _ (runs.Arrives c.args.conn c.args.piece.now) _ refl up
     (fed (shared_of s.fs s.table s.opens) (connections_of s.connections) _ c.args.conn c.args.piece.now (connection_view before) (connection_view after)
     there (wrote s.connections c.args.conn before after c.in-Some.ensures.value) c.feed.ensures.arrived)
-    (s.agrees keeps up).seats (ap Took (sym (ap (taken_on (world_by (shared_of s.fs s.table s.opens) (connections_of s.connections)) c.args.piece.now) there ∙ some))) (may_be _ (runs.Arrives c.args.conn c.args.piece.now) tt)
+    (arrives_table _ c.args.conn c.args.piece.now) (ap Took (sym (ap (taken_on (world_by (shared_of s.fs s.table s.opens) (connections_of s.connections)) c.args.piece.now) there ∙ some))) (may_be _ (runs.Arrives c.args.conn c.args.piece.now) tt)
 
 pub returns-clause-is_none : goal.returns-clause-is_none
 unfolding world_of

@@ -36,7 +36,7 @@ returns-in-Ok-clause-ok g c = λ keeps was.
     let volume = did.flushes.volume_changes in
     let up = sym c.if-is_down.ensures in
     flushed_all (fs_of s.fs) (fs_of c.flush.new.self) (table_of s.table) (opens_of s.opens) (connections_of s.connections) volume.same did.flushes.no_count
-    (did.shows.tree_is keeps) (volume.ends.seats keeps (kept_of (fs_of s.fs).volume) true refl) (s.agrees keeps up).seats up volume.ends.still_up did.flushes.waits
+    (did.shows.tree_is keeps) (s.agrees keeps up).seats up volume.ends.still_up did.flushes.waits
     (volume.moments keeps (kept_of (fs_of s.fs).volume) true refl) (volume.brief keeps) (volume.ends.leaves keeps (kept_of (fs_of s.fs).volume) true refl)
 
 pub returns-in-Ok-clause-kept : goal.returns-in-Ok-clause-kept

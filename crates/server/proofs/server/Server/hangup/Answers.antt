@@ -11,6 +11,7 @@ use Rattle.server.specs.Seen.{Stays}
 use Rattle.server.proofs.Refusals.{told_by, begins_on, runs_on, hang_up_refused}
 use Rattle.server.specs.Views.{world_of, volume_of, waits_of, server_failures, seen_with}
 use Rattle.server.proofs.HangUps.{turned_on, once_on, fewer_left}
+use Rattle.model.proofs.Server.ServedOnceLaws.{hangs_up_table}
 use Rattle.server.proofs.Moves.{does_quietly, same_seen}
 use Rattle.server.proofs.SlabLaws.{stands_none, without_slot, absent, present, removed_count}
 use Rattle.server.proofs.Worlds.{AllOfRun, all_of_run_without, hung_up, may_be}
@@ -94,7 +95,7 @@ returns-clause-ok g c =
     let does =
     does_quietly (fs_of mid.fs).volume _ _ _ _ (runs.HangsUp c.args.conn) _ refl inv.is_up
     (hung_up (shared_of mid.fs mid.table mid.opens) (connections_of mid.connections) _ c.args.conn (sym c.is_busy.ensures ∙ c.loop-self-test.false)
-    (without_slot mid.connections c.try_remove.new.self c.args.conn c.try_remove.ensures.updates)) (mid.agrees keeps inv.is_up).seats refl (may_be _ (runs.HangsUp c.args.conn) tt) was.0 was.3 in
+    (without_slot mid.connections c.try_remove.new.self c.args.conn c.try_remove.ensures.updates)) (hangs_up_table _ c.args.conn) refl (may_be _ (runs.HangsUp c.args.conn) tt) was.0 was.3 in
     (seen_with mid was.0, was.1, (does.0, does.1), was.2)
 
 pub returns-clause-on : goal.returns-clause-on

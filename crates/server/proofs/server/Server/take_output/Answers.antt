@@ -9,6 +9,7 @@ use Rattle.session.specs.Views.{table_of}
 use Rattle.server.specs.Connections.{connections_of, connection_view, IsOfRun}
 use Rattle.server.specs.Seen.{Gave}
 use Rattle.server.specs.Views.{world_of, volume_of, waits_of}
+use Rattle.model.proofs.Server.ServedOnceLaws.{takes_table}
 use Rattle.server.proofs.Moves.{moves_none, does_quietly}
 use Rattle.server.proofs.SlabLaws.{absent, present, stands, stands_none, wrote, wrote_count}
 use Rattle.server.proofs.Worlds.{AllOfRun, all_of_run_with, taken_of_run, took, stays_down, may_take}
@@ -39,7 +40,7 @@ returns-in-Some-clause-ok g c =
     λ keeps up none. does_quietly (fs_of s.fs).volume _ _ _ _ (runs.Takes c.args.conn) _ refl up
     (took (shared_of s.fs s.table s.opens) (connections_of s.connections) _ c.args.conn (connection_view before) (connection_view after)
     there (wrote s.connections c.args.conn before after c.in-Some.ensures.value) c.take_output.ensures.left)
-    (s.agrees keeps up).seats (ap Gave (c.take_output.ensures.given ∙ ap reply_in (sym there))) (may_take _ (runs.Takes c.args.conn) none)
+    (takes_table _ c.args.conn) (ap Gave (c.take_output.ensures.given ∙ ap reply_in (sym there))) (may_take _ (runs.Takes c.args.conn) none)
 
 pub returns-in-Some-clause-down : goal.returns-in-Some-clause-down
 unfolding world_of volume_of waits_of

@@ -21,7 +21,7 @@ use Rattle.server.proofs.Moves.{broken_leaves, leaves_now}
 use Rattle.server.proofs.Pairs.{recent_left}
 use Rattle.server.proofs.Refusals.{told_by, device_told, turn_refused}
 use Rattle.server.proofs.SlabLaws.{stands, stands_none, wrote, wrote_count, rewrote, numbers_rise}
-use Rattle.server.proofs.ServedTurns.{turned, turn_of, undone, broken, gone_on_at, gives_deferred, gives_waiting, ready_turned, turning_moments}
+use Rattle.server.proofs.ServedTurns.{turned, turn_of, undone, broken, gone_on_at, gives_deferred, gives_waiting, turning_moments}
 use Rattle.server.proofs.Worlds.{may_be, AllOfRun, all_of_run_with, happened_leaving, failed_from}
 use Rattle.server.proofs.server.Server.take_turn.Goals as goal
 
@@ -109,8 +109,8 @@ returns-in_err-turn-clause-fails g c =
             (ap₂ (shared (fs_of c.turn.new.engine.fs.now)) back.1.0 back.1.1) (rewrote s.connections c.args.conn before after c.in-Some.ensures.value back.0) (fs_of s.fs).volume.tree)
             (failed.lets_wait.undone broken≢done);
         moves = record {
-          moments = turning_moments (shared_of s.fs s.table s.opens) (connections_of s.connections) c.args.conn c.args.now recent _ ready.recent up adds;
-          leaves = broken_leaves (fs_of s.fs).volume (fs_of c.turn.new.engine.fs.now).volume left recent ready.recent adds volume.same;
+          moments = turning_moments (shared_of s.fs s.table s.opens) (connections_of s.connections) c.args.conn c.args.now recent _ ready up adds;
+          leaves = broken_leaves (fs_of s.fs).volume (fs_of c.turn.new.engine.fs.now).volume left recent ready adds volume.same;
           same = volume.same;
           brief = volume.brief keeps;
         };
@@ -171,20 +171,20 @@ returns-clause-ok g c =
     let made = turned (shared_of s.fs s.table s.opens) (shared_of c.turn.new.engine.fs.now c.turn.new.engine.table.now c.turn.new.engine.opens.now) (connections_of s.connections) _ c.args.conn c.args.now
     (connection_view before) (connection_view after) (wrote s.connections c.args.conn before after c.in-Some.ensures.value) c.in_ok-turn.field-0
     ((rw c.in_ok-turn.was at c.turn.ensures.turn) keeps) (numbers_rise s.connections) there volume.same in
-    let left = volume.ends.leaves keeps _ _ gives (map kept_by recent) ready.recent in (
+    let left = volume.ends.leaves keeps _ _ gives (map kept_by recent) ready in (
       map left_of left.0,
       record {
-        happens = happened_leaving (fs_of s.fs).volume (fs_of c.turn.new.engine.fs.now).volume _ _ recent left.0 ready.seated _ _ _ _ (fs_of s.fs).defers (runs.Turns c.args.conn c.args.now) up volume.ends.still_up made.1
+        happens = happened_leaving (fs_of s.fs).volume (fs_of c.turn.new.engine.fs.now).volume _ _ recent left.0 (s.agrees keeps up).seats _ _ _ _ (fs_of s.fs).defers (runs.Turns c.args.conn c.args.now) up volume.ends.still_up made.1
             left.1 (may_be _ (runs.Turns c.args.conn c.args.now) tt) did.lets_wait.waits_on did.lets_wait.at_once
             (gives_waiting (shared_of s.fs s.table s.opens) (connections_of s.connections) c.args.conn c.args.now (connection_view before) there _ (fs_of c.turn.new.engine.fs.now) did.lets_wait keeps);
         says = ap Turned made.0;
         moves = record {
-          moments = turning_moments (shared_of s.fs s.table s.opens) (connections_of s.connections) c.args.conn c.args.now recent _ ready.recent up (volume.moments keeps _ _ gives);
+          moments = turning_moments (shared_of s.fs s.table s.opens) (connections_of s.connections) c.args.conn c.args.now recent _ ready up (volume.moments keeps _ _ gives);
           leaves = leaves_now (fs_of c.turn.new.engine.fs.now).volume (map left_of left.0) (recent_left _ left.0 left.1.ready).leaves;
           same = volume.same;
           brief = volume.brief keeps;
         };
-        ready = ready_turned (shared_of s.fs s.table s.opens) (connections_of s.connections) c.args.conn c.args.now recent (fs_of c.turn.new.engine.fs.now).volume left.0 ready up (volume.ends.seats keeps _ _ gives) left.1;
+        ready = recent_left (fs_of c.turn.new.engine.fs.now).volume left.0 left.1.ready;
       },
       refl,
     )
