@@ -1,3 +1,4 @@
+pub mod Between
 pub mod Carried
 pub mod Made
 pub mod Places

@@ -26,9 +26,12 @@ choose : {A : Type 0} (P : A → Type 0) (b : Bool) (x y : A) → P x → P y �
 choose P true x y p q = p
 choose P false x y p q = q
 
-pub put : (connections : Keyed Connection) (here number : ℕ) (new : Connection) → is_some (at number connections) ≡ true
-    → is_some (at number (with connections here new)) ≡ true
-put connections here number new there = elim (cases_eq number here) [
+-- these have one of this number
+abbrev IsIn : (number : ℕ) → Keyed Connection → Type 0
+IsIn number connections = is_some (at number connections) ≡ true
+
+put : (here number : ℕ) (connections : Keyed Connection) (new : Connection) → IsIn number connections → IsIn number (with connections here new)
+put here number connections new there = elim (cases_eq number here) [
   | inl same ↦ ap is_some (ap (λ (n : ℕ). at n (with connections here new)) same ∙ at-with_same connections here new)
   | inr apart ↦ ap is_some (at-with_other connections here number new apart) ∙ there
 ]
@@ -79,35 +82,36 @@ module _ (world : World) (request : InProgress) where
   run_keeps now (Argument.ReclaimComplete false) = tabled_keeps 58 Answer.ReclaimComplete (sessions.reclaim_complete request.context.client world.table)
   run_keeps now operation = refl
 
--- A turn
+-- A turn, and what holds of the connections whatever the one that has it becomes
 
-module _ (world : World) (here number : ℕ) (there : IsThere number world) where
+module _ (world : World) (here : ℕ) (Has : Keyed Connection → Type 0) (puts : (connections : Keyed Connection) (new : Connection) → Has connections → Has (with connections here new))
+    (there : Has world.connections) where
   module _ (after : World) (same : after.connections ≡ world.connections) (executed : Option Entry) where
-    still : is_some (at number after.connections) ≡ true
-    still = ap (λ (c : Keyed Connection). is_some (at number c)) same ∙ there
+    still : Has after.connections
+    still = subst Has (sym same) there
 
-    ended : (left : InProgress) (last : Status) (holds : Bool) → IsThere number (ends after here left last holds executed).world
-    ended left last holds = put after.connections here number (Replied (framed (reply_text left.xid (Success (result_of left last))))) still
+    ended : (left : InProgress) (last : Status) (holds : Bool) → Has (ends after here left last holds executed).world.connections
+    ended left last holds = puts after.connections (Replied (framed (reply_text left.xid (Success (result_of left last))))) still
 
-    gone_on : (left : InProgress) → IsThere number (goes_on after here left executed).world
-    gone_on left = put after.connections here number (Busy left) still
+    gone_on : (left : InProgress) → Has (goes_on after here left executed).world.connections
+    gone_on left = puts after.connections (Busy left) still
 
-    closed : (left : InProgress) (last : Status) → IsThere number (closes after here left last executed).world
+    closed : (left : InProgress) (last : Status) → Has (closes after here left last executed).world.connections
     closed left last =
-        choose (λ (t : Turned). IsThere number t.world) (is_to_hold left after.table)
+        choose (λ (t : Turned). Has t.world.connections) (is_to_hold left after.table)
         (goes_on after here (record left { ended = Some last }) executed) (ends after here left last false executed)
         (gone_on (record left { ended = Some last })) (ended left last false)
 
-    went : (left : InProgress) (outcome : Outcome) → IsThere number (behind after here left outcome executed).world
+    went : (left : InProgress) (outcome : Outcome) → Has (behind after here left outcome executed).world.connections
     went left (Refused operation reason) = closed (with_result left (Refused operation reason)) reason
     went left (Done answer) =
-        choose (λ (t : Turned). IsThere number t.world) (is_last left)
+        choose (λ (t : Turned). Has t.world.connections) (is_last left)
         (closes after here (with_result left (Done answer)) status.Ok executed) (goes_on after here (with_result left (Done answer)) executed)
         (closed (with_result left (Done answer)) status.Ok) (gone_on (with_result left (Done answer)))
 
-  turned : (now : ℕ) (t : Turned) → IsTurn world here now t → IsThere number t.world
+  turned : (now : ℕ) (t : Turned) → IsTurn world here now t → Has t.world.connections
   turned now _ Idles = there
-  turned now _ (Says bytes xid reply is) = put world.connections here number (Replied (framed (reply_text xid reply))) there
+  turned now _ (Says bytes xid reply is) = puts world.connections (Replied (framed (reply_text xid reply))) there
   turned now _ (Closes request last is done) = ended world refl None request last true
   turned now _ (Unread request operation reason goes) = went world refl None request (Refused operation reason)
   turned now _ (TooBig request operation rest goes reads) =
@@ -117,11 +121,11 @@ module _ (world : World) (here number : ℕ) (there : IsThere number world) wher
       let same : Keeps world (Gives outcome after left) = subst (Keeps world) is (run_keeps world (read_of request rest) now operation) in
       went after same (Some (executed_entry world (read_of request rest) operation outcome after)) (noting world after operation left) outcome
   turned now _ (Repeats request operation rest result session slot goes reads is) =
-      put world.connections here number (Replied (framed (reply_text request.xid (Success result)))) there
+      puts world.connections (Replied (framed (reply_text request.xid (Success result)))) there
 
-  changed : (change : Connection → Connection) (connection : Option Connection) → IsThere number (connection_changed world here change connection)
+  changed : (change : Connection → Connection) (connection : Option Connection) → Has (connection_changed world here change connection).connections
   changed change None = there
-  changed change (Some connection) = put world.connections here number (change connection) there
+  changed change (Some connection) = puts world.connections (change connection) there
 
 -- Each event except its hang-up
 
@@ -132,17 +136,17 @@ Spares number event = Unit {0}
 pub event_keeps : (world : World) (number : ℕ) (event : Event) → Spares number event → IsThere number world → IsThere number (effect_of world event)
 unfolding arrives takes connects hangs_up
 event_keeps world number (Arrives connection piece) spares there =
-    changed world connection number there (arrives_at world.limits.records piece) (at connection world.connections)
+    changed world connection (IsIn number) (put connection number) there (arrives_at world.limits.records piece) (at connection world.connections)
 event_keeps world number (Turns connection now) spares there =
-    turned world connection number there now (one world connection now) (turn_is world connection now)
+    turned world connection (IsIn number) (put connection number) there now (one world connection now) (turn_is world connection now)
 event_keeps world number (HangsUp connection) spares there =
     choose (IsThere number) (is_busy (at connection world.connections)) world (without_connection world connection) there
     (ap is_some (at-without_other world.connections connection number spares) ∙ there)
 event_keeps world number (Connects connection) spares there =
     choose (IsThere number) (can_connect world connection) (with_connection world connection (Quiet [])) world
-    (put world.connections connection number (Quiet []) there) there
+    (put connection number world.connections (Quiet []) there) there
 event_keeps world number (Takes connection) spares there =
-    changed world connection number there without_reply (at connection world.connections)
+    changed world connection (IsIn number) (put connection number) there without_reply (at connection world.connections)
 
 pub calls_keep : (moments : ℕ → Type 0) (start : World) (number connection : ℕ) (more calls : List ServerCall) → AreOn moments connection more
     → IsThere number (world_after start calls) → IsThere number (world_after start (more ++ calls))
@@ -156,6 +160,55 @@ calls_keep moments start number connection (Did (Takes other) said ∷ more) cal
 calls_keep moments start number connection (Did (HangsUp other) said ∷ more) calls on there = absurd on.0
 calls_keep moments start number connection (Did (Connects other) said ∷ more) calls on there = absurd on.0
 calls_keep moments start number connection (Failed event ∷ more) calls on there = absurd on.0
+
+-- Each event of another connection leaves it as it was
+
+abbrev pub IsOfOther : ℕ → Event → Type 0
+IsOfOther number (Arrives connection piece) = number ≢ connection
+IsOfOther number (Turns connection now) = number ≢ connection
+IsOfOther number (HangsUp connection) = number ≢ connection
+IsOfOther number (Connects connection) = number ≢ connection
+IsOfOther number (Takes connection) = number ≢ connection
+
+module _ (world : World) (number : ℕ) where
+  abbrev IsAsIt : Keyed Connection → Type 0
+  IsAsIt connections = at number connections ≡ at number world.connections
+
+  put_other : (here : ℕ) → number ≢ here → (connections : Keyed Connection) (new : Connection) → IsAsIt connections → IsAsIt (with connections here new)
+  put_other here apart connections new same = at-with_other connections here number new apart ∙ same
+
+  pub event_leaves : (event : Event) → IsOfOther number event → IsAsIt (effect_of world event).connections
+  unfolding arrives takes connects hangs_up
+  event_leaves (Arrives connection piece) apart =
+      changed world connection IsAsIt (put_other connection apart) refl (arrives_at world.limits.records piece) (at connection world.connections)
+  event_leaves (Turns connection now) apart = turned world connection IsAsIt (put_other connection apart) refl now (one world connection now) (turn_is world connection now)
+  event_leaves (HangsUp connection) apart =
+      choose (λ (w : World). IsAsIt w.connections) (is_busy (at connection world.connections)) world (without_connection world connection) refl
+      (at-without_other world.connections connection number apart)
+  event_leaves (Connects connection) apart =
+      choose (λ (w : World). IsAsIt w.connections) (can_connect world connection) (with_connection world connection (Quiet [])) world
+      (put_other connection apart world.connections (Quiet []) refl) refl
+  event_leaves (Takes connection) apart = changed world connection IsAsIt (put_other connection apart) refl without_reply (at connection world.connections)
+
+-- the same, for calls
+abbrev pub IsAsBefore : (start : World) (number : ℕ) (more calls : List ServerCall) → Type 0
+IsAsBefore start number more calls = at number (world_after start (more ++ calls)).connections ≡ at number (world_after start calls).connections
+
+pub calls_leave : (moments : ℕ → Type 0) (start : World) (number connection : ℕ) (more calls : List ServerCall) → AreOn moments connection more → number ≢ connection
+    → IsAsBefore start number more calls
+calls_leave moments start number connection [] calls on apart = refl
+calls_leave moments start number connection (Did (Arrives other piece) said ∷ more) calls on apart =
+    event_leaves (world_after start (more ++ calls)) number (Arrives other piece) (λ same. apart (same ∙ on.0))
+    ∙ calls_leave moments start number connection more calls on.1 apart
+calls_leave moments start number connection (Did (Turns other now) said ∷ more) calls on apart =
+    event_leaves (world_after start (more ++ calls)) number (Turns other now) (λ same. apart (same ∙ on.0.0))
+    ∙ calls_leave moments start number connection more calls on.1 apart
+calls_leave moments start number connection (Did (Takes other) said ∷ more) calls on apart =
+    event_leaves (world_after start (more ++ calls)) number (Takes other) (λ same. apart (same ∙ on.0))
+    ∙ calls_leave moments start number connection more calls on.1 apart
+calls_leave moments start number connection (Did (HangsUp other) said ∷ more) calls on apart = absurd on.0
+calls_leave moments start number connection (Did (Connects other) said ∷ more) calls on apart = absurd on.0
+calls_leave moments start number connection (Failed event ∷ more) calls on apart = absurd on.0
 
 -- a new connection is there, and was not before
 

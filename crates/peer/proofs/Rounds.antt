@@ -1,5 +1,5 @@
 -- What a round gives each peer.
-use Rattle.std.proofs.Common.{◌≡◌, ◌≢◌, ◌<◌, ◌≤◌, ◌==◌, ℕ, if◌then◌else◌, List, [], ◌∷◌, ◌++◌, Option, Some, None, Result, Ok, IfOk, inl, inr, refl, sym, subst, ◌∙◌, eq-eqb, ne_eqb, arith}
+use Rattle.std.proofs.Common.{◌≡◌, ◌≢◌, ◌<◌, ◌≤◌, ◌==◌, ℕ, if◌then◌else◌, List, [], ◌∷◌, ◌++◌, Option, Some, None, Result, Ok, IfOk, inl, inr, refl, sym, ap, subst, ◌∙◌, eq-eqb, ne_eqb, arith}
 use Rattle.std.proofs.lemmas.Bool.{cases_order}
 use Rattle.std.proofs.lemmas.Option.{same_Some}
 use Rattle.disk.specs.declared.device.Device.{Ghosts}
@@ -9,9 +9,9 @@ use Rattle.server.specs.Seen.{ServerCall, Did, Failed}
 use Rattle.server.specs.declared.server.Server.{Server}
 use Rattle.system.specs.declared.refused.Refused.{Refused}
 use Rattle.peer.specs.Calls.{Goes, IsEnd}
-use Rattle.peer.specs.Rounds.{AnyCalls, HaveOneTurn, HaveTurn, StaysOn, HasEnded, Leaves, StepsKey, IsRound, step_of, HadTurn, EveryRound}
+use Rattle.peer.specs.Rounds.{AnyCalls, HaveOneTurn, HaveTurn, StaysOn, HasEnded, Leaves, StepsKey, EndedWithin, IsRound, step_of, HadTurn, HadEnd, EveryRound}
 use Rattle.peer.specs.Rounds as rounds
-use Rattle.peer.specs.Steps.{AnyMoment, AreOn, EndsPeer, HasBytes, IsEndBy, IsTallied, ServesOn, StaysServed, Tally, count_by, turns_by}
+use Rattle.peer.specs.Steps.{AnyMoment, AreOn, EndsAgain, EndsPeer, HasBytes, IsEndBy, IsTallied, ServesOn, StaysServed, Tally, count_by, turns_by}
 use Rattle.peer.specs.declared.pace.Pace.{Pace}
 use Rattle.peer.specs.declared.pace.Pace.TheVariants as paces
 use Rattle.peer.specs.declared.peer.Peer.{Peer}
@@ -46,10 +46,10 @@ turn_since connection calls (call ∷ more) (inl is) = inl is
 turn_since connection calls (call ∷ more) (inr has) = inr (turn_since connection calls more has)
 
 module _ {D : Type 0} {g : Ghosts D} {keeps : Type 0} where
-  any_calls : {old new : Server D g} (kind : List ServerCall → Type 0) → Goes keeps old new kind → Goes keeps old new AnyCalls
+  pub any_calls : {old new : Server D g} (kind : List ServerCall → Type 0) → Goes keeps old new kind → Goes keeps old new AnyCalls
   any_calls kind goes = goes_as {first = kind} {kind = AnyCalls} (λ (calls : List ServerCall) (are : kind calls). tt) goes
 
-  any_then : {old between new : Server D g} → Goes keeps old between AnyCalls → Goes keeps between new AnyCalls → Goes keeps old new AnyCalls
+  pub any_then : {old between new : Server D g} → Goes keeps old between AnyCalls → Goes keeps between new AnyCalls → Goes keeps old new AnyCalls
   any_then before after =
       goes_on {first = AnyCalls} {then = AnyCalls} {kind = AnyCalls} (λ (calls more : List ServerCall) (one : AnyCalls calls) (two : AnyCalls more). tt) before after
 
@@ -58,6 +58,12 @@ module _ {D : Type 0} {g : Ghosts D} {keeps : Type 0} where
   turn_then connection before after =
       goes_on {first = HaveTurn connection} {then = AnyCalls} {kind = HaveTurn connection}
       (λ (calls more : List ServerCall) (has : HaveTurn connection calls) (any : AnyCalls more). turn_before connection calls more has) before after
+
+  pub then_has_turn : {old between new : Server D g} (connection : ℕ) → Goes keeps old between AnyCalls → Goes keeps between new (HaveTurn connection)
+      → Goes keeps old new (HaveTurn connection)
+  then_has_turn connection before after =
+      goes_on {first = AnyCalls} {then = HaveTurn connection} {kind = HaveTurn connection}
+      (λ (calls more : List ServerCall) (any : AnyCalls calls) (has : HaveTurn connection more). turn_since connection calls more has) before after
 
   then_turn : {old between new : Server D g} (connection : ℕ) → Goes keeps old between AnyCalls → Goes keeps between new (HaveOneTurn connection)
       → Goes keeps old new (HaveTurn connection)
@@ -129,6 +135,12 @@ ends_any moments peer left end = record {
   same = end.same;
 }
 
+-- one that stays although it was to end lacked memory
+ends_or_pauses : {S : Type 0} {h : stream.Ghosts S} (left : Peer S h) (pace : Pace) → StaysServed left (steps.Stays pace) → left.stage ≡ stages.Ends → pace ≡ paces.Pauses
+ends_or_pauses left paces.Pauses served ends = refl
+ends_or_pauses left paces.Goes served ends = absurd (served paces.Goes refl (λ pauses. let never : ⊥ = cc in never) ends)
+ends_or_pauses left paces.Sleeps served ends = absurd (served paces.Sleeps refl (λ pauses. let never : ⊥ = cc in never) ends)
+
 -- What the calls of a slab are as a step of a key
 
 pub no_peer : {D S : Type 0} {g : Ghosts D} {h : stream.Ghosts S} {keeps : Type 0} (server : Server D g) (peers : ℕ → Option (Peer S h)) (key : ℕ) → peers key ≡ None
@@ -140,9 +152,9 @@ module _ {D S : Type 0} {g : Ghosts D} {h : stream.Ghosts S} {keeps : Type 0} (m
     (stays : (left.stage ≡ stages.Ends → ⊥) → ServesOn keeps moments old new peer left result)
     (ends : left.stage ≡ stages.Ends → EndsPeer keeps moments old new peer left result) where
   -- a peer that stays, as the next step finds it
-  pub peer_stays : (last : Peer S h) (pace : Pace) → IsChanged before after key (Some last) → last.conn ≡ left.conn → result ≡ Ok (steps.Stays pace)
-      → IfOk result (StaysServed left) → StepsKey keeps key old new before after (Some (steps.Stays pace))
-  peer_stays last pace is conn told on =
+  pub peer_stays : (peer.stage ≡ stages.Ends → EndsAgain keeps moments old new peer left result) → (last : Peer S h) (pace : Pace) → IsChanged before after key (Some last)
+      → last.conn ≡ left.conn → result ≡ Ok (steps.Stays pace) → IfOk result (StaysServed left) → StepsKey keeps key old new before after (Some (steps.Stays pace))
+  peer_stays over last pace is conn told on =
       let step : GoesOn keeps old new peer left = step_goes moments peer left result stays ends in
       let served : StaysServed left (steps.Stays pace) = subst (λ (r : Result Step Refused). IfOk r (StaysServed left)) told on in
       record {
@@ -155,6 +167,7 @@ module _ {D S : Type 0} {g : Ghosts D} {h : stream.Ghosts S} {keeps : Type 0} (m
           record {
             conn = conn ∙ step.conn;
             turned = λ has awake. turns_once moments peer left result pace (stays (served pace refl awake)) has told awake;
+            over = λ ends_now. ends_or_pauses left pace served (over ends_now).stage;
           },
         );
         others = is.others;
@@ -203,13 +216,11 @@ module _ {D S : Type 0} {g : Ghosts D} {h : stream.Ghosts S} (keeps : Type 0) (f
   untouched_yet count last after (rounds.IsRound.Steps_on {count = done} {old = old} {before = before} step round steps_key) key late =
       steps_key.others key (λ same. omega (arith, late, same)) ∙ untouched_yet done old before round key (omega (arith, late))
 
-  -- the step of its key
-  had_now : (old new : Server D g) (here left : Option (Peer S h)) (peer : Peer S h) (step : Option Step) → here ≡ Some peer → HasBytes peer
-      → Goes keeps first old AnyCalls → Leaves keeps old new here left step → HadTurn keeps first new peer left step
-  had_now old new here left peer None there has so_far leaves = let none = leaves.0 in let never : ⊥ = cc in absurd never
-  had_now old new here left peer (Some steps.Ended) there has so_far leaves =
-      let same : leaves.0 ≡ peer = same_Some leaves.0 peer (sym leaves.1 ∙ there) in
-      inr (inl (
+  -- the step of its key, by which it has ended
+  ended_now : (old new : Server D g) (here left : Option (Peer S h)) (peer : Peer S h) → here ≡ Some peer → Goes keeps first old AnyCalls
+      → Leaves keeps old new here left (Some steps.Ended) → (left ≡ None) × EndedWithin keeps first new peer
+  ended_now old new here left peer there so_far leaves =
+      let same : leaves.0 ≡ peer = same_Some leaves.0 peer (sym leaves.1 ∙ there) in (
         leaves.2,
         record {
           old = old;
@@ -218,44 +229,73 @@ module _ {D S : Type 0} {g : Ghosts D} {h : stream.Ghosts S} (keeps : Type 0) (f
           ended = subst (λ (p : Peer S h). HasEnded keeps old new p) same leaves.3;
           since = any_calls (λ calls. calls ≡ []) (not_called new);
         },
-      ))
+      )
+
+  stayed_now : (old new : Server D g) (here left : Option (Peer S h)) (peer : Peer S h) (pace : Pace) → here ≡ Some peer
+      → (leaves : Leaves keeps old new here left (Some (steps.Stays pace))) → StaysOn keeps old new peer leaves.1 pace
+  stayed_now old new here left peer pace there leaves =
+      subst (λ (p : Peer S h). StaysOn keeps old new p leaves.1 pace) (same_Some leaves.0 peer (sym leaves.2 ∙ there)) leaves.4
+
+  -- one that had bytes
+  had_now : (old new : Server D g) (here left : Option (Peer S h)) (peer : Peer S h) (step : Option Step) → here ≡ Some peer → HasBytes peer
+      → Goes keeps first old AnyCalls → Leaves keeps old new here left step → HadTurn keeps first new peer left step
+  had_now old new here left peer None there has so_far leaves = let none = leaves.0 in let never : ⊥ = cc in absurd never
+  had_now old new here left peer (Some steps.Ended) there has so_far leaves = inr (inl (ended_now old new here left peer there so_far leaves))
   had_now old new here left peer (Some (steps.Stays paces.Pauses)) there has so_far leaves = inr (inr refl)
   had_now old new here left peer (Some (steps.Stays paces.Goes)) there has so_far leaves =
-      let same : leaves.0 ≡ peer = same_Some leaves.0 peer (sym leaves.2 ∙ there) in
-      let stays : StaysOn keeps old new peer leaves.1 paces.Goes = subst (λ (p : Peer S h). StaysOn keeps old new p leaves.1 paces.Goes) same leaves.4 in
-      inl (then_turn peer.conn so_far (stays.turned has (λ pauses. let never : ⊥ = cc in never)))
+      inl (then_turn peer.conn so_far ((stayed_now old new here left peer paces.Goes there leaves).turned has (λ pauses. let never : ⊥ = cc in never)))
   had_now old new here left peer (Some (steps.Stays paces.Sleeps)) there has so_far leaves =
-      let same : leaves.0 ≡ peer = same_Some leaves.0 peer (sym leaves.2 ∙ there) in
-      let stays : StaysOn keeps old new peer leaves.1 paces.Sleeps = subst (λ (p : Peer S h). StaysOn keeps old new p leaves.1 paces.Sleeps) same leaves.4 in
-      inl (then_turn peer.conn so_far (stays.turned has (λ pauses. let never : ⊥ = cc in never)))
+      inl (then_turn peer.conn so_far ((stayed_now old new here left peer paces.Sleeps there leaves).turned has (λ pauses. let never : ⊥ = cc in never)))
+
+  -- one that had been dismissed
+  over_now : (old new : Server D g) (here left : Option (Peer S h)) (peer : Peer S h) (step : Option Step) → here ≡ Some peer → peer.stage ≡ stages.Ends
+      → Goes keeps first old AnyCalls → Leaves keeps old new here left step → HadEnd keeps first new peer left step
+  over_now old new here left peer None there ends so_far leaves = let none = leaves.0 in let never : ⊥ = cc in absurd never
+  over_now old new here left peer (Some steps.Ended) there ends so_far leaves = inl (ended_now old new here left peer there so_far leaves)
+  over_now old new here left peer (Some (steps.Stays pace)) there ends so_far leaves =
+      inr (ap (λ (pace : Pace). Some (steps.Stays pace)) ((stayed_now old new here left peer pace there leaves).over ends))
 
   -- and those of later keys
+  ended_before : (old new : Server D g) (peer : Peer S h) (left : Option (Peer S h)) → Goes keeps old new AnyCalls → (left ≡ None) × EndedWithin keeps first old peer
+      → (left ≡ None) × EndedWithin keeps first new peer
+  ended_before old new peer left more (none, ended) =
+      (none, record { old = ended.old; new = ended.new; until = ended.until; ended = ended.ended; since = any_then ended.since more })
+
   had_before : (old new : Server D g) (peer : Peer S h) (left : Option (Peer S h)) (step : Option Step) → Goes keeps old new AnyCalls
       → HadTurn keeps first old peer left step → HadTurn keeps first new peer left step
   had_before old new peer left step more (inl turn) = inl (turn_then peer.conn turn more)
-  had_before old new peer left step more (inr (inl (none, ended))) =
-      inr (inl (none, record { old = ended.old; new = ended.new; until = ended.until; ended = ended.ended; since = any_then ended.since more }))
+  had_before old new peer left step more (inr (inl ended)) = inr (inl (ended_before old new peer left more ended))
   had_before old new peer left step more (inr (inr paused)) = inr (inr paused)
 
-  every_turn : (count : ℕ) (last : Server D g) (after : ℕ → Option (Peer S h)) (round : IsRound keeps first peers count last after)
-      → (key : ℕ) (peer : Peer S h) → key < count → peers key ≡ Some peer → HasBytes peer → HadTurn keeps first last peer (after key) (step_of round key)
-  every_turn count last after rounds.IsRound.Begins key peer few there has = absurd (omega (arith, few))
-  every_turn count last after (rounds.IsRound.Steps_on {count = done} {old = old} {before = before} step round steps_key) key peer few there has = elim (cases_order key done) [
+  over_before : (old new : Server D g) (peer : Peer S h) (left : Option (Peer S h)) (step : Option Step) → Goes keeps old new AnyCalls
+      → HadEnd keeps first old peer left step → HadEnd keeps first new peer left step
+  over_before old new peer left step more (inl ended) = inl (ended_before old new peer left more ended)
+  over_before old new peer left step more (inr paused) = inr paused
+
+  -- A peer's share of a round
+  abbrev Share : (last : Server D g) (peer : Peer S h) (left : Option (Peer S h)) → Option Step → Type 0
+  Share last peer left step = (HasBytes peer → HadTurn keeps first last peer left step) × (peer.stage ≡ stages.Ends → HadEnd keeps first last peer left step)
+
+  every_share : (count : ℕ) (last : Server D g) (after : ℕ → Option (Peer S h)) (round : IsRound keeps first peers count last after)
+      → (key : ℕ) (peer : Peer S h) → key < count → peers key ≡ Some peer → Share last peer (after key) (step_of round key)
+  every_share count last after rounds.IsRound.Begins key peer few there = absurd (omega (arith, few))
+  every_share count last after (rounds.IsRound.Steps_on {count = done} {old = old} {before = before} step round steps_key) key peer few there = elim (cases_order key done) [
     | inl now ↦
         let here : before key ≡ Some peer = untouched_yet done old before round key (omega (arith, now)) ∙ there in
         let at_key : StepsKey keeps key old last before after step = subst (λ (n : ℕ). StepsKey keeps n old last before after step) (sym now) steps_key in
-        subst (λ (s : Option Step). HadTurn keeps first last peer (after key) s) (sym (step_here step (step_of round key) key done now))
-        (had_now old last (before key) (after key) peer step here has (round_goes done old before round) at_key.here)
+        let so_far : Goes keeps first old AnyCalls = round_goes done old before round in
+        subst (λ (s : Option Step). Share last peer (after key) s) (sym (step_here step (step_of round key) key done now))
+        (λ has. had_now old last (before key) (after key) peer step here has so_far at_key.here, λ ends. over_now old last (before key) (after key) peer step here ends so_far at_key.here)
     | inr apart ↦ elim apart [
       | inl low ↦
           let off : key ≢ done = λ same. omega (arith, low, same) in
-          let had : HadTurn keeps first old peer (before key) (step_of round key) = every_turn done old before round key peer low there has in
-          subst (λ (s : Option Step). HadTurn keeps first last peer (after key) s) (sym (step_before step (step_of round key) key done off))
-          (subst (λ (slot : Option (Peer S h)). HadTurn keeps first last peer slot (step_of round key)) (sym (steps_key.others key off))
-          (had_before old last peer (before key) (step_of round key) steps_key.goes had))
+          let had : Share old peer (before key) (step_of round key) = every_share done old before round key peer low there in
+          subst (λ (s : Option Step). Share last peer (after key) s) (sym (step_before step (step_of round key) key done off))
+          (subst (λ (slot : Option (Peer S h)). Share last peer slot (step_of round key)) (sym (steps_key.others key off))
+          (λ has. had_before old last peer (before key) (step_of round key) steps_key.goes (had.0 has), λ ends. over_before old last peer (before key) (step_of round key) steps_key.goes (had.1 ends)))
       | inr high ↦ absurd (omega (arith, high, few))
     ]
   ]
 
 pub every_round : {D S : Type 0} {g : Ghosts D} {h : stream.Ghosts S} (keeps : Type 0) (first : Server D g) (peers : ℕ → Option (Peer S h)) → EveryRound keeps first peers
-every_round keeps first peers count last after round key peer few there has = every_turn keeps first peers count last after round key peer few there has
+every_round keeps first peers count last after round key peer few there = every_share keeps first peers count last after round key peer few there

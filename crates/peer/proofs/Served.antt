@@ -1,5 +1,5 @@
 -- What the peers of a server were served, after a step of one, one more that came, and an end.
-use Rattle.std.proofs.Common.{◌≡◌, ◌≢◌, ℕ, inl, inr, true, List, [], ◌∷◌, ◌++◌, Option, None, Some, refl, sym, ap, subst, ◌∙◌, append-nil, eq-eqb, ne_eqb}
+use Rattle.std.proofs.Common.{◌≡◌, ◌≢◌, ℕ, inl, inr, true, false, List, [], ◌∷◌, ◌++◌, Option, None, Some, is_some, refl, sym, ap, subst, ◌∙◌, append-nil, eq-eqb, ne_eqb}
 use Rattle.std.proofs.lemmas.Bool.{cases_eq}
 use Rattle.std.proofs.lemmas.Option.{same_Some}
 use Rattle.std.specs.Io.KnownBytes.{Appends, Consumes}
@@ -12,13 +12,13 @@ use Rattle.server.specs.Seen.{ServerCall, Did, Failed, Done, world_after}
 use Rattle.server.specs.declared.server.Server.{Server}
 use Rattle.peer.specs.Calls.{AreTurns, IsTurn, IsEndAt, IsEnd}
 use Rattle.peer.specs.Peers.{PeerBegins}
-use Rattle.peer.specs.Served.{IsLeft, IsThere, WasServed, AreServed, since}
+use Rattle.peer.specs.Served.{IsLeft, IsThere, WasServed, HasPeer, AreServed, since}
 use Rattle.peer.specs.Steps.{AnyMoment, IsOn, AreOn, all_by, taken_by, given_by, unsent, Tally, IsTallied, Carries}
 use Rattle.peer.specs.declared.peer.Peer.{Peer}
 use Rattle.peer.specs.declared.peer.Stage.{Stage}
 use Rattle.peer.specs.declared.peer.Stage.TheVariants as stages
 use Rattle.peer.specs.declared.stream.Stream as stream
-use Rattle.peer.proofs.Places.{apart_from, calls_keep, connected, event_keeps}
+use Rattle.peer.proofs.Places.{IsAsBefore, apart_from, calls_keep, calls_leave, connected, event_keeps, event_leaves}
 use Rattle.peer.proofs.Tallies.{all-append, appends_none, appends_then, consumes_none, consumes_then, in_order}
 
 -- The calls on a connection since it was made
@@ -196,6 +196,16 @@ module _ {S : Type 0} {h : stream.Ghosts S} (start : World) (streams : List (ℕ
   others_apart : (peer : Peer S h) (other : ℕ) → old other ≡ Some peer → other ≢ key → peer.conn ≢ before.conn
   others_apart peer other held apart same = apart (are.apart other key peer before held there same)
 
+  -- the peer of another connection has another key, and is there still
+  others_kept : ((other : ℕ) → other ≢ key → new other ≡ old other) → (connection : ℕ) → connection ≢ before.conn → is_some (at connection streams) ≡ true
+      → IsThere connection (world_after start calls) → HasPeer new connection
+  others_kept others connection apart came still =
+      let had : HasPeer old connection = are.kept connection came still in
+      let other_key : had.key ≢ key = λ same.
+      let is : had.peer ≡ before = same_Some had.peer before (sym had.held ∙ (ap old same ∙ there)) in
+      apart (sym had.on ∙ ap (λ (p : Peer S h). p.conn) is) in
+      record { key = had.key; peer = had.peer; held = others had.key other_key ∙ had.held; on = had.on }
+
   -- a step, by its calls
   module _ (moments : ℕ → Type 0) (after : Peer S h) (is : IsChanged old new key (Some after)) (conn : after.conn ≡ before.conn) (on : AreOn moments before.conn more)
       (steps : WasServed streams calls before → WasServed streams (more ++ calls) after) where
@@ -228,6 +238,12 @@ module _ {S : Type 0} {h : stream.Ghosts S} (start : World) (streams : List (ℕ
           let first : WasAt old one peer = was_at one peer found in
           let second : WasAt old other another = was_at other another too in
           are.apart one other first.was second.was first.held second.held (sym first.conn ∙ (same ∙ second.conn));
+      kept = λ connection came still. elim (cases_eq connection before.conn) [
+        | inl mine ↦ record { key = key; peer = after; held = is.here; on = conn ∙ sym mine }
+        | inr other ↦
+            others_kept is.others connection other came
+            (ap is_some (sym (calls_leave moments start connection before.conn more calls on other)) ∙ still)
+      ];
     }
 
   -- an end, by its calls
@@ -238,17 +254,24 @@ module _ {S : Type 0} {h : stream.Ghosts S} (start : World) (streams : List (ℕ
         (apart, sym (is.others other apart) ∙ found)
 
     pub end_served : ((connection : ℕ) → connection ≢ before.conn → since connection (more ++ calls) ≡ since connection calls)
-        → ((connection : ℕ) → connection ≢ before.conn → IsThere connection (world_after start calls) → IsThere connection (world_after start (more ++ calls)))
+        → ((connection : ℕ) → connection ≢ before.conn → IsAsBefore start connection more calls)
+        → at before.conn (world_after start (more ++ calls)).connections ≡ None
         → AreServed start streams new (more ++ calls)
-    end_served same stays = record {
+    end_served same places gone = record {
       each = λ other peer found.
           let held = was_there other peer found in
           others_served peer other held.1 held.0 (same peer.conn (others_apart peer other held.1 held.0));
       there = λ other peer found.
           let held = was_there other peer found in
-          stays peer.conn (others_apart peer other held.1 held.0) (are.there other peer held.1);
+          ap is_some (places peer.conn (others_apart peer other held.1 held.0)) ∙ are.there other peer held.1;
       apart = λ one other peer another found too conns.
           are.apart one other peer another (was_there one peer found).1 (was_there other another too).1 conns;
+      kept = λ connection came still.
+          let apart : connection ≢ before.conn = λ mine.
+          let clash : false ≡ true = sym (ap is_some gone) ∙ (ap (λ (c : ℕ). is_some (at c (world_after start (more ++ calls)).connections)) (sym mine) ∙ still) in
+          let never : ⊥ = cc in
+          never in
+          others_kept is.others connection apart came (ap is_some (sym (places connection apart)) ∙ still);
     }
 
 -- the calls of an end are nothing to others
@@ -265,21 +288,18 @@ pub end_since : (moments : ℕ → Type 0) (connection other : ℕ) (more calls 
 end_since moments connection other more calls (inl none) apart = ap (λ (more : List ServerCall). since other (more ++ calls)) none
 end_since moments connection other more calls (inr (now, shows, ends)) apart = end_at_since connection other now more calls ends apart
 
-end_at_there : (start : World) (connection other now : ℕ) (more calls : List ServerCall) → IsEndAt connection now more → other ≢ connection
-    → IsThere other (world_after start calls) → IsThere other (world_after start (more ++ calls))
-end_at_there start connection other now more calls (inr turns) apart there =
-    calls_keep AnyMoment start other connection more calls (are_on connection now more turns) there
-end_at_there start connection other now [] calls (inl up) apart there = absurd up
-end_at_there start connection other now (call ∷ more) calls (inl up) apart there =
-    subst (λ (c : ServerCall). IsThere other (world_after start (c ∷ (more ++ calls)))) (sym up.0)
-    (event_keeps (world_after start (more ++ calls)) other (HangsUp connection) apart
-    (calls_keep AnyMoment start other connection more calls (are_on connection now more up.1) there))
+end_at_leaves : (start : World) (connection other now : ℕ) (more calls : List ServerCall) → IsEndAt connection now more → other ≢ connection → IsAsBefore start other more calls
+end_at_leaves start connection other now more calls (inr turns) apart = calls_leave AnyMoment start other connection more calls (are_on connection now more turns) apart
+end_at_leaves start connection other now [] calls (inl up) apart = absurd up
+end_at_leaves start connection other now (call ∷ more) calls (inl up) apart =
+    subst (λ (c : ServerCall). IsAsBefore start other (c ∷ more) calls) (sym up.0)
+    (event_leaves (world_after start (more ++ calls)) other (HangsUp connection) apart
+    ∙ calls_leave AnyMoment start other connection more calls (are_on connection now more up.1) apart)
 
-pub end_there : (moments : ℕ → Type 0) (start : World) (connection other : ℕ) (more calls : List ServerCall) → IsEnd moments connection more → other ≢ connection
-    → IsThere other (world_after start calls) → IsThere other (world_after start (more ++ calls))
-end_there moments start connection other more calls (inl none) apart there =
-    subst (λ (more : List ServerCall). IsThere other (world_after start (more ++ calls))) (sym none) there
-end_there moments start connection other more calls (inr (now, shows, ends)) apart there = end_at_there start connection other now more calls ends apart there
+pub end_leaves : (moments : ℕ → Type 0) (start : World) (connection other : ℕ) (more calls : List ServerCall) → IsEnd moments connection more → other ≢ connection
+    → IsAsBefore start other more calls
+end_leaves moments start connection other more calls (inl none) apart = subst (λ (more : List ServerCall). IsAsBefore start other more calls) (sym none) refl
+end_leaves moments start connection other more calls (inr (now, shows, ends)) apart = end_at_leaves start connection other now more calls ends apart
 
 -- One more peer
 
@@ -350,5 +370,14 @@ module _ {S : Type 0} {h : stream.Ghosts S} (start : World) (streams : List (ℕ
             (conns ∙ ap (λ (p : Peer S h). p.conn) (sym (at_new other q too second))))
         | inr apart ↦ are.apart one other p q (sym (is.others one off) ∙ found) (sym (is.others other apart) ∙ too) conns
       ]
+    ];
+    kept = λ connection came still. elim (cases_eq connection peer.conn) [
+      | inl mine ↦ record { key = key; peer = peer; held = is.here; on = sym mine }
+      | inr apart ↦
+          let had : HasPeer old connection =
+          are.kept connection (ap is_some (sym (at-rest peer.conn connection peer.stream streams apart)) ∙ came)
+          (ap is_some (sym (event_leaves (world_after start calls) connection (Connects peer.conn) apart)) ∙ still) in
+          let other_key : had.key ≢ key = λ same. let clash : None ≡ Some had.peer = sym free ∙ (ap old (sym same) ∙ had.held) in let never : ⊥ = cc in never in
+          record { key = had.key; peer = had.peer; held = is.others had.key other_key ∙ had.held; on = had.on }
     ];
   }

@@ -7,8 +7,8 @@ use Rattle.disk.specs.declared.device.Device.{Ghosts}
 use Rattle.system.specs.declared.refused.Refused.{Refused}
 use Rattle.model.specs.Server.Runs.{Connects}
 use Rattle.model.specs.Server.World.{World, can_connect}
-use Rattle.server.specs.Refused.{view, HasKept, IsUntouched, RefusesCheckpoint}
-use Rattle.server.specs.Seen.{Seen, ServerCall, Did, Done, IsServed, world_after}
+use Rattle.server.specs.Refused.{connection_at, view, HasKept, IsUntouched, RefusesCheckpoint}
+use Rattle.server.specs.Seen.{ServerCall, Did, Done, IsServed, world_after}
 use Rattle.server.specs.Seen as served
 use Rattle.server.specs.Views.{FlushesServer, Keeps, files_of, seen_with, server_failures, waits_of, world_of}
 use Rattle.server.specs.Views as server_views
@@ -29,7 +29,7 @@ use Rattle.peer.specs.declared.peer.Step.{Step}
 use Rattle.peer.specs.declared.peer.Step.TheVariants as steps
 use Rattle.peer.specs.declared.stream.Stream as stream
 use Rattle.peer.proofs.Made.{failed_call, follows, goes_as, goes_on, makes, one_call, still_up, untouched, untouched_by}
-use Rattle.peer.proofs.Served.{IsChanged, are_on, end_served, end_since, end_there, more_served, step_served, stepped, turned_on}
+use Rattle.peer.proofs.Served.{IsChanged, are_on, end_leaves, end_served, end_since, more_served, step_served, stepped, turned_on}
 
 -- with another peer at one key
 abbrev pub with_peer : {S : Type 0} {h : stream.Ghosts S} → (ℕ → Option (Peer S h)) → (key : ℕ) → Peer S h → ℕ → Option (Peer S h)
@@ -108,6 +108,26 @@ pub flushed_any : {D : Type 0} {g : Ghosts D} {keeps : Type 0} {old new : Server
 flushed_any {old = old} {new = new} result flushes nothing has refuses true is = flushed_further {old = old} {new = new} result is flushes has refuses
 flushed_any {old = old} {new = new} result flushes nothing has refuses false is = untouched {old = old} {new = new} (nothing is)
 
+-- first these, then those, by the world that they leave
+goes_to : {D : Type 0} {g : Ghosts D} {keeps : Type 0} {old between new : Server D g} {first second kind : List ServerCall → Type 0}
+    → ((calls more : List ServerCall) → world_of new ≡ world_after (world_of old) (more ++ calls) → first calls → second more → kind (more ++ calls))
+    → Goes keeps old between first → Goes keeps between new second → Goes keeps old new kind
+goes_to {old = old} {between = between} {new = new} {first = first} {second = second} both before after = record {
+  up = λ up. before.up (after.up up);
+  made = λ keeps up recent ready.
+      let one : MakesCalls old between recent first = before.made keeps (after.up up) recent ready in
+      let two : MakesCalls between new one.after second = after.made keeps up one.after one.ready in
+      let all : IsServed (seen_with old recent) (two.calls ++ one.calls) (seen_with new two.after) =
+      follows (seen_with old recent) (seen_with between one.after) one.calls one.served two.calls (seen_with new two.after) two.served in
+      record {
+        after = two.after;
+        calls = two.calls ++ one.calls;
+        ready = two.ready;
+        are = both one.calls two.calls (every_trace (seen_with old recent) (seen_with new two.after) (two.calls ++ one.calls) all).0 one.are two.are;
+        served = all;
+      };
+}
+
 module _ {D S : Type 0} {g : Ghosts D} {h : stream.Ghosts S} {keeps : Type 0} where
   -- a step that leaves the peer to be served on, or ends it
   carried_on : (moments : ℕ → Type 0) {first old new : Server D g} (streams : List (ℕ × S)) (before after : ℕ → Option (Peer S h)) (key : ℕ) (peer left : Peer S h)
@@ -133,23 +153,26 @@ module _ {D S : Type 0} {g : Ghosts D} {h : stream.Ghosts S} {keeps : Type 0} wh
 
   -- it is gone
   ended : (moments : ℕ → Type 0) {first old new : Server D g} (streams : List (ℕ × S)) (before after : ℕ → Option (Peer S h)) (key : ℕ) (peer : Peer S h)
-      → before key ≡ Some peer → IsChanged before after key None
+      → before key ≡ Some peer → IsChanged before after key None → connection_at (view new) peer.conn ≡ None
       → Goes keeps old new (IsEnd moments peer.conn) → Serves keeps first old streams before → Serves keeps first new streams after
-  ended moments {first = first} streams before after key peer there is goes so_far =
-      goes_on {first = AreServed (world_of first) streams before} {then = IsEnd moments peer.conn} {kind = AreServed (world_of first) streams after}
-      (λ (calls more : List ServerCall) (are : AreServed (world_of first) streams before calls) (ends : IsEnd moments peer.conn more).
+  ended moments {first = first} {new = new} streams before after key peer there is gone goes so_far =
+      goes_to {first = AreServed (world_of first) streams before} {second = IsEnd moments peer.conn} {kind = AreServed (world_of first) streams after}
+      (λ (calls more : List ServerCall) (world : world_of new ≡ world_after (world_of first) (more ++ calls)) (are : AreServed (world_of first) streams before calls) (ends : IsEnd moments peer.conn more).
       end_served (world_of first) streams before after key peer there calls more are is
       (λ connection apart. end_since moments peer.conn connection more calls ends apart)
-      (λ connection apart still. end_there moments (world_of first) peer.conn connection more calls ends apart still)) so_far goes
+      (λ connection apart. end_leaves moments (world_of first) peer.conn connection more calls ends apart)
+      (subst (λ (world : World). at peer.conn world.connections ≡ None) world gone)) so_far goes
 
   ended_by : (moments : ℕ → Type 0) {first old new : Server D g} (streams : List (ℕ × S)) (before after : ℕ → Option (Peer S h)) (key : ℕ) (peer left : Peer S h) (result : Result Step Refused)
       → before key ≡ Some peer → IsChanged before after key (slot_after result left)
       → (left.stream ≡ peer.stream) × (left.inbox ≡ peer.inbox) × (left.conn ≡ peer.conn) → left.stage ≡ stages.Ends
+      → (result ≡ Ok steps.Ended → connection_at (view new) left.conn ≡ None)
       → Goes keeps old new (IsEndBy moments result peer.conn) → Serves keeps first old streams before → Serves keeps first new streams after
-  ended_by moments streams before after key peer left (Ok steps.Ended) there is same ends goes so_far = ended moments streams before after key peer there is goes so_far
-  ended_by moments streams before after key peer left (Ok (steps.Stays pace)) there is same ends goes so_far =
+  ended_by moments {new = new} streams before after key peer left (Ok steps.Ended) there is same ends gone goes so_far =
+      ended moments streams before after key peer there is (subst (λ (connection : ℕ). connection_at (view new) connection ≡ None) same.2 (gone refl)) goes so_far
+  ended_by moments streams before after key peer left (Ok (steps.Stays pace)) there is same ends gone goes so_far =
       turned_off moments streams before after key peer left there is same ends goes so_far
-  ended_by moments streams before after key peer left (Err refused) there is same ends goes so_far =
+  ended_by moments streams before after key peer left (Err refused) there is same ends gone goes so_far =
       turned_off moments streams before after key peer left there is same ends goes so_far
 
   -- A step of the peer at a key, whatever it came to
@@ -158,25 +181,25 @@ module _ {D S : Type 0} {g : Ghosts D} {h : stream.Ghosts S} {keeps : Type 0} wh
       (stays : (left.stage ≡ stages.Ends → ⊥) → ServesOn keeps moments old new peer left result)
       (ends : left.stage ≡ stages.Ends → EndsPeer keeps moments old new peer left result)
       (over : peer.stage ≡ stages.Ends → EndsAgain keeps moments old new peer left result)
-      (gone : result ≡ Ok steps.Ended → left.stage ≡ stages.Ends) where
+      (gone : result ≡ Ok steps.Ended → (left.stage ≡ stages.Ends) × (connection_at (view new) left.conn ≡ None)) where
     further_on : (peer.stage ≡ stages.Ends → ⊥) → (left.stage ≡ stages.Ends → ⊥) → ServesFurther keeps old new before after
     further_on on not_ended first streams so_far =
         let step : ServesOn keeps moments old new peer left result = stays not_ended in
         let same : IsChanged before after key (Some left) =
-        record { here = is.here ∙ stays_by result left (λ e. not_ended (gone e)); others = is.others } in
+        record { here = is.here ∙ stays_by result left (λ e. not_ended (gone e).0); others = is.others } in
         carried_on moments streams before after key peer left there same on step.tally step.carries so_far
 
     further_ended : (peer.stage ≡ stages.Ends → ⊥) → left.stage ≡ stages.Ends → ServesFurther keeps old new before after
     further_ended on ended_now first streams so_far =
         let end : EndsPeer keeps moments old new peer left result = ends ended_now in
         ended_by moments streams (with_peer before key end.left) after key end.left left result (with_changed before key end.left).here
-        (changed_again before after key end.left (slot_after result left) is) end.same ended_now end.hung
+        (changed_again before after key end.left (slot_after result left) is) end.same ended_now (λ e. (gone e).1) end.hung
         (carried_on moments streams before (with_peer before key end.left) key peer end.left there (with_changed before key end.left) on end.tally end.carries so_far)
 
     further_over : peer.stage ≡ stages.Ends → ServesFurther keeps old new before after
     further_over over_now first streams so_far =
         let end : EndsAgain keeps moments old new peer left result = over over_now in
-        ended_by moments streams before after key peer left result there is end.same end.stage end.hung so_far
+        ended_by moments streams before after key peer left result there is end.same end.stage (λ e. (gone e).1) end.hung so_far
 
     by_left : (peer.stage ≡ stages.Ends → ⊥) → (stage : Stage) → left.stage ≡ stage → ServesFurther keeps old new before after
     by_left on stages.Ends ended_now = further_ended on ended_now
@@ -220,6 +243,7 @@ module _ {D S : Type 0} {g : Ghosts D} {h : stream.Ghosts S} {keeps : Type 0} wh
         each = λ key peer found. let empty = none key in let never : ⊥ = cc in absurd never;
         there = λ key peer found. let empty = none key in let never : ⊥ = cc in absurd never;
         apart = λ one other peer another found too same. let empty = none one in let never : ⊥ = cc in absurd never;
+        kept = λ connection came still. let never : ⊥ = cc in absurd never;
       }) goes
 
   -- One more
@@ -294,40 +318,41 @@ gone_then slab new key before after was updates =
 slot_as : {S : Type 0} {h : stream.Ghosts S} (old new : ℕ → Option (Peer S h)) (key : ℕ) (slot other : Option (Peer S h)) → slot ≡ other → IsChanged old new key slot → IsChanged old new key other
 slot_as old new key slot other same is = record { here = is.here ∙ same; others = is.others }
 
-ends_by : (result : Result Step Refused) (A B : Type 0) → IfOk result (λ step. step ≡ steps.Ended → A × B) → result ≡ Ok steps.Ended → A
-ends_by result A B is told = (subst (λ (r : Result Step Refused). IfOk r (λ step. step ≡ steps.Ended → A × B)) told is refl).0
+-- one that has ended is on no connection any more
+abbrev HasLeft : {D S : Type 0} {g : Ghosts D} {h : stream.Ghosts S} → (new : Server D g) → (left : Peer S h) → Type 0
+HasLeft new left = (left.stage ≡ stages.Ends) × (connection_at (view new) left.conn ≡ None)
 
-module _ {D S : Type 0} {g : Ghosts D} {h : stream.Ghosts S} {keeps : Type 0} (moments : ℕ → Type 0) (old new : Server D g) (slab after : Slab (Peer S h)) (key : ℕ) (peer left : Peer S h) (result answer : Result Step Refused) (other : Type 0)
-    (there : Some peer ≡ get slab key) (told : result ≡ answer) (is : IsChanged (get slab) (get after) key (slot_after answer left))
+ends_by : {D S : Type 0} {g : Ghosts D} {h : stream.Ghosts S} (new : Server D g) (left : Peer S h) (result : Result Step Refused) → IfOk result (λ step. step ≡ steps.Ended → HasLeft new left)
+    → result ≡ Ok steps.Ended → HasLeft new left
+ends_by new left result is told = subst (λ (r : Result Step Refused). IfOk r (λ step. step ≡ steps.Ended → HasLeft new left)) told is refl
+
+module _ {D S : Type 0} {g : Ghosts D} {h : stream.Ghosts S} {keeps : Type 0} (moments : ℕ → Type 0) (old new : Server D g) (slab : Slab (Peer S h)) (key : ℕ) (peer left : Peer S h) (result : Result Step Refused)
+    (there : Some peer ≡ get slab key)
     (stays : (left.stage ≡ stages.Ends → ⊥) → ServesOn keeps moments old new peer left result)
     (ends : left.stage ≡ stages.Ends → EndsPeer keeps moments old new peer left result)
     (over : peer.stage ≡ stages.Ends → EndsAgain keeps moments old new peer left result)
-    (ended : IfOk result (λ step. step ≡ steps.Ended → (left.stage ≡ stages.Ends) × other)) where
+    (ended : IfOk result (λ step. step ≡ steps.Ended → HasLeft new left)) where
   -- a step of a peer of the slab
-  pub slab_further : ServesFurther keeps old new (get slab) (get after)
-  slab_further =
+  pub slab_further : (after : Slab (Peer S h)) (answer : Result Step Refused) → result ≡ answer → IsChanged (get slab) (get after) key (slot_after answer left)
+      → ServesFurther keeps old new (get slab) (get after)
+  slab_further after answer told is =
       steps_further moments (get slab) (get after) key peer left result (sym there)
       (slot_as (get slab) (get after) key (slot_after answer left) (slot_after result left) (ap (λ (r : Result Step Refused). slot_after r left) (sym told)) is)
-      stays ends over (ends_by result (left.stage ≡ stages.Ends) other ended)
+      stays ends over (ends_by new left result ended)
 
--- a peer that stays, and whose reply was looked at then
-pub stays_answered : {D S : Type 0} {g : Ghosts D} {h : stream.Ghosts S} {keeps : Type 0} (moments : ℕ → Type 0) (old new : Server D g) (slab : Slab (Peer S h)) (key : ℕ) (peer left last : Peer S h)
-    (result : Result Step Refused) (pace : Pace) (other : Type 0) → Some peer ≡ get slab key → result ≡ Ok (steps.Stays pace)
-    → ((left.stage ≡ stages.Ends → ⊥) → ServesOn keeps moments old new peer left result)
-    → (left.stage ≡ stages.Ends → EndsPeer keeps moments old new peer left result)
-    → (peer.stage ≡ stages.Ends → EndsAgain keeps moments old new peer left result)
-    → IfOk result (λ step. step ≡ steps.Ended → (left.stage ≡ stages.Ends) × other)
-    → IsSame left last → last.stage ≡ left.stage → ServesFurther keeps old new (get slab) (get (with_value slab key last))
-stays_answered {keeps = keeps} moments old new slab key peer left last result pace other there told stays ends over ended same stage = λ first streams so_far.
-    let between = with_peer (get slab) key left in
-    let lent : IsChanged (get slab) between key (Some left) = with_changed (get slab) key left in
-    let slot : Some left ≡ slot_after result left = ap (λ (r : Result Step Refused). slot_after r left) (sym told) in
-    let served : ServesFurther keeps old new (get slab) between =
-    steps_further moments (get slab) between key peer left result (sym there) (slot_as (get slab) between key (Some left) (slot_after result left) slot lent)
-    stays ends over (ends_by result (left.stage ≡ stages.Ends) other ended) in
-    shown_further {first = first} {server = new} streams between (get (with_value slab key last)) key left last lent.here
-    (changed_again (get slab) (get (with_value slab key last)) key left (Some last) (changed_at slab key peer last there))
-    (λ (calls : List ServerCall). woken streams calls left last same stage) same.conn (served first streams so_far)
+  -- a peer that stays, and whose reply was looked at then
+  pub stays_answered : (last : Peer S h) (pace : Pace) → result ≡ Ok (steps.Stays pace) → IsSame left last → last.stage ≡ left.stage
+      → ServesFurther keeps old new (get slab) (get (with_value slab key last))
+  stays_answered last pace told same stage = λ first streams so_far.
+      let between = with_peer (get slab) key left in
+      let lent : IsChanged (get slab) between key (Some left) = with_changed (get slab) key left in
+      let slot : Some left ≡ slot_after result left = ap (λ (r : Result Step Refused). slot_after r left) (sym told) in
+      let served : ServesFurther keeps old new (get slab) between =
+      steps_further moments (get slab) between key peer left result (sym there) (slot_as (get slab) between key (Some left) (slot_after result left) slot lent)
+      stays ends over (ends_by new left result ended) in
+      shown_further {first = first} {server = new} streams between (get (with_value slab key last)) key left last lent.here
+      (changed_again (get slab) (get (with_value slab key last)) key left (Some last) (changed_at slab key peer last there))
+      (λ (calls : List ServerCall). woken streams calls left last same stage) same.conn (served first streams so_far)
 
 -- a slab that has more room
 pub roomier : {D S : Type 0} {g : Ghosts D} {h : stream.Ghosts S} {keeps : Type 0} (server : Server D g) (slab after : Slab (Peer S h)) (first : Server D g) (streams : List (ℕ × S))

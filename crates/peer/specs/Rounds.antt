@@ -10,6 +10,7 @@ use Rattle.peer.specs.Steps.{AnyMoment, AreOn, EndsPeer, HasBytes, count_by, tur
 use Rattle.peer.specs.declared.pace.Pace.{Pace}
 use Rattle.peer.specs.declared.pace.Pace.TheVariants as paces
 use Rattle.peer.specs.declared.peer.Peer.{Peer}
+use Rattle.peer.specs.declared.peer.Stage.TheVariants as stages
 use Rattle.peer.specs.declared.peer.Step.{Step}
 use Rattle.peer.specs.declared.peer.Step.TheVariants as steps
 use Rattle.peer.specs.declared.stream.Stream as stream
@@ -35,12 +36,14 @@ HaveTurn connection (call ∷ calls) = IsTurnOf connection call ⊎ HaveTurn con
 
 -- Steps
 
--- A peer that stays was given a turn if it had bytes, unless there was no memory.
+-- A peer that stays was given a turn if it had bytes, and was not to end, unless there was no
+-- memory.
 pub record StaysOn {D S : Type 0} {g : Ghosts D} {h : stream.Ghosts S} (keeps : Type 0)
     (old new : Server D g) (peer left : Peer S h) (pace : Pace) : Type 0 where
   pub conn : left.conn ≡ peer.conn
   pub turned : HasBytes peer → (pace ≡ paces.Pauses → ⊥)
       → Goes keeps old new (HaveOneTurn peer.conn)
+  pub over : peer.stage ≡ stages.Ends → pace ≡ paces.Pauses
 
 -- One that ended had a reason (`Reason`), and the server has its connection no longer.
 pub record HasEnded {D S : Type 0} {g : Ghosts D} {h : stream.Ghosts S} (keeps : Type 0)
@@ -107,11 +110,20 @@ HadTurn keeps first last peer left step =
     ⊎ ((left ≡ None) × EndedWithin keeps first last peer)
     ⊎ (step ≡ Some (steps.Stays paces.Pauses))
 
--- each that had bytes when the round began
+-- It has ended in the round, or its step returned that there was no memory.
+abbrev pub HadEnd : {D S : Type 0} {g : Ghosts D} {h : stream.Ghosts S} → (keeps : Type 0)
+    → (first last : Server D g) → (peer : Peer S h) → (left : Option (Peer S h)) → Option Step
+    → Type 0
+HadEnd keeps first last peer left step =
+    ((left ≡ None) × EndedWithin keeps first last peer)
+    ⊎ (step ≡ Some (steps.Stays paces.Pauses))
+
+-- each that had bytes when the round began was given a turn, and each that had been dismissed ended
 abbrev pub EveryRound : {D S : Type 0} {g : Ghosts D} {h : stream.Ghosts S} → (keeps : Type 0)
     → (first : Server D g) → (peers : ℕ → Option (Peer S h)) → Type 0
 EveryRound {D = D} {S = S} {g = g} {h = h} keeps first peers =
     (count : ℕ) (last : Server D g) (after : ℕ → Option (Peer S h))
     (round : IsRound keeps first peers count last after) (key : ℕ) (peer : Peer S h)
-    → key < count → peers key ≡ Some peer → HasBytes peer
-    → HadTurn keeps first last peer (after key) (step_of round key)
+    → key < count → peers key ≡ Some peer
+    → (HasBytes peer → HadTurn keeps first last peer (after key) (step_of round key))
+    × (peer.stage ≡ stages.Ends → HadEnd keeps first last peer (after key) (step_of round key))

@@ -67,8 +67,16 @@ pub record WasServed {S : Type 0} {h : stream.Ghosts S} (streams : List (ℕ × 
 abbrev pub IsThere : (connection : ℕ) → World → Type 0
 IsThere connection world = is_some (at connection world.connections) ≡ true
 
--- Each peer was served, on a connection of its own. The streams are those by which peers came, the
--- newest first.
+-- a peer is on this connection
+pub record HasPeer {S : Type 0} {h : stream.Ghosts S} (peers : ℕ → Option (Peer S h))
+    (connection : ℕ) : Type 0 where
+  pub key : ℕ
+  pub peer : Peer S h
+  pub held : peers key ≡ Some peer
+  pub on : peer.conn ≡ connection
+
+-- Each peer was served, on a connection of its own, and one that came is there as long as the
+-- server has its connection. The streams are those by which peers came, the newest first.
 pub record AreServed {S : Type 0} {h : stream.Ghosts S} (start : World) (streams : List (ℕ × S))
     (peers : ℕ → Option (Peer S h)) (calls : List ServerCall) : Type 0 where
   pub each : (key : ℕ) (peer : Peer S h) → peers key ≡ Some peer → WasServed streams calls peer
@@ -76,6 +84,8 @@ pub record AreServed {S : Type 0} {h : stream.Ghosts S} (start : World) (streams
       → IsThere peer.conn (world_after start calls)
   pub apart : (one other : ℕ) (peer another : Peer S h) → peers one ≡ Some peer
       → peers other ≡ Some another → peer.conn ≡ another.conn → one ≡ other
+  pub kept : (connection : ℕ) → is_some (at connection streams) ≡ true
+      → IsThere connection (world_after start calls) → HasPeer peers connection
 
 -- All calls of the server from then until now are events of a run, and the peers were served by
 -- them.

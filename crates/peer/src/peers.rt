@@ -43,6 +43,7 @@ impl<D: Device, S: Stream + Drop> Peers<D, S> {
     ghost use Rattle.slab.specs.Slab.{get, slab_len};
     ghost use Rattle.server.specs.Views.{waits_of};
     ghost use Rattle.std.specs.Option.{option_map};
+    ghost use Rattle.peer.specs.Between.{AddsPeer, ChangesPeer, IsDismissed, IsWoken, LeavesPeers};
     ghost use Rattle.peer.specs.Rounds.{EveryRound, StepsKey};
     ghost use Rattle.peer.specs.Served.{EveryWire, ServesFurther, ServesNone, ServesOneMore};
 
@@ -66,6 +67,8 @@ impl<D: Device, S: Stream + Drop> Peers<D, S> {
     pub fn make_room(&mut self, alloc: Global) -> Result<Inbox, AllocError>
         ensures serves { ServesFurther D.keeps_word self.old.server self.new.server
             (get self.old.peers) (get self.new.peers) }
+        ensures leaves { LeavesPeers D.keeps_word self.old.server self.new.server
+            (get self.old.peers) (get self.new.peers) }
         ensures empty { IfOk result (λ inbox. inbox ≡ []) }
     {
         self.peers.reserve(1)?;
@@ -81,6 +84,10 @@ impl<D: Device, S: Stream + Drop> Peers<D, S> {
         ensures ok { IfOk result (λ key. ServesOneMore D.keeps_word self.old.server
             self.new.server stream (get self.old.peers) (get self.new.peers)) }
         ensures err { OnErr result (ServesFurther D.keeps_word self.old.server self.new.server
+            (get self.old.peers) (get self.new.peers)) }
+        ensures adds { IfOk result (λ key. AddsPeer D.keeps_word key stream now self.old.server
+            self.new.server (get self.old.peers) (get self.new.peers)) }
+        ensures leaves { OnErr result (LeavesPeers D.keeps_word self.old.server self.new.server
             (get self.old.peers) (get self.new.peers)) }
         ensures key { IfOk result (λ key. key ≡ self.old.peers.vacant_key) }
         ensures back { IfErr result (λ refused. refused.stream ≡ stream) }
@@ -148,6 +155,8 @@ impl<D: Device, S: Stream + Drop> Peers<D, S> {
     pub fn flush(&mut self) -> Result<bool, ServerFault>
         ensures serves { ServesFurther D.keeps_word self.old.server self.new.server
             (get self.old.peers) (get self.new.peers) }
+        ensures leaves { LeavesPeers D.keeps_word self.old.server self.new.server
+            (get self.old.peers) (get self.new.peers) }
         ensures kept { OnOk result (waits_of self.new.server ≡ false) }
         ensures waited { IfOk result (λ waited. waited ≡ waits_of self.old.server) }
     {
@@ -160,7 +169,9 @@ impl<D: Device, S: Stream + Drop> Peers<D, S> {
 
     /// See [`Server::checkpoint`].
     pub fn checkpoint(&mut self) -> Result<(), ServerFault>
-        ensures { ServesFurther D.keeps_word self.old.server self.new.server
+        ensures serves { ServesFurther D.keeps_word self.old.server self.new.server
+            (get self.old.peers) (get self.new.peers) }
+        ensures leaves { LeavesPeers D.keeps_word self.old.server self.new.server
             (get self.old.peers) (get self.new.peers) }
     {
         self.server.checkpoint()
@@ -168,8 +179,10 @@ impl<D: Device, S: Stream + Drop> Peers<D, S> {
 
     /// Takes what the system reported of a peer's stream.
     pub fn wake(&mut self, key: usize, can_read: bool, can_write: bool)
-        ensures { ServesFurther D.keeps_word self.old.server self.new.server
+        ensures serves { ServesFurther D.keeps_word self.old.server self.new.server
             (get self.old.peers) (get self.new.peers) }
+        ensures wakes { ChangesPeer key (IsWoken can_read can_write) self.old.server
+            self.new.server (get self.old.peers) (get self.new.peers) }
     {
         if let Some(peer) = self.peers.get_mut(key) {
             peer.wake(can_read, can_write);
@@ -178,7 +191,9 @@ impl<D: Device, S: Stream + Drop> Peers<D, S> {
 
     /// Ends a peer with its next step.
     pub fn dismiss(&mut self, key: usize)
-        ensures { ServesFurther D.keeps_word self.old.server self.new.server
+        ensures serves { ServesFurther D.keeps_word self.old.server self.new.server
+            (get self.old.peers) (get self.new.peers) }
+        ensures dismisses { ChangesPeer key IsDismissed self.old.server self.new.server
             (get self.old.peers) (get self.new.peers) }
     {
         if let Some(peer) = self.peers.get_mut(key) {
