@@ -1,3 +1,4 @@
 mod AnyCalls
+mod Sweeps
 mod Runs
 mod Turns

@@ -6,7 +6,7 @@ use Rattle.server.specs.declared.server.Server.{Server}
 use Rattle.slab.specs.Slab.{get}
 use Rattle.peer.proofs.Rounds.{every_round}
 use Rattle.peer.specs.Calls.{Goes}
-use Rattle.peer.specs.Rounds.{EndedWithin, HadTurn, HaveTurn, IsRound, step_of}
+use Rattle.peer.specs.Rounds.{EndedWithin, HadEnd, HadTurn, HaveTurn, IsRound, step_of}
 use Rattle.peer.specs.Rounds as rounds
 use Rattle.peer.specs.declared.pace.Pace.{Pace}
 use Rattle.peer.specs.declared.pace.Pace.TheVariants as paces
@@ -60,13 +60,21 @@ module _ {D S : Type 0} {g : Ghosts D} {h : stream.Ghosts S} {keeps : Type 0} wh
   turned_by old new peer left step awake (inr (inl ended)) = inr ended
   turned_by old new peer left step awake (inr (inr paused)) = absurd (awake paused)
 
+  over_by : (old new : Server D g) (peer : Peer S h) (left : Option (Peer S h)) (step : Option Step) → (IsPaused step → ⊥) → HadEnd keeps old new peer left step
+      → (left ≡ None) × EndedWithin keeps old new peer
+  over_by old new peer left step awake (inl ended) = ended
+  over_by old new peer left step awake (inr paused) = absurd (awake paused)
+
   -- all of them
   of_all : (old new : Peers D S g h) (had_memory : Bool) → SoFar keeps old new 16 had_memory → had_memory ≡ true → HadTurns keeps old new
   of_all old new had_memory so_far is = record {
     between = new;
     turned = λ key peer few there has.
         turned_by old.server new.server peer (get new.peers key) (step_of so_far.round key) (so_far.awake is key)
-        (every_round keeps old.server (get old.peers) 16 new.server (get new.peers) so_far.round key peer few there has);
+        ((every_round keeps old.server (get old.peers) 16 new.server (get new.peers) so_far.round key peer few there).0 has);
+    over = λ key peer few there ends.
+        over_by old.server new.server peer (get new.peers key) (step_of so_far.round key) (so_far.awake is key)
+        ((every_round keeps old.server (get old.peers) 16 new.server (get new.peers) so_far.round key peer few there).1 ends);
     goes = runs_none new;
   }
 
@@ -75,4 +83,4 @@ module _ {D S : Type 0} {g : Ghosts D} {h : stream.Ghosts S} {keeps : Type 0} wh
 
   -- and calls since
   pub had_turns_then : {old between new : Peers D S g h} → HadTurns keeps old between → RunsOn keeps between new → HadTurns keeps old new
-  had_turns_then had more = record { between = had.between; turned = had.turned; goes = runs_then had.goes more }
+  had_turns_then had more = record { between = had.between; turned = had.turned; over = had.over; goes = runs_then had.goes more }

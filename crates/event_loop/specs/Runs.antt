@@ -9,12 +9,14 @@ use Rattle.server.specs.declared.server.Server.{Server}
 use Rattle.slab.specs.Slab.{get}
 use Rattle.system.specs.declared.refused.Refused.{Refused}
 use Rattle.peer.specs.Calls.{Goes}
+use Rattle.peer.specs.Peers.{IsSame}
 use Rattle.peer.specs.Rounds.{EndedWithin, HaveTurn, StepsKey}
 use Rattle.peer.specs.Served.{AreOfRun, Serves}
 use Rattle.peer.specs.Steps.{HasBytes}
 use Rattle.peer.specs.declared.pace.Pace.{Pace}
 use Rattle.peer.specs.declared.pace.Pace.TheVariants as paces
 use Rattle.peer.specs.declared.peer.Peer.{Peer}
+use Rattle.peer.specs.declared.peer.Stage.TheVariants as stages
 use Rattle.peer.specs.declared.peer.Step.{Step}
 use Rattle.peer.specs.declared.peer.Step.TheVariants as steps
 use Rattle.peer.specs.declared.peers.Peers.{Peers}
@@ -102,11 +104,48 @@ pub record StepsOne {D S : Type 0} {g : Ghosts D} {h : stream.Ghosts S} (keeps :
   pub steps : StepsKey keeps key old.server new.server (get old.peers) (get new.peers) step
 
 -- Each peer that had bytes was given a turn, or has ended for a reason of its own, when each of the
--- 16 keys had had a step.
+-- 16 keys had had a step. One that had been dismissed has ended.
 pub record HadTurns {D S : Type 0} {g : Ghosts D} {h : stream.Ghosts S} (keeps : Type 0)
     (old new : Peers D S g h) : Type 0 where
   pub between : Peers D S g h
   pub turned : (key : ℕ) (peer : Peer S h) → key < 16 → get old.peers key ≡ Some peer
       → HasBytes peer → Goes keeps old.server between.server (HaveTurn peer.conn)
       ⊎ ((get between.peers key ≡ None) × EndedWithin keeps old.server between.server peer)
+  pub over : (key : ℕ) (peer : Peer S h) → key < 16 → get old.peers key ≡ Some peer
+      → peer.stage ≡ stages.Ends
+      → (get between.peers key ≡ None) × EndedWithin keeps old.server between.server peer
+  pub goes : RunsOn keeps between new
+
+-- Rounds
+
+-- A peer as its step finds it: with the same stream and bytes, and dismissed only if it gives way.
+pub record IsFound {S : Type 0} {h : stream.Ghosts S} (gives_way : Type 0) (peer found : Peer S h)
+    : Type 0 where
+  pub same : IsSame peer found
+  pub stage : (found.stage ≡ peer.stage) ⊎ (gives_way × (found.stage ≡ stages.Ends))
+
+-- Calls of `Peers` that give none a step: each peer is there as its step will find it. The one of
+-- this key gives way, if there is such a key.
+pub record KeepsPeers {D S : Type 0} {g : Ghosts D} {h : stream.Ghosts S} (keeps : Type 0)
+    (way : Option ℕ) (old new : Peers D S g h) : Type 0 where
+  pub calls : RunsOn keeps old new
+  pub goes : GoesAny keeps old.server new.server
+  pub found : (key : ℕ) (peer : Peer S h) → get old.peers key ≡ Some peer
+      → (left : Peer S h) × (get new.peers key ≡ Some left) × IsFound (way ≡ Some key) peer left
+
+-- at most one gives way
+abbrev pub MeetsPeers : {D S : Type 0} {g : Ghosts D} {h : stream.Ghosts S} → (keeps : Type 0)
+    → (old new : Peers D S g h) → Type 0
+MeetsPeers keeps old new = (way : Option ℕ) × KeepsPeers keeps way old new
+
+-- A round: each peer that had bytes when it began was given a turn, or has ended, for a reason of
+-- its own, or, at most one of them, since it gave way to a connection that waits.
+pub record HadRound {D S : Type 0} {g : Ghosts D} {h : stream.Ghosts S} (keeps : Type 0)
+    (old new : Peers D S g h) : Type 0 where
+  pub between : Peers D S g h
+  pub way : Option ℕ
+  pub turned : (key : ℕ) (peer : Peer S h) → key < 16 → get old.peers key ≡ Some peer
+      → HasBytes peer → Goes keeps old.server between.server (HaveTurn peer.conn)
+      ⊎ ((get between.peers key ≡ None) × ((found : Peer S h)
+      × IsFound (way ≡ Some key) peer found × EndedWithin keeps old.server between.server found))
   pub goes : RunsOn keeps between new

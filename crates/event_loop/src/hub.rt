@@ -1,9 +1,9 @@
 //! A mounted volume, its peers, and the loop over them.
 
-ghost use Rattle.std.specs.Prelude.{◌≡◌, ◌≢◌, true, IfOk, None, Ok};
+ghost use Rattle.std.specs.Prelude.{◌≡◌, ◌≢◌, true, IfOk, None, Ok, OnOk};
 ghost use Rattle.slab.specs.Slab.{get};
 ghost use Rattle.peer.specs.declared.pace.Pace.TheVariants.{Pauses};
-ghost use Rattle.event_loop.specs.Runs.{EveryLoop, GoesAny, HadTurns, HasBegun, HasNoPeer, LoopBegins, LoopBeginsAnew, RunsOn, StepsOne};
+ghost use Rattle.event_loop.specs.Runs.{EveryLoop, GoesAny, HadRound, HadTurns, HasBegun, HasNoPeer, KeepsPeers, LoopBegins, LoopBeginsAnew, MeetsPeers, RunsOn, StepsOne};
 ghost use Rattle.event_loop.specs.Settled.{settings_served};
 
 use crate::counted::{Counted, Socket};
@@ -125,6 +125,8 @@ pub struct Hub<D: Watched, S: Socket> {
     desk: Desk,
     /// How soon to go on.
     pace: Pace,
+    /// Whether there was memory for the first step of each peer in the last round.
+    had_memory: bool,
     /// Whether nothing has changed since the last checkpoint.
     is_rested: bool,
 }
@@ -202,6 +204,7 @@ impl<D: Watched, S: Socket> Hub<D, S> {
                 peers,
                 desk,
                 pace: Pace::Goes,
+                had_memory: true,
                 is_rested: true,
             }),
             Err(refused) => {
@@ -326,11 +329,15 @@ impl<D: Watched, S: Socket> Hub<D, S> {
     where
         R: Clock + AllocGlobal,
         E: Write + Drop,
-        ensures { RunsOn D.keeps_word self.old.peers self.new.peers }
+        ensures calls { RunsOn D.keeps_word self.old.peers self.new.peers }
+        ensures fair { OnOk result (self.new.had_memory ≡ true
+            → HadRound D.keeps_word self.old.peers self.new.peers) }
     {
         let has_heard = self.desk.sockets.hear(&mut self.peers, timeout)?;
         self.rest(has_heard)?;
-        self.pace = self.round(rt, rt.alloc(), Instant::now(rt)?, lines)?;
+        let sweep = self.round(rt, rt.alloc(), Instant::now(rt)?, lines)?;
+        self.pace = sweep.pace;
+        self.had_memory = sweep.had_memory;
         Ok(self.pace)
     }
 
@@ -356,7 +363,7 @@ impl<D: Watched, S: Socket> Hub<D, S> {
     /// Makes a checkpoint if nothing came while it slept and something has changed since the last
     /// one.
     fn rest(&mut self, has_heard: bool) -> Result<(), Refused>
-        ensures { RunsOn D.keeps_word self.old.peers self.new.peers }
+        ensures { KeepsPeers D.keeps_word None self.old.peers self.new.peers }
     {
         if self.is_rested || has_heard || self.pace != Pace::Sleeps {
             return Ok(());
@@ -376,20 +383,23 @@ impl<D: Watched, S: Socket> Hub<D, S> {
         alloc: Global,
         now: Instant,
         lines: &mut Lines<E>,
-    ) -> Result<Pace, Refused>
+    ) -> Result<Sweep, Refused>
     where
         C: Clock,
         E: Write + Drop,
-        ensures { RunsOn D.keeps_word self.old.peers self.new.peers }
+        ensures calls { RunsOn D.keeps_word self.old.peers self.new.peers }
+        ensures fair { IfOk result (λ sweep. sweep.had_memory ≡ true
+            → HadRound D.keeps_word self.old.peers self.new.peers) }
     {
         let met = self.meet(alloc, now, lines)?;
-        let stepped = self.step_on(clock, now, lines)?;
-        let pace = met.or(stepped.pace);
+        let mut sweep = self.step_on(clock, now, lines)?;
+        sweep.pace = met.or(sweep.pace);
         if !self.flush()? {
-            return Ok(pace);
+            return Ok(sweep);
         }
         let sent = self.step_all(clock, now, lines)?;
-        Ok(pace.or(sent.pace))
+        sweep.pace = sweep.pace.or(sent.pace);
+        Ok(sweep)
     }
 
     /// Whoever reads the counts is served, and so is whoever connects; a connection that waits is
@@ -402,7 +412,7 @@ impl<D: Watched, S: Socket> Hub<D, S> {
     ) -> Result<Pace, Refused>
     where
         E: Write + Drop,
-        ensures { RunsOn D.keeps_word self.old.peers self.new.peers }
+        ensures { MeetsPeers D.keeps_word self.old.peers self.new.peers }
     {
         let shown = self.desk.show_counts(&self.peers, alloc, now);
         let received = self.desk.receive(now, lines)?;
@@ -478,7 +488,7 @@ impl<D: Watched, S: Socket> Hub<D, S> {
     ) -> Result<Pace, Refused>
     where
         E: Write + Drop,
-        ensures { RunsOn D.keeps_word self.old.peers self.new.peers }
+        ensures { MeetsPeers D.keeps_word self.old.peers self.new.peers }
     {
         let Some(number) = self.desk.sockets.next() else {
             return Ok(Pace::Sleeps);
@@ -506,7 +516,7 @@ impl<D: Watched, S: Socket> Hub<D, S> {
     ) -> Result<Pace, Refused>
     where
         E: Write + Drop,
-        ensures { RunsOn D.keeps_word self.old.peers self.new.peers }
+        ensures { MeetsPeers D.keeps_word self.old.peers self.new.peers }
     {
         let Ok(inbox) = self.peers.make_room(alloc) else {
             return Ok(Pace::Pauses);

@@ -1,6 +1,7 @@
 //! The sockets of a server: the door, and what the system reports of it and of the peers.
 
-ghost use Rattle.event_loop.specs.Runs.{RunsOn};
+ghost use Rattle.std.specs.Prelude.{None};
+ghost use Rattle.event_loop.specs.Runs.{KeepsPeers, MeetsPeers};
 
 use crate::counted::{Bytes, Socket};
 use crate::glance::Glance;
@@ -145,7 +146,7 @@ impl Sockets {
         peers: &mut Peers<D, S>,
         timeout: Option<Duration>,
     ) -> Result<bool, Refused>
-        ensures { RunsOn D.keeps_word peers.old peers.new }
+        ensures { KeepsPeers D.keeps_word None peers.old peers.new }
     {
         self.changes.wait(timeout)?;
         for event in &self.changes.events {
@@ -259,7 +260,7 @@ impl Sockets {
         number: usize,
         now: Instant,
     ) -> Option<(SocketAddr, SocketAddr)>
-        ensures { RunsOn D.keeps_word peers.old peers.new }
+        ensures { MeetsPeers D.keeps_word peers.old peers.new }
     {
         let way = self.way(peers, number, now)?;
         peers.dismiss(way.key);
@@ -414,7 +415,7 @@ fn registered(poll: &Poll, mut stream: TcpStream, token: Token) -> Option<TcpStr
 
 /// Wakes a peer by what the system reports of its stream.
 fn wake_peer<D: Device, S: Socket>(peers: &mut Peers<D, S>, event: &Event)
-    ensures { RunsOn D.keeps_word peers.old peers.new }
+    ensures { KeepsPeers D.keeps_word None peers.old peers.new }
 {
     let is_broken = is_broken(event);
     peers.wake(

@@ -1,5 +1,5 @@
-use Rattle.event_loop.proofs.Runs.{runs_further}
+use Rattle.event_loop.proofs.Sweeps.{keeps_woken}
 use Rattle.event_loop.proofs.sockets.wake_peer.Goals as goal
 
 pub returns : goal.returns
-returns g c = runs_further c.args.peers.now c.wake.new.self c.wake.ensures
+returns g c = keeps_woken c.args.peers.now c.wake.new.self _ _ _ c.wake.ensures.serves c.wake.ensures.wakes

@@ -1,17 +1,21 @@
+use Rattle.event_loop.proofs.Sweeps.{keeps_then, round_since}
 use Rattle.event_loop.proofs.Runs.{runs_then}
 use Rattle.event_loop.proofs.hub.Hub.go_on.Goals as goal
 
-pub returns-in_err-has_heard : goal.returns-in_err-has_heard
-returns-in_err-has_heard g c = c.hear.ensures
+pub returns-in_err-has_heard-clause-calls : goal.returns-in_err-has_heard-clause-calls
+returns-in_err-has_heard-clause-calls g c = c.hear.ensures.calls
 
-pub returns-in_err-rest : goal.returns-in_err-rest
-returns-in_err-rest g c = runs_then c.hear.ensures c.rest.ensures
+pub returns-in_err-rest-clause-calls : goal.returns-in_err-rest-clause-calls
+returns-in_err-rest-clause-calls g c = runs_then c.hear.ensures.calls c.rest.ensures.calls
 
-pub returns-in_err-now : goal.returns-in_err-now
-returns-in_err-now g c = runs_then c.hear.ensures c.rest.ensures
+pub returns-in_err-now-clause-calls : goal.returns-in_err-now-clause-calls
+returns-in_err-now-clause-calls g c = runs_then c.hear.ensures.calls c.rest.ensures.calls
 
-pub returns-in_err-self : goal.returns-in_err-self
-returns-in_err-self g c = runs_then (runs_then c.hear.ensures c.rest.ensures) c.round.ensures
+pub returns-in_err-sweep-clause-calls : goal.returns-in_err-sweep-clause-calls
+returns-in_err-sweep-clause-calls g c = runs_then (runs_then c.hear.ensures.calls c.rest.ensures.calls) c.round.ensures.calls
 
-pub returns : goal.returns
-returns g c = runs_then (runs_then c.hear.ensures c.rest.ensures) c.round.ensures
+pub returns-clause-calls : goal.returns-clause-calls
+returns-clause-calls g c = runs_then (runs_then c.hear.ensures.calls c.rest.ensures.calls) c.round.ensures.calls
+
+pub returns-clause-fair : goal.returns-clause-fair
+returns-clause-fair g c = λ had. round_since (keeps_then c.hear.ensures c.rest.ensures) (c.in_ok-sweep.ensures.fair had)

@@ -1,20 +1,28 @@
+use Rattle.event_loop.proofs.Sweeps.{round_of, round_then}
 use Rattle.event_loop.proofs.Runs.{runs_then}
 use Rattle.event_loop.proofs.hub.Hub.round.Goals as goal
 
-pub returns-in_err-met : goal.returns-in_err-met
-returns-in_err-met g c = c.meet.ensures
+pub returns-in_err-met-clause-calls : goal.returns-in_err-met-clause-calls
+returns-in_err-met-clause-calls g c = c.meet.ensures.1.calls
 
-pub returns-in_err-stepped : goal.returns-in_err-stepped
-returns-in_err-stepped g c = runs_then c.meet.ensures c.step_on.ensures.calls
+pub returns-in_err-sweep-clause-calls : goal.returns-in_err-sweep-clause-calls
+returns-in_err-sweep-clause-calls g c = runs_then c.meet.ensures.1.calls c.step_on.ensures.calls
 
-pub returns-in_err-flush : goal.returns-in_err-flush
-returns-in_err-flush g c = runs_then (runs_then c.meet.ensures c.step_on.ensures.calls) c.flush.ensures
+pub returns-in_err-flush-clause-calls : goal.returns-in_err-flush-clause-calls
+returns-in_err-flush-clause-calls g c = runs_then (runs_then c.meet.ensures.1.calls c.step_on.ensures.calls) c.flush.ensures
 
-pub returns-then-not-branch : goal.returns-then-not-branch
-returns-then-not-branch g c = runs_then (runs_then c.meet.ensures c.step_on.ensures.calls) c.flush.ensures
+pub returns-then-not-branch-clause-calls : goal.returns-then-not-branch-clause-calls
+returns-then-not-branch-clause-calls g c = runs_then (runs_then c.meet.ensures.1.calls c.step_on.ensures.calls) c.flush.ensures
 
-pub returns-in_err-sent : goal.returns-in_err-sent
-returns-in_err-sent g c = runs_then (runs_then (runs_then c.meet.ensures c.step_on.ensures.calls) c.flush.ensures) c.step_all.ensures.calls
+pub returns-then-not-branch-clause-fair : goal.returns-then-not-branch-clause-fair
+returns-then-not-branch-clause-fair g c = λ had. round_then (round_of c.meet.ensures (c.in_ok-sweep.ensures.fair had)) c.flush.ensures
 
-pub returns : goal.returns
-returns g c = runs_then (runs_then (runs_then c.meet.ensures c.step_on.ensures.calls) c.flush.ensures) c.step_all.ensures.calls
+pub returns-in_err-sent-clause-calls : goal.returns-in_err-sent-clause-calls
+returns-in_err-sent-clause-calls g c = runs_then (runs_then (runs_then c.meet.ensures.1.calls c.step_on.ensures.calls) c.flush.ensures) c.step_all.ensures.calls
+
+pub returns-clause-calls : goal.returns-clause-calls
+returns-clause-calls g c = runs_then (runs_then (runs_then c.meet.ensures.1.calls c.step_on.ensures.calls) c.flush.ensures) c.step_all.ensures.calls
+
+pub returns-clause-fair : goal.returns-clause-fair
+returns-clause-fair g c = λ had.
+    round_then (round_then (round_of c.meet.ensures (c.in_ok-sweep.ensures.fair had)) c.flush.ensures) c.step_all.ensures.calls

@@ -1,8 +1,8 @@
-use Rattle.event_loop.proofs.Runs.{runs_none}
+use Rattle.event_loop.proofs.Sweeps.{keeps_none, meets}
 use Rattle.event_loop.proofs.hub.Hub.welcome.Goals as goal
 
 pub returns-in_default : goal.returns-in_default
-returns-in_default g c = runs_none c.args.self.now.peers
+returns-in_default g c = meets (keeps_none c.args.self.now.peers)
 
 pub returns-then-not-are_full : goal.returns-then-not-are_full
 returns-then-not-are_full g c = c.admit.ensures

@@ -1,8 +1,8 @@
-use Rattle.event_loop.proofs.Runs.{runs_further, runs_none}
+use Rattle.event_loop.proofs.Sweeps.{keeps_dismissed, keeps_none, meets}
 use Rattle.event_loop.proofs.sockets.Sockets.make_way.Goals as goal
 
 pub returns-in_err-way : goal.returns-in_err-way
-returns-in_err-way g c = runs_none c.args.peers.now
+returns-in_err-way g c = meets (keeps_none c.args.peers.now)
 
 pub returns : goal.returns
-returns g c = runs_further c.args.peers.now c.dismiss.new.self c.dismiss.ensures
+returns g c = (_, keeps_dismissed c.args.peers.now c.dismiss.new.self _ c.dismiss.ensures.serves c.dismiss.ensures.dismisses)
