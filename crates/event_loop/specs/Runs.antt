@@ -103,8 +103,8 @@ pub record StepsOne {D S : Type 0} {g : Ghosts D} {h : stream.Ghosts S} (keeps :
   pub paced : pace ≡ pace_of step
   pub steps : StepsKey keeps key old.server new.server (get old.peers) (get new.peers) step
 
--- Each peer that had bytes was given a turn, or has ended for a reason of its own, when each of the
--- 16 keys had had a step. One that had been dismissed has ended.
+-- At some moment since, each peer that had bytes was given a turn, or has ended for a reason of its
+-- own, and each that had been dismissed has ended.
 pub record HadTurns {D S : Type 0} {g : Ghosts D} {h : stream.Ghosts S} (keeps : Type 0)
     (old new : Peers D S g h) : Type 0 where
   pub between : Peers D S g h
@@ -118,14 +118,15 @@ pub record HadTurns {D S : Type 0} {g : Ghosts D} {h : stream.Ghosts S} (keeps :
 
 -- Rounds
 
--- A peer as its step finds it: with the same stream and bytes, and dismissed only if it gives way.
+-- A peer as its step finds it: with the same stream and bytes, and dismissed only if it may give
+-- way.
 pub record IsFound {S : Type 0} {h : stream.Ghosts S} (gives_way : Type 0) (peer found : Peer S h)
     : Type 0 where
   pub same : IsSame peer found
   pub stage : (found.stage ≡ peer.stage) ⊎ (gives_way × (found.stage ≡ stages.Ends))
 
--- Calls of `Peers` that give none a step: each peer is there as its step will find it. The one of
--- this key gives way, if there is such a key.
+-- Calls of `Peers` after which each peer is there as its step will find it. The one of this key may
+-- have been dismissed, if there is such a key.
 pub record KeepsPeers {D S : Type 0} {g : Ghosts D} {h : stream.Ghosts S} (keeps : Type 0)
     (way : Option ℕ) (old new : Peers D S g h) : Type 0 where
   pub calls : RunsOn keeps old new
@@ -133,13 +134,13 @@ pub record KeepsPeers {D S : Type 0} {g : Ghosts D} {h : stream.Ghosts S} (keeps
   pub found : (key : ℕ) (peer : Peer S h) → get old.peers key ≡ Some peer
       → (left : Peer S h) × (get new.peers key ≡ Some left) × IsFound (way ≡ Some key) peer left
 
--- at most one gives way
+-- at most one is dismissed
 abbrev pub MeetsPeers : {D S : Type 0} {g : Ghosts D} {h : stream.Ghosts S} → (keeps : Type 0)
     → (old new : Peers D S g h) → Type 0
 MeetsPeers keeps old new = (way : Option ℕ) × KeepsPeers keeps way old new
 
 -- A round: each peer that had bytes when it began was given a turn, or has ended, for a reason of
--- its own, or, at most one of them, since it gave way to a connection that waits.
+-- its own, or, at most one of them, since it was dismissed.
 pub record HadRound {D S : Type 0} {g : Ghosts D} {h : stream.Ghosts S} (keeps : Type 0)
     (old new : Peers D S g h) : Type 0 where
   pub between : Peers D S g h

@@ -314,7 +314,7 @@ impl<D: Watched, S: Socket> Hub<D, S> {
     }
 
     /// Waits for the system, at most for this time; then connections that wait are given places,
-    /// each peer has steps, with at most one operation of a request, and what waits is flushed.
+    /// each peer has up to 16 steps, with at most one operation each, and what waits is flushed.
     /// Returns how soon to go on.
     ///
     /// # Errors

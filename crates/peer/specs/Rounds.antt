@@ -118,7 +118,8 @@ HadEnd keeps first last peer left step =
     ((left ≡ None) × EndedWithin keeps first last peer)
     ⊎ (step ≡ Some (steps.Stays paces.Pauses))
 
--- each that had bytes when the round began was given a turn, and each that had been dismissed ended
+-- Each that had bytes when the round began was given a turn, and each that had been dismissed ended,
+-- or its step paused.
 abbrev pub EveryRound : {D S : Type 0} {g : Ghosts D} {h : stream.Ghosts S} → (keeps : Type 0)
     → (first : Server D g) → (peers : ℕ → Option (Peer S h)) → Type 0
 EveryRound {D = D} {S = S} {g = g} {h = h} keeps first peers =

@@ -226,7 +226,8 @@ impl<S: Stream + Drop> Peer<S> {
         self.answered.take()
     }
 
-    /// Does what can be done without waiting, with one operation of a request at most.
+    /// Does what can be done without waiting, with one operation of a request at most. A step that
+    /// ends the peer also runs the rest of its request.
     ///
     /// # Errors
     /// What ends the program: a failure of the device or the clock.

@@ -40,7 +40,7 @@ freed_in stopped = (history_in stopped).freed
     ++ freeing stopped.old.serving stopped.event stopped.old.serving.is_down
 
 -- Of the replies that were stored, how many were when last nothing waited: a flush has kept them.
--- Those stored since then wait for the next one.
+-- Those stored since then may wait for the next one.
 abbrev pub settled_by : {first last : Seen} {calls : List ServerCall}
     → IsServed first calls last → ℕ
 settled_by Begins = 0

@@ -34,7 +34,7 @@ IsUntouched old new =
     × (new.waits ≡ old.waits)
 
 -- What a call may do to the device, however it ends: the count of its failures does not fall, and
--- at most `most` writes and syncs are made.
+-- if it keeps its word, at most `most` writes and syncs take effect.
 pub record UsesDevice (keeps_word : Type 0) (most : ℕ) (old new : View) : Type 0 where
   pub later : old.failures ≤ new.failures
   pub brief : keeps_word → MakesAtMost most old.volume new.volume

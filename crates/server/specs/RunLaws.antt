@@ -17,7 +17,8 @@ HangUpIsCalls =
     → IsTurned connection now old new
     → ((more : List ServerCall) × IsServed first more new) × (IsSeenReady old → IsSeenReady new)
 
--- A run makes at most 396 writes and syncs a call, also in the call in which the device fails.
+-- At most 396 writes and syncs take effect in a call of a run, also in one in which the device
+-- fails.
 abbrev pub IsBounded : Type 0
 IsBounded =
     (first last : Seen) (calls : List ServerCall) (served : IsServed first calls last)

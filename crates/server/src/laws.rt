@@ -40,7 +40,7 @@ pub fn every_run()
 {}
 
 /// Exactly once over restarts, on sessions that have a seat, over any list of runs that follow one
-/// another: a reply that a slot was given is held by what a crash leaves until the slot's next
+/// another: a reply that was stored in a seat is held by what a crash leaves until the slot's next
 /// reply is, or the seat was freed, and a client asked for that. While something waits for a flush,
 /// this holds of the replies that were stored when last nothing did, and each that was taken is one
 /// of them. A session of an earlier run gets what its seat holds and runs nothing, so a slot runs a

@@ -203,8 +203,9 @@ impl<D: Device> Server<D> {
     }
 
     /// Gives the connection a turn at this time, in nanoseconds since 1970: one operation of its
-    /// request runs, or after the last one a seat holds the reply. A change is kept on the device
-    /// before its result is there, and a reply that a seat is to hold before it can be taken.
+    /// request runs, or after the last one a seat holds the reply. A change that has to last is kept
+    /// on the device before its result is there, and a reply that a seat is to hold before it can be
+    /// taken.
     ///
     /// # Errors
     /// Device if the file system is down, or goes down in this call: then no reply reports the
