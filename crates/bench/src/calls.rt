@@ -4,7 +4,7 @@ use crate::rows::Rows;
 use crate::volumes::{
     Directory, NOW, SizedFile, TRANSFER_BYTES, Tree, caller, make_file, mount, name_of, write,
 };
-use crate::work::{Undone, Work};
+use crate::work::{FailedStep, Work};
 use fs::{FsFault, Listing, Renaming};
 use std::alloc::Global;
 use std::fmt;
@@ -177,7 +177,7 @@ impl Work for Makes {
     }
 }
 
-impl Undone for Makes {
+impl FailedStep for Makes {
     fn undo(&mut self) -> anyhow::Result<u64> {
         let Directory { number, files, .. } = self.directory;
         for i in 0..MADE {

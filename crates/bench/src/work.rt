@@ -28,7 +28,7 @@ pub trait Work {
 }
 
 /// Work that is undone, so that it can be done again.
-pub trait Undone: Work {
+pub trait FailedStep: Work {
     /// Undoes the turn before, and returns how many things that took.
     fn undo(&mut self) -> anyhow::Result<u64>;
 }
@@ -50,7 +50,7 @@ pub fn how_many<R: Clock, W: Work>(rt: &R, measure: Measure, work: &mut W) -> an
 }
 
 /// How many things the work does, and how many it undoes.
-pub fn how_many_of_both<R: Clock, W: Undone>(
+pub fn how_many_of_both<R: Clock, W: FailedStep>(
     rt: &R,
     measure: Measure,
     work: &mut W,
@@ -70,11 +70,11 @@ fn best_rate<R: Clock, W: Work>(rt: &R, work: &mut W) -> anyhow::Result<u64> {
 }
 
 /// The best rate of doing and the best of undoing, over all rounds.
-fn best_rates<R: Clock, W: Undone>(rt: &R, work: &mut W) -> anyhow::Result<(u64, u64)> {
+fn best_rates<R: Clock, W: FailedStep>(rt: &R, work: &mut W) -> anyhow::Result<(u64, u64)> {
     let mut best = (0, 0);
     for _ in 0..ROUNDS {
-        let (done, undone) = round_rates(rt, work)?;
-        best = (done.max(best.0), undone.max(best.1));
+        let (done, failed) = round_rates(rt, work)?;
+        best = (done.max(best.0), failed.max(best.1));
     }
     Ok(best)
 }
@@ -90,22 +90,22 @@ pub fn shortest_turn<R: Clock, W: Work>(rt: &R, work: &mut W) -> anyhow::Result<
     Ok(shortest)
 }
 
-fn round_rates<R: Clock, W: Undone>(rt: &R, work: &mut W) -> anyhow::Result<(u64, u64)> {
+fn round_rates<R: Clock, W: FailedStep>(rt: &R, work: &mut W) -> anyhow::Result<(u64, u64)> {
     let round = Duration::from_millis(ROUND_MILLISECONDS);
-    let (mut done, mut undone) = (0u64, 0u64);
+    let (mut done, mut failed) = (0u64, 0u64);
     let (mut doing, mut undoing) = (Duration::ZERO, Duration::ZERO);
     for _ in 0..MAX_TURNS {
         let start = Instant::now(rt)?;
         done = done.saturating_add(work.turn()?);
         let middle = Instant::now(rt)?;
-        undone = undone.saturating_add(work.undo()?);
+        failed = failed.saturating_add(work.undo()?);
         doing = doing.saturating_add(middle.duration_since(start));
         undoing = undoing.saturating_add(middle.elapsed(rt)?);
         if doing >= round {
             break;
         }
     }
-    Ok((rate(done, doing), rate(undone, undoing)))
+    Ok((rate(done, doing), rate(failed, undoing)))
 }
 
 fn round_rate<R: Clock, W: Work>(rt: &R, work: &mut W) -> anyhow::Result<u64> {

@@ -1,7 +1,7 @@
 -- A client's record that is sent over a stream, and its outcome.
 use Rattle.std.proofs.Common.{◌≡◌, ℕ, List, Option, Some, None, Result, Err, inl, inr, refl, sym, ap, ◌∙◌}
 use Rattle.std.specs.Global.{Vec}
-use Rattle.model.specs.Wire.Record.{Front, Partial, Refused, Whole, front}
+use Rattle.model.specs.Wire.Record.{Prefix, Partial, Refused, Whole, prefix}
 use Rattle.rpc.specs.Assembly.{record_limits}
 use Rattle.wire.specs.declared.outcome.Outcome.{Outcome}
 use Rattle.client.specs.declared.fault.ClientFault.{ClientFault}
@@ -21,8 +21,8 @@ unfolding replied
 replied_nothing client = nothing_by client client.sent
 
 -- no whole record came, or one that is refused
-fails : (client : Client) (bytes read received : List ℕ) (before after : Stream) (came : Front) (e : ClientFault) (r : Result (Vec Outcome) ClientFault)
-    → front record_limits read ≡ came → Passes bytes before after read → Comes came received (Err e) → r ≡ Err e → Exchanges client client bytes before after r
+fails : (client : Client) (bytes read received : List ℕ) (before after : Stream) (came : Prefix) (e : ClientFault) (r : Result (Vec Outcome) ClientFault)
+    → prefix record_limits read ≡ came → Passes bytes before after read → Comes came received (Err e) → r ≡ Err e → Exchanges client client bytes before after r
 fails client bytes read received before after Partial e r is passes comes result_is =
     let io : e ≡ faults.Io = cc in
     let told : r ≡ Err faults.Io = result_is ∙ ap (λ (x : ClientFault). Err x) io in
@@ -39,7 +39,7 @@ kept client found bytes received before after e r is (inl none) result_is =
     let memory : e ≡ faults.Memory = cc none.0 in
     rw is (inl (record { refused = result_is ∙ ap (λ (x : ClientFault). Err x) memory; same = refl; untouched = none.1 }))
 kept client found bytes received before after e r is (inr talks) result_is =
-    rw is (inr (fails client bytes talks.read received before after (front record_limits talks.read) e r refl talks.passes talks.comes result_is))
+    rw is (inr (fails client bytes talks.read received before after (prefix record_limits talks.read) e r refl talks.passes talks.comes result_is))
 
 pub not_received : (client : Client) (bytes received : List ℕ) (before after : Stream) (e : ClientFault) (r : Result (Vec Outcome) ClientFault)
     → bytes_kept client.sent ≡ Some bytes → Converses bytes before after received (Err e) → r ≡ Err e → Resends client client before after r

@@ -9,15 +9,15 @@ use Rattle.model_tree.specs.declared.status.Status.TheVariants as status
 use Rattle.model.specs.Operations.Operation.{Argument, operation_of}
 use Rattle.model.specs.Wire.Rpc.{is_empty}
 use Rattle.model.specs.Server.Served.{is_served, looks_no_further}
-use Rattle.model.specs.Wire.WireArguments.{argument_told, arguments_at, argument}
+use Rattle.model.specs.Wire.WireArguments.{encoded_argument, arguments_at, argument}
 use Rattle.model.specs.Server.World.{InProgress, Next, Refuses, Reads, next_operation, is_last, is_no_operation, is_sequence, stands_alone, op_illegal, first_tests, later_tests, first_or, by_arguments, by_number, tests_of}
 use Rattle.wire.proofs.ExactArguments.{argument_again}
 
-number_is : (a : Argument) → (argument_told a).number ≡ operation_of a
+number_is : (a : Argument) → (encoded_argument a).number ≡ operation_of a
 number_is (Argument.Access rights) = refl
 number_is a = refl
 
-is_operation : (a : Argument) → is_no_operation (argument_told a).number ≡ false
+is_operation : (a : Argument) → is_no_operation (encoded_argument a).number ≡ false
 is_operation (Argument.Access rights) = refl
 is_operation a = refl
 
@@ -30,7 +30,7 @@ module _ (request : InProgress) (asked : Argument) (rest : List ℕ) where
   Own next = IsNext asked rest next
 
   abbrev n : ℕ
-  n = (argument_told asked).number
+  n = (encoded_argument asked).number
 
   chosen : (b : Bool) (x y : Next) → (b ≡ true → Own x) → Own y → Own (cond b x y)
   chosen true x y first second = first refl
@@ -63,14 +63,14 @@ module _ (request : InProgress) (asked : Argument) (rest : List ℕ) where
       chosen (is_last request && (not (looks_no_further asked) && not (is_empty rest))) (Refuses n status.BadXdr) (Reads asked rest)
       (λ test. number_is asked) (refl, refl)
 
-  pub next_is : argument.Fits asked → request.rest ≡ argument.spelling asked ++ rest → Own (next_operation request)
+  pub next_is : argument.Fits asked → request.rest ≡ argument.encoding asked ++ rest → Own (next_operation request)
   unfolding next_operation arguments_at
   next_is fits is =
-      let text : List ℕ = (argument_told asked).text in
-      let at_front : number_at w32 request.rest ≡ Ok (n, text ++ rest) =
+      let text : List ℕ = (encoded_argument asked).text in
+      let at_prefix : number_at w32 request.rest ≡ Ok (n, text ++ rest) =
       ap (number_at w32) (is ∙ append_assoc (number w32 n) text rest) ∙ int_again n (text ++ rest) fits.0 in
       let whole : arguments_at n (text ++ rest) ≡ Ok (asked, rest) = argument_again asked rest fits.0 fits.1 in
       let read : Own (by_arguments request n (arguments_at n (text ++ rest))) =
       subst (λ (r : Result (Argument × List ℕ) Refusal). Own (by_arguments request n r)) (sym whole) read_own in
-      subst (λ (r : Result (ℕ × List ℕ) Refusal). Own (by_number request r)) (sym at_front)
+      subst (λ (r : Result (ℕ × List ℕ) Refusal). Own (by_number request r)) (sym at_prefix)
       (tested (by_arguments request n (arguments_at n (text ++ rest))) read)

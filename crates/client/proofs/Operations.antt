@@ -15,7 +15,7 @@ use Rattle.client.specs.Rests.{sequence_number, number_asked}
 use Rattle.client.specs.Views.{session_of}
 
 abbrev pub text_of : Argument → List ℕ
-text_of a = argument.spelling (argument_view a)
+text_of a = argument.encoding (argument_view a)
 
 pub each_text : (list : List Argument) → flat_map text_of list ≡ operations_text (map argument_view list)
 unfolding operations_text
@@ -35,7 +35,7 @@ alone_text xid credential tag list =
     ap (λ (n : ℕ). head_text xid credential tag n ++ operations_text (map argument_view list)) (sym (count list))
 
 pub behind_text : (xid : ℕ) (credential tag : List ℕ) (session : Session) (list : List Argument)
-    → head_text xid credential tag (length list + 1) ++ (argument.spelling (sequence_of (session_of session)) ++ operations_text (map argument_view list))
+    → head_text xid credential tag (length list + 1) ++ (argument.encoding (sequence_of (session_of session)) ++ operations_text (map argument_view list))
     ≡ call_text xid credential tag (sequence_of (session_of session) ∷ map argument_view list)
 unfolding call_text operations_text
 behind_text xid credential tag session list =

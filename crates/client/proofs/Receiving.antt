@@ -5,7 +5,7 @@ use lib.Seq.{take-add, take-append-le, take-append-add}
 use Rattle.std.specs.Int.{w32, from_be_bytes, to_be_bytes}
 use Rattle.std.specs.Io.KnownBytes.{Consumes}
 use Rattle.std.proofs.KnownBytes.{Consumes-nil, Consumes-trans}
-use Rattle.model.specs.Wire.Record.{RecordTooBig, TooManyFragments, Gathered, Partial, Whole, front, front_from, framed}
+use Rattle.model.specs.Wire.Record.{RecordTooBig, TooManyFragments, Gathered, Partial, Whole, prefix, prefix_from, framed}
 use Rattle.rpc.specs.declared.fragment.Place.{Place}
 use Rattle.rpc.specs.declared.fragment.Fragment.TheVariants as found
 use Rattle.rpc.specs.Assembly.{record_limits, Finds}
@@ -26,7 +26,7 @@ no_header old new size count room h = record {
   read = h.read;
   reads = h.reads;
   is = λ gathered size_is fragments_is. fragments.waits gathered h.read h.is;
-  front = refl;
+  prefix = refl;
   long = refl;
 }
 
@@ -42,7 +42,7 @@ too_big old new size count header room h above =
       reads = h.reads;
       is = λ gathered size_is fragments_is.
           (omega arith, (RecordTooBig, fragments.refuses_size gathered h.read header (omega arith) (alone h.read header four h.is.1) (omega arith)));
-      front = refl;
+      prefix = refl;
       long = refl;
     }
 
@@ -55,7 +55,7 @@ too_many old new size count header room h small many =
       reads = h.reads;
       is = λ gathered size_is fragments_is.
           (omega arith, (TooManyFragments, fragments.refuses_number gathered h.read header (omega arith) (alone h.read header four h.is.1) (omega arith) (omega arith)));
-      front = refl;
+      prefix = refl;
       long = refl;
     }
 
@@ -71,7 +71,7 @@ cut_short old mid new size count header before room body h reads small few short
       reads = Consumes-trans old mid new h.read body h.reads reads;
       is = λ gathered size_is fragments_is.
           fragments.waits_body gathered (h.read ++ body) header (omega arith) (header_is h.read body header four h.is.1) (omega arith) (omega arith) (omega arith);
-      front = stays;
+      prefix = stays;
       long = long;
     }
 
@@ -98,7 +98,7 @@ is_whole old mid new size count header is_last before room body h reads small fe
                   (omega arith) (omega arith) (omega arith) last_is,
             ),
       );
-      front = stays;
+      prefix = stays;
       long = long;
     }
 
@@ -124,7 +124,7 @@ begins known room long = record {
   read = [];
   reads = Consumes-nil known;
   fuel = 0;
-  walks = λ rest. record { on = ap (λ (n : ℕ). front_from record_limits n (gathered_in room 0 0) rest) (omega arith); enough = omega arith; size = refl; fragments = refl };
+  walks = λ rest. record { on = ap (λ (n : ℕ). prefix_from record_limits n (gathered_in room 0 0) rest) (omega arith); enough = omega arith; size = refl; fragments = refl };
   small = omega arith;
   few = omega arith;
   long = long;
@@ -154,13 +154,13 @@ refused old now new size fragments room after g f =
     }
 
 -- the beginning of the room, after the place of a header
-front_of : (size : ℕ) (room : List ℕ) → take size (drop 4 room) ≡ drop 4 (take (4 + size) room)
-front_of size room = sym (drop-take 4 size room)
+prefix_of : (size : ℕ) (room : List ℕ) → take size (drop 4 room) ≡ drop 4 (take (4 + size) room)
+prefix_of size room = sym (drop-take 4 size room)
 
 joins : (size more : ℕ) (room after part : List ℕ) → take (4 + size) after ≡ take (4 + size) room → part ≡ take more (drop (4 + size) after)
     → take size (drop 4 room) ++ part ≡ take (size + more) (drop 4 after)
-joins size more room after part front is =
-    ap (λ (bytes : List ℕ). bytes ++ part) (front_of size room ∙ ap (drop 4) (sym front) ∙ sym (front_of size after))
+joins size more room after part prefix is =
+    ap (λ (bytes : List ℕ). bytes ++ part) (prefix_of size room ∙ ap (drop 4) (sym prefix) ∙ sym (prefix_of size after))
     ∙ ap (λ (bytes : List ℕ). take size (drop 4 after) ++ bytes) (is ∙ ap (λ (n : ℕ). take more (drop n after)) (omega arith) ∙ ap (take more) (sym (drop-drop size 4 after)))
     ∙ sym (take-add size more (drop 4 after))
 
@@ -190,7 +190,7 @@ finished old now new size fragments more room after g f =
         omega arith,
         last more w whole
             ∙ ap (λ (rest : List ℕ). Whole (take size (drop 4 room) ++ part_of more f.read) rest) none
-            ∙ ap (λ (bytes : List ℕ). Whole bytes []) (joins size more room after (part_of more f.read) f.front (part ∙ is.1)),
+            ∙ ap (λ (bytes : List ℕ). Whole bytes []) (joins size more room after (part_of more f.read) f.prefix (part ∙ is.1)),
       );
       long = f.long ∙ g.long;
     }
@@ -214,7 +214,7 @@ goes_on old now new size fragments more room after g f =
           let w = next (place_of (size + more) (fragments + 1)) more (g.walks (f.read ++ rest)) (is.2 rest) refl refl in
           let part = part_is f.read rest more long in
           let bytes_is : here.bytes ++ part_of more (f.read ++ rest) ≡ take (size + more) (drop 4 after) =
-          joins size more room after (part_of more (f.read ++ rest)) f.front (part ∙ is.1) in
+          joins size more room after (part_of more (f.read ++ rest)) f.prefix (part ∙ is.1) in
           let fuel_is : g.fuel + length (f.read ++ rest) - 1 ≡ (g.fuel + length f.read - 1) + length rest = omega (arith, length-append f.read rest) in
           let a = subst (λ (bytes : List ℕ). Walks (g.read ++ (f.read ++ rest)) (record { bytes = bytes; fragments = fragments + 1 }) (g.fuel + length (f.read ++ rest) - 1) (behind_part more (f.read ++ rest)) (place_of (size + more) (fragments + 1))) bytes_is w in
           let b = subst (λ (n : ℕ). Walks (g.read ++ (f.read ++ rest)) (gathered_in after (size + more) (fragments + 1)) n (behind_part more (f.read ++ rest)) (place_of (size + more) (fragments + 1))) fuel_is a in
@@ -238,8 +238,8 @@ bounds old now new size fragments more is_last room after g f =
     let before = first.size in
     record { small = omega arith; few = seen.2 }
 
-pub none_yet : front record_limits [] ≡ Partial
-unfolding front_from
+pub none_yet : prefix record_limits [] ≡ Partial
+unfolding prefix_from
 none_yet = refl
 
 -- The header that is before the record in the end

@@ -17,7 +17,7 @@ use Rattle.model.specs.Sessions.Session.{Begun, Session, begin, begin_by, begin_
 use Rattle.model.specs.Wire.Record.{framed}
 use Rattle.model.specs.Server.Served.{looks_no_further}
 use Rattle.model.specs.Wire.Rpc.{Success, reply_text, is_empty}
-use Rattle.model.specs.Wire.WireArguments.{argument, argument_told, arguments_at}
+use Rattle.model.specs.Wire.WireArguments.{argument, encoded_argument, arguments_at}
 use Rattle.wire.proofs.ExactArguments.{argument_again}
 use Rattle.client.specs.Joined.{compound_sent}
 use Rattle.client.specs.Requests.{operations_text}
@@ -45,12 +45,12 @@ module _ (world : World) (xid : ℕ) (cred : Cred) (tag : List ℕ) (sequence : 
   reads_sequence : (others : List Argument) → argument.Fits asked → next_operation (begins others) ≡ Reads asked (operations_text others)
   unfolding next_operation arguments_at operations_text
   reads_sequence others fits =
-      let spelled : List ℕ = (argument_told asked).text in
+      let encoded : List ℕ = (encoded_argument asked).text in
       let rest : List ℕ = operations_text others in
-      let at_front : number_at w32 (begins others).rest ≡ Ok (53, spelled ++ rest) =
-      ap (number_at w32) (append_assoc (number w32 53) spelled rest) ∙ int_again 53 (spelled ++ rest) fits.0 in
-      let whole : arguments_at 53 (spelled ++ rest) ≡ Ok (asked, rest) = argument_again asked rest fits.0 fits.1 in
-      ap (by_number (begins others)) at_front
+      let at_prefix : number_at w32 (begins others).rest ≡ Ok (53, encoded ++ rest) =
+      ap (number_at w32) (append_assoc (number w32 53) encoded rest) ∙ int_again 53 (encoded ++ rest) fits.0 in
+      let whole : arguments_at 53 (encoded ++ rest) ≡ Ok (asked, rest) = argument_again asked rest fits.0 fits.1 in
+      ap (by_number (begins others)) at_prefix
       ∙ (ap (λ (r : Result (Argument × List ℕ) Refusal). first_or (first_tests (suc (length others)) 53) (by_arguments (begins others) 53 r)) whole
       ∙ read_first others)
 

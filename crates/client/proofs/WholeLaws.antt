@@ -128,7 +128,7 @@ module _ (xid : ℕ) (tag : List ℕ) where
             tag_is = on.tag_is;
             count = on.count;
             rest = on.rest;
-            results = record { answered = on.results.answered; spelled = on.results.spelled };
+            results = record { answered = on.results.answered; encoded = on.results.encoded };
           },
         )
 
@@ -197,7 +197,7 @@ module _ (xid : ℕ) (tag : List ℕ) where
                 tag_is = more.tag ∙ on.tag_is;
                 count = omega (arith, more.count, on.count, length-append done (Outcome.Done more.answer ∷ []));
                 rest = behind_is asked (operations_text left) after.rest (next_operation request) own more.rest;
-                results = record { answered = more.answered ∙ results.answered; spelled = more.results ∙ results.spelled };
+                results = record { answered = more.answered ∙ results.answered; encoded = more.results ∙ results.encoded };
               },
             );
             ok = refl;
@@ -227,7 +227,7 @@ module _ (xid : ℕ) (tag : List ℕ) where
             ended = last.ended;
             xid_is = last.xid ∙ on.xid_is;
             tag_is = last.tag ∙ on.tag_is;
-            results = record { answered = last.answered ∙ results.answered; spelled = last.results ∙ results.spelled };
+            results = record { answered = last.answered ∙ results.answered; encoded = last.results ∙ results.encoded };
             ends = none_left_behind last.outcome last.executes last.last;
           }
 
@@ -363,14 +363,14 @@ every_exchange client cred operations xid world number outcomes reply exchange =
     let stands : StandsAt xid client.tag number after [] operations = (
       begun,
       every_record_is_asked world number xid cred client.tag operations exchange.piece can exchange.within exchange.whole,
-      record { xid_is = refl; tag_is = refl; count = omega arith; rest = refl; results = record { answered = refl; spelled = refl } },
+      record { xid_is = refl; tag_is = refl; count = omega arith; rest = refl; results = record { answered = refl; encoded = refl } },
     ) in
     let end = whole xid client.tag number after outcomes reply exchange.answered [] operations can.some exchange.fits stands in
     let message = reply_text end.request.xid (Success (result_of end.request end.last)) in
     let short : length message < 2 ^ 31 = message_short message reply end.says exchange.short in
-    let spelled : compound_result.Fits (code_of end.last, (end.request.tag, outcomes)) =
+    let encoded : compound_result.Fits (code_of end.last, (end.request.tag, outcomes)) =
     (code_small end.last, (omega (arith, ap length end.tag_is, can.tag_short), (omega (arith, end.few, can.counted), exchange.told))) in (
       end.last,
       told client sent message reply outcomes end.last exchange.sent end.says
-          (every_reply_is_told client.tag sent end.request outcomes end.last end.xid_is end.tag_is can.xid_fits end.results end.ends spelled short),
+          (every_reply_is_told client.tag sent end.request outcomes end.last end.xid_is end.tag_is can.xid_fits end.results end.ends encoded short),
     )

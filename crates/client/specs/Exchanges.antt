@@ -1,7 +1,7 @@
 -- The outcome of a client's record that is sent over a stream, and what the client knows then.
 use Rattle.std.specs.Prelude.{◌≡◌, ◌⊎◌, ℕ, List, [], map, Option, None, Some, Result, Ok, Err}
 use Rattle.std.specs.Global.{Vec}
-use Rattle.model.specs.Wire.Record.{Front, Partial, Refused, Whole, front, framed}
+use Rattle.model.specs.Wire.Record.{Prefix, Partial, Refused, Whole, prefix, framed}
 use Rattle.rpc.specs.Assembly.{record_limits}
 use Rattle.wire.specs.declared.outcome.Outcome.{Outcome}
 use Rattle.wire.specs.OutcomeView.{outcome_view}
@@ -14,14 +14,14 @@ use Rattle.client.specs.Views.{AnswersOk, Refuses, known}
 use Rattle.client.specs.Streams.{Stream, Passes}
 
 -- what the bytes read are as a reply to the client's record
-abbrev pub reply_in : Client → Front → ReplyRead
+abbrev pub reply_in : Client → Prefix → ReplyRead
 reply_in client Partial = NoReply
 reply_in client (Refused fault) = NoReply
 reply_in client (Whole bytes rest) = reply_to client (framed bytes)
 
 -- The result for the bytes read: Io while they are no whole record, Garbled if a header is refused,
 -- and otherwise what `reply` returns for the record, after which nothing is read.
-abbrev pub Tells : Client → Front → Result (Vec Outcome) ClientFault → Type 0
+abbrev pub Tells : Client → Prefix → Result (Vec Outcome) ClientFault → Type 0
 Tells client Partial r = r ≡ Err faults.Io
 Tells client (Refused fault) r = r ≡ Err faults.Garbled
 Tells client (Whole bytes rest) (Ok results) =
@@ -34,8 +34,8 @@ pub record Exchanges (client new : Client) (bytes : List ℕ) (before after : St
     (result : Result (Vec Outcome) ClientFault) : Type 0 where
   pub read : List ℕ
   pub passes : Passes bytes before after read
-  pub tells : Tells client (front record_limits read) result
-  pub knows : new ≡ known client (reply_in client (front record_limits read)) result
+  pub tells : Tells client (prefix record_limits read) result
+  pub knows : new ≡ known client (reply_in client (prefix record_limits read)) result
 
 -- the call fails, with nothing written, nothing read and nothing changed
 pub record Stays (fault : ClientFault) (client new : Client) (before after : Stream)

@@ -7,7 +7,7 @@ use Rattle.model_tree.specs.declared.status.Status.{Status}
 use Rattle.model.specs.Operations.Answer.{Outcome}
 use Rattle.model_tree.specs.Trees.Keyed.{at}
 use Rattle.model.specs.Operations.Operation.{Argument}
-use Rattle.model.specs.Wire.Record.{Partial, front, framed}
+use Rattle.model.specs.Wire.Record.{Partial, prefix, framed}
 use Rattle.model.specs.Wire.Results.{compound_result, AreResults}
 use Rattle.model.specs.Wire.Rpc.{Compound, Success, reply_text}
 use Rattle.model.specs.Server.RuledOut.{request_at}
@@ -56,7 +56,7 @@ abbrev pub EveryPieceWaits : Type 0
 EveryPieceWaits =
     (world : World) (number : ℕ) (so_far piece : List ℕ)
     → at number world.connections ≡ Some (Quiet so_far)
-    → front world.limits.records (so_far ++ piece) ≡ Partial
+    → prefix world.limits.records (so_far ++ piece) ≡ Partial
     → at number (arrives world number piece).connections ≡ Some (Quiet (so_far ++ piece))
 
 -- once the record is whole, the request that goes on is this caller's, with these operations

@@ -13,14 +13,14 @@ use Rattle.model.specs.Operations.OperationNumber.{OP_SEQUENCE}
 use Rattle.model.specs.Wire.Results.{compound_result}
 use Rattle.model.specs.Wire.Rpc.{Reply, Success, is_empty}
 use Rattle.model.specs.Wire.RpcGrammar.{read_reply}
-use Rattle.model.specs.Wire.WireAnswers.{outcome_told}
+use Rattle.model.specs.Wire.WireAnswers.{encoded_outcome}
 use Rattle.client.specs.Client.{Client, Session, Sent}
 
 -- The results of the operations of a record
 
 -- its operation's number
 abbrev pub outcome_number : Outcome → ℕ
-outcome_number one = (outcome_told one).number
+outcome_number one = (encoded_outcome one).number
 
 abbrev pub status_of : Outcome → Status
 status_of (Done answer) = status.Ok

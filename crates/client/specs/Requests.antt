@@ -26,7 +26,7 @@ credential_of cred = record {
 }
 
 abbrev pub credential_text : Cred → List ℕ
-credential_text cred = system_credential.spelling (credential_of cred)
+credential_text cred = system_credential.encoding (credential_of cred)
 
 -- the procedure COMPOUND, 1, of NFS, 100003, version 4; the credential is AUTH_SYS, 1, and the
 -- verifier AUTH_NONE, 0
@@ -44,10 +44,10 @@ compound_call xid credential =
 -- up to the operations, of which there are `count`
 unfoldable pub head_text : (xid : ℕ) → (credential tag : List ℕ) → (count : ℕ) → List ℕ
 head_text xid credential tag count =
-    call_head.spelling (compound_call xid credential) ++ compound_head.spelling (tag, (1, count))
+    call_head.encoding (compound_call xid credential) ++ compound_head.encoding (tag, (1, count))
 
 unfoldable pub operations_text : List Argument → List ℕ
-operations_text operations = flat_map argument.spelling operations
+operations_text operations = flat_map argument.encoding operations
 
 unfoldable pub call_text : (xid : ℕ) → (credential tag : List ℕ) → List Argument → List ℕ
 call_text xid credential tag operations =

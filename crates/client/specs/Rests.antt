@@ -18,7 +18,7 @@ ids_text cred =
 
 -- the credential and the verifier of a call
 abbrev pub auths_text : (credential : List ℕ) → List ℕ
-auths_text credential = opaque_auth.spelling (1, credential) ++ opaque_auth.spelling (0, [])
+auths_text credential = opaque_auth.encoding (1, credential) ++ opaque_auth.encoding (0, [])
 
 -- after the version of RPC
 abbrev pub procedure_text : (credential : List ℕ) → List ℕ

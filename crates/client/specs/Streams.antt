@@ -3,7 +3,7 @@ use Rattle.std.specs.Prelude.{⊤, ◌≡◌, ◌⊎◌, ℕ, ◌+◌, ◌<◌, 
 use Rattle.std.specs.Int.{w32, from_be_bytes}
 use Rattle.std.specs.Io.KnownBytes.{Appends, Consumes}
 use Rattle.model.specs.Wire.Record as spec
-use Rattle.model.specs.Wire.Record.{Gathered, Front, Partial, Refused, Whole, front, fragment, framed}
+use Rattle.model.specs.Wire.Record.{Gathered, Prefix, Partial, Refused, Whole, prefix, fragment, framed}
 use Rattle.rpc.specs.Assembly.{record_limits, Finds}
 use Rattle.rpc.specs.declared.fragment.Fragment.TheVariants as found
 use Rattle.rpc.specs.declared.fragment.TheConstants.{MAX_RECORD_BYTES}
@@ -60,16 +60,16 @@ pub record Fetches (old new : Option (List ℕ)) (size fragments : ℕ) (before 
   pub reads : Consumes old new read
   pub is : (gathered : Gathered) → length gathered.bytes ≡ size → gathered.fragments ≡ fragments
       → IsFetched size read room gathered fetched
-  pub front : take (4 + size) room ≡ take (4 + size) before
+  pub prefix : take (4 + size) room ≡ take (4 + size) before
   pub long : length room ≡ length before
 
 -- what the bytes read are: the whole record is in the room after the place of its header
 abbrev pub IsReceived : (read room : List ℕ) → Received → Type 0
-IsReceived read room received.Ended = front record_limits read ≡ Partial
+IsReceived read room received.Ended = prefix record_limits read ≡ Partial
 IsReceived read room received.Refused =
-    (fault : spec.RecordFault) × (front record_limits read ≡ Refused fault)
+    (fault : spec.RecordFault) × (prefix record_limits read ≡ Refused fault)
 IsReceived read room (received.Whole size) =
-    (size ≤ MAX_RECORD_BYTES) × (front record_limits read ≡ Whole (take size (drop 4 room)) [])
+    (size ≤ MAX_RECORD_BYTES) × (prefix record_limits read ≡ Whole (take size (drop 4 room)) [])
 
 pub record Receives (old new : Option (List ℕ)) (room : List ℕ) (came : Received) : Type 0 where
   pub read : List ℕ
@@ -88,7 +88,7 @@ pub record Passes (bytes : List ℕ) (before after : Stream) (read : List ℕ) :
 
 -- what came is one whole record, returned with a header for one fragment; Io if it is none yet,
 -- Garbled if it is too long
-abbrev pub Comes : Front → (received : List ℕ) → Result ⊤ ClientFault → Type 0
+abbrev pub Comes : Prefix → (received : List ℕ) → Result ⊤ ClientFault → Type 0
 Comes Partial received r = r ≡ Err faults.Io
 Comes (Refused fault) received r = r ≡ Err faults.Garbled
 Comes (Whole bytes rest) received r = (r ≡ Ok tt) × (rest ≡ []) × (received ≡ framed bytes)
@@ -97,7 +97,7 @@ pub record Talks (bytes : List ℕ) (before after : Stream) (received : List ℕ
     (result : Result ⊤ ClientFault) : Type 0 where
   pub read : List ℕ
   pub passes : Passes bytes before after read
-  pub comes : Comes (front record_limits read) received result
+  pub comes : Comes (prefix record_limits read) received result
 
 -- Memory if there is none for the reply, and then nothing is written or read
 abbrev pub Converses : (bytes : List ℕ) → (before after : Stream) → (received : List ℕ)

@@ -97,7 +97,7 @@ pub(crate) fn write_head(
 #[tactic(auto, using(xdr::proofs::Writing::wrote_on, xdr::proofs::Writing::wrote_exit, xdr::proofs::Writing::wrote_end))]
 fn write_call(w: &mut Writer, xid: u32, credential: &[u8]) -> Result<(), Refusal>
     requires { length credential.now ≤ MAX_AUTH_BYTES }
-    ensures { Wrote w.old w.new result (call_head.spelling (compound_call xid credential.now)) }
+    ensures { Wrote w.old w.new result (call_head.encoding (compound_call xid credential.now)) }
 {
     w.write_u32(xid)?;
     w.write_u32(CALL)?;
@@ -128,7 +128,7 @@ fn write_auths(w: &mut Writer, credential: &[u8]) -> Result<(), Refusal>
 #[tactic(auto, using(xdr::proofs::Writing::wrote_on, xdr::proofs::Writing::wrote_exit, xdr::proofs::Writing::wrote_end))]
 fn write_auth(w: &mut Writer, flavour: u32, body: &[u8]) -> Result<(), Refusal>
     requires { length body.now ≤ MAX_AUTH_BYTES }
-    ensures { Wrote w.old w.new result (opaque_auth.spelling (flavour, body.now)) }
+    ensures { Wrote w.old w.new result (opaque_auth.encoding (flavour, body.now)) }
 {
     w.write_u32(flavour)?;
     w.write_opaque(body)?;
@@ -138,7 +138,7 @@ fn write_auth(w: &mut Writer, flavour: u32, body: &[u8]) -> Result<(), Refusal>
 #[tactic(auto, using(xdr::proofs::Writing::wrote_on, xdr::proofs::Writing::wrote_exit, xdr::proofs::Writing::wrote_end))]
 fn write_compound(w: &mut Writer, tag: &[u8], count: u32) -> Result<(), Refusal>
     requires { length tag.now ≤ MAX_TAG_BYTES }
-    ensures { Wrote w.old w.new result (compound_head.spelling (tag.now, (1, count))) }
+    ensures { Wrote w.old w.new result (compound_head.encoding (tag.now, (1, count))) }
 {
     w.write_opaque(tag)?;
     w.write_u32(MINOR_VERSION)?;

@@ -124,7 +124,7 @@ fn write_call(
 }
 
 fn write_sequence(w: &mut Writer, session: Session) -> Result<(), Refusal>
-    ensures { Wrote w.old w.new result (argument.spelling (sequence_of (session_of session))) }
+    ensures { Wrote w.old w.new result (argument.encoding (sequence_of (session_of session))) }
 {
     let id = session.id;
     let sequence = Argument::Sequence(SequenceArguments {

@@ -16,7 +16,7 @@ use Rattle.compound.specs.Runs.{with_rest}
 use Rattle.compound.specs.States.{SharedState, HasState, Agrees, most_reply_bytes}
 use Rattle.compound.specs.Steps.{RequestSteps, stepped_on}
 use Rattle.compound.specs.Views.{Asked, asked_of, in_progress_of}
-use Rattle.compound.specs.Volumes.{TurnGives, kept_of_world, lasts, undone_step_ending}
+use Rattle.compound.specs.Volumes.{TurnGives, kept_of_world, lasts, failed_step_ending}
 use Rattle.compound.specs.Engines.{StepsTo, Steps, files_in, state_in}
 use Rattle.compound.specs.declared.engine.Engine.{Engine}
 use Rattle.compound.specs.declared.running.Running.{Running}
@@ -101,10 +101,10 @@ agreed keeps_word now old new asked request done before after keeps agree steps 
 
 pub agreed_if : (keeps_word : Type 0) (now : ℕ) (old new : SharedState) (asked : Asked) (request : InProgress) (result : Result Stepped StepError) (before after : ℕ) → keeps_word
     → Agrees old.files old.table → IfOk result (RequestSteps now old new asked request)
-    → FsChanges keeps_word (TurnGives old (λ world number. stepped_on world number now request)) old.files new.files before after (undone_step_ending result)
+    → FsChanges keeps_word (TurnGives old (λ world number. stepped_on world number now request)) old.files new.files before after (failed_step_ending result)
     → IfOk result (λ done. Agrees new.files new.table)
 agreed_if keeps_word now old new asked request (Ok done) before after keeps agree steps changes = agreed keeps_word now old new asked request done before after keeps agree steps changes
-agreed_if keeps_word now old new asked request (Err undone) before after keeps agree steps changes = tt
+agreed_if keeps_word now old new asked request (Err failed) before after keeps agree steps changes = tt
 
 pub steps_agree : {D : Type 0} {g : Ghosts D} (old new : Engine D g) (running : Running) (result : Result Stepped StepError) → (g.keeps_word → Agrees (files_in old) (state_in old).table)
     → StepsTo old new running result → Steps old new running result

@@ -9,16 +9,16 @@ use Rattle.xdr.proofs.Steps.{IsBytes-behind, IsBytes-drop}
 use Rattle.model_tree.specs.declared.status.Status.TheVariants as status
 use Rattle.model.specs.Operations.Operation.{Argument, operation_of}
 use Rattle.model.specs.Wire.Rpc.{is_empty}
-use Rattle.model.specs.Wire.WireArguments.{argument_told, arguments_at}
+use Rattle.model.specs.Wire.WireArguments.{encoded_argument, arguments_at}
 use Rattle.model.specs.Server.Served.{is_served, looks_no_further}
 use Rattle.model.specs.Server.World.{InProgress, Next, Refuses, Reads, next_operation, is_last, is_no_operation, is_sequence, stands_alone, op_illegal, first_tests, later_tests, first_or, by_arguments, by_number, tests_of}
 use Rattle.wire.proofs.ExactArguments.{argument_takes}
-use Rattle.compound.specs.Ahead.{number_of_next, number_told, ahead_by, ahead_of}
+use Rattle.compound.specs.Ahead.{number_of_next, number_of_read, ahead_by, ahead_of}
 use Rattle.compound.specs.Views.{Asked, resumed}
 use Rattle.compound.specs.declared.ahead.Ahead.TheVariants as ahead
 use Rattle.compound.specs.declared.progress.Progress.{Progress}
 
-number_is : (a : Argument) → (argument_told a).number ≡ operation_of a
+number_is : (a : Argument) → (encoded_argument a).number ≡ operation_of a
 number_is (Argument.Access rights) = refl
 number_is a = refl
 
@@ -76,23 +76,23 @@ module _ (request : InProgress) (n : ℕ) where
       (λ test. known some) (λ test. of read.0 read.1 refl ∙ known some)
 
 module _ (request : InProgress) (are : IsBytes request.rest) where
-  number_says : (given : Result (ℕ × List ℕ) Refusal) → number_at w32 request.rest ≡ given → number_of_next (by_number request given) ≡ number_told given
+  number_says : (given : Result (ℕ × List ℕ) Refusal) → number_at w32 request.rest ≡ given → number_of_next (by_number request given) ≡ number_of_read given
   number_says (Err fault) is = refl
   number_says (Ok read) is =
       tests_say request read.0 (by_arguments request read.0 (arguments_at read.0 read.1))
       (arguments_say request read.0 (arguments_at read.0 read.1) (λ a after given. read_number request.rest read.1 after read.0 a are is given))
 
-  pub next_says : number_of_next (next_operation request) ≡ number_told (number_at w32 request.rest)
+  pub next_says : number_of_next (next_operation request) ≡ number_of_read (number_at w32 request.rest)
   unfolding next_operation
   next_says = number_says (number_at w32 request.rest) refl
 
 -- what is known of a COMPOUND of these operations, of which one comes next
 pub told_ahead : (asked : Asked) (progress : Progress) (operations : List ℕ) → IsBytes operations → asked.compound.operations ≡ operations → progress.ended ≡ None
-    → (n : ℕ) → n ≡ number_told (number_at w32 (drop progress.position operations)) → ahead.Operation n ≡ ahead_of (resumed asked progress)
+    → (n : ℕ) → n ≡ number_of_read (number_at w32 (drop progress.position operations)) → ahead.Operation n ≡ ahead_of (resumed asked progress)
 told_ahead asked progress operations are is none n told =
     let own : IsBytes asked.compound.operations = subst IsBytes (sym is) are in
-    let here : n ≡ number_told (number_at w32 (drop progress.position asked.compound.operations)) =
-    told ∙ ap (λ (bytes : List ℕ). number_told (number_at w32 (drop progress.position bytes))) (sym is) in
+    let here : n ≡ number_of_read (number_at w32 (drop progress.position asked.compound.operations)) =
+    told ∙ ap (λ (bytes : List ℕ). number_of_read (number_at w32 (drop progress.position bytes))) (sym is) in
     let next : n ≡ number_of_next (next_operation (resumed asked progress)) =
     here ∙ sym (next_says (resumed asked progress) (IsBytes-drop progress.position asked.compound.operations own)) in
     ap (λ (m : ℕ). ahead.Operation m) next ∙ ap (ahead_by (number_of_next (next_operation (resumed asked progress)))) (sym none)

@@ -26,7 +26,7 @@ use Rattle.wire.specs.Short.{IsRefusal}
 use Rattle.compound.specs.Operates.{RunsTo, GivesIn, HasResult, ChangesTreeAndOpens, run_in_room, tree_by}
 use Rattle.compound.specs.Runs.{with_rest}
 use Rattle.compound.specs.States.{HasState, shared}
-use Rattle.compound.specs.Trees.{IsHere, IsUp, refusal, fault_told}
+use Rattle.compound.specs.Trees.{IsHere, IsUp, refusal, fault_result}
 use Rattle.compound.specs.Volumes.{OperationGives, ending}
 use Rattle.compound.proofs.QuietLaws.{leaves_all, left_all}
 use Rattle.compound.proofs.Replies.{room_length}
@@ -170,7 +170,7 @@ module _ (now : ℕ) (fs : FileSystem) (request : InProgress) (kind : Argument)
     module _ (keeps_word : Type 0) (given : Given) (new : FileSystem) (before after : ℕ) (up : fs.volume.is_down ≡ false) where
       pub told_gives : (T : Type 0) (opens left : Opens) (why : FsFault) → left ≡ opens → ((state : State) → IsHere fs request state → state.opens ≡ opens → IsNotDone fs state now kind why) → (IsErrOf {T = T} (Err why) fault.NoRoom → room ≡ false)
           → FsChanges keeps_word given fs new before after (fs_ending {T = T} (Err why))
-          → IfOk (fault_told (operation_of kind) why) (ChangesTreeAndOpens fs new opens left now request kind)
+          → IfOk (fault_result (operation_of kind) why) (ChangesTreeAndOpens fs new opens left now request kind)
       told_gives T opens left (fault.Status reason) stays step no_room changes = λ table.
           let same = left_all keeps_word given fs new before after changes in
           subst (λ (after : Opens). GivesIn now (shared fs table opens) (shared new table after) request request kind (Refused (operation_of kind) reason)) (sym stays)
@@ -188,7 +188,7 @@ module _ (now : ℕ) (fs : FileSystem) (request : InProgress) (kind : Argument)
       pub told_changes : (T : Type 0) (table : Table) (opens : Opens) (why : FsFault) → ((state : State) → IsHere fs request state → state.opens ≡ opens → IsNotDone fs state now kind why) → IsUp why
           → (IsErrOf {T = T} (Err why) fault.NoRoom → room ≡ false) → (IsErrOf {T = T} (Err why) fault.Device → room ≡ true) → (room ≡ true → (kept : Kept) (lasts : Bool) → OperationGives (shared fs table opens) request now kind kept lasts → given kept lasts)
           → FsChanges keeps_word given fs new before after (fs_ending {T = T} (Err why))
-          → FsChanges keeps_word (OperationGives (shared fs table opens) request now kind) fs new before after (ending (fault_told (operation_of kind) why))
+          → FsChanges keeps_word (OperationGives (shared fs table opens) request now kind) fs new before after (ending (fault_result (operation_of kind) why))
       told_changes T table opens (fault.Status reason) step is no_room device_room gives changes =
           let same = left_all keeps_word given fs new before after changes in
           refusal_changes keeps_word fs new table opens before after request now kind (operation_of kind) reason same (changes.volume_changes.none (λ broken. cc)) up
@@ -220,17 +220,17 @@ is_up now fs state kind fault.Down up bad step = gone fs.volume.is_down up step
 
 -- a refusal is encoded, and sends nothing again
 
-refusal_spelled : (request : InProgress) (operation : ℕ) (reason : Status) → operation < 2 ^ 32 → IsRefusal reason → HasResult request (refusal operation reason)
-refusal_spelled request operation reason fits bad = record {
+refusal_encoded : (request : InProgress) (operation : ℕ) (reason : Status) → operation < 2 ^ 32 → IsRefusal reason → HasResult request (refusal operation reason)
+refusal_encoded request operation reason fits bad = record {
   fits = (fits, bad);
   small = omega (arith, refused_length operation reason);
   room = tt;
 }
 
-pub told_spelled : (request : InProgress) (operation : ℕ) (why : FsFault) → operation < 2 ^ 32 → IsUp why
-    → IfOk (fault_told operation why) (HasResult request)
-told_spelled request operation (fault.Status reason) fits is = refusal_spelled request operation reason fits is
-told_spelled request operation fault.NoRoom fits is = refusal_spelled request operation status.RepTooBig fits (λ zero. omega (arith, zero))
-told_spelled request operation fault.Memory fits is = tt
-told_spelled request operation fault.Device fits is = tt
-told_spelled request operation fault.Down fits is = tt
+pub fault_is_encoded : (request : InProgress) (operation : ℕ) (why : FsFault) → operation < 2 ^ 32 → IsUp why
+    → IfOk (fault_result operation why) (HasResult request)
+fault_is_encoded request operation (fault.Status reason) fits is = refusal_encoded request operation reason fits is
+fault_is_encoded request operation fault.NoRoom fits is = refusal_encoded request operation status.RepTooBig fits (λ zero. omega (arith, zero))
+fault_is_encoded request operation fault.Memory fits is = tt
+fault_is_encoded request operation fault.Device fits is = tt
+fault_is_encoded request operation fault.Down fits is = tt

@@ -171,7 +171,7 @@ module _ (fs : FileSystem) (opens : Opens) (request : InProgress) (arguments : C
   closes_bad (Err reason) is = close_bad opens request.context arguments.state reason is
 
 -- its answer is brief
-text_length : (state : StateId) → length (outcome_text (Done (Answer.Close state))) ≡ 12 + length ((fixed_opaque 12).spelling state.other)
+text_length : (state : StateId) → length (outcome_text (Done (Answer.Close state))) ≡ 12 + length ((fixed_opaque 12).encoding state.other)
 unfolding outcome_text
 text_length state = simp (length-append, length-number_32) (omega arith)
 

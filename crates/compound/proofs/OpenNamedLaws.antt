@@ -123,12 +123,12 @@ other_length of serial =
 
 open_length : (of serial seqid : ℕ) (change : ChangeInfo) (was_set : List ℕ)
     → length (outcome_text (Done (opened_answer (stateid_of of serial seqid) change was_set)))
-    ≡ 52 + length (trimmed_bitmap.spelling was_set)
+    ≡ 52 + length (trimmed_bitmap.encoding was_set)
 unfolding outcome_text
 open_length of serial seqid change was_set = simp (length-append, length-number_32, length-number_64) (omega (arith, other_length of serial))
 
 closed_length : (was_set : List ℕ) → length (outcome_text (Done (opened_answer closed_state no_change_info was_set)))
-    ≡ 52 + length (trimmed_bitmap.spelling was_set)
+    ≡ 52 + length (trimmed_bitmap.encoding was_set)
 unfolding outcome_text
 closed_length was_set = simp (length-append, length-number_32, length-number_64) (omega (arith, padded_length zeros))
 

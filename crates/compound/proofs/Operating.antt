@@ -67,7 +67,7 @@ module _ (keeps_word : Type 0) (now : ℕ) (old : SharedState) (before : ℕ) (r
 -- a reply that is sent again is there
 pub operated_kept : (now : ℕ) (old new : SharedState) (request : InProgress) (operation : Argument) (done : Executed) → Operates now old new request operation done → IsReplyKept new.table done
 operated_kept now old new request operation (execution.Gives outcome left) runs = tt
-operated_kept now old new request operation (execution.GivesSpelled kind values) runs = tt
+operated_kept now old new request operation (execution.GivesValues kind values) runs = tt
 operated_kept now old new request operation (execution.Replays slot) runs = (runs.0, ap (λ (s : SharedState). reply_kept slot.session slot.slot s.table) runs.1 ∙ runs.2)
 
 -- With all that a turn works on

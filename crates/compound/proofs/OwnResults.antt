@@ -11,12 +11,12 @@ use Rattle.compound.specs.declared.fault.Fault.{Fault}
 
 pub result_answered : (request : InProgress) (done : Executed) → HasResult request done → IsAnswered request done
 result_answered request (execution.Gives outcome left) has = has
-result_answered request (execution.GivesSpelled kind values) has = has
+result_answered request (execution.GivesValues kind values) has = has
 result_answered request (execution.Replays slot) has = absurd has
 
 pub result_kept : (request : InProgress) (table : Table) (done : Executed) → HasResult request done → IsReplyKept table done
 result_kept request table (execution.Gives outcome left) has = tt
-result_kept request table (execution.GivesSpelled kind values) has = tt
+result_kept request table (execution.GivesValues kind values) has = tt
 result_kept request table (execution.Replays slot) has = absurd has
 
 pub if_answered : (request : InProgress) (result : Result Executed Fault) → IfOk result (HasResult request) → IfOk result (IsAnswered request)

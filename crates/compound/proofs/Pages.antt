@@ -12,14 +12,14 @@ use Rattle.xdr.specs.Forms.{links}
 use Rattle.xdr.specs.Grammar.{number}
 use Rattle.compound.specs.Pages.{chain_of, links_of}
 
-pub links_map : (entries : List ListedEntry) → links entry.spelling (map entry_view entries) ≡ chain_of entries
+pub links_map : (entries : List ListedEntry) → links entry.encoding (map entry_view entries) ≡ chain_of entries
 unfolding links chain_of
 links_map [] = refl
 links_map (first ∷ rest) =
-    ap (λ (t : List ℕ). number w32 1 ++ (entry.spelling (entry_view first) ++ t)) (links_map rest)
-    ∙ ap (λ (t : List ℕ). number w32 1 ++ t) (sym (append_assoc (entry.spelling (entry_view first)) (links_of rest) (number w32 0)))
-    ∙ sym (append_assoc (number w32 1) (entry.spelling (entry_view first) ++ links_of rest) (number w32 0))
-    ∙ ap (λ (t : List ℕ). t ++ number w32 0) (sym (append_assoc (number w32 1) (entry.spelling (entry_view first)) (links_of rest)))
+    ap (λ (t : List ℕ). number w32 1 ++ (entry.encoding (entry_view first) ++ t)) (links_map rest)
+    ∙ ap (λ (t : List ℕ). number w32 1 ++ t) (sym (append_assoc (entry.encoding (entry_view first)) (links_of rest) (number w32 0)))
+    ∙ sym (append_assoc (number w32 1) (entry.encoding (entry_view first) ++ links_of rest) (number w32 0))
+    ∙ ap (λ (t : List ℕ). t ++ number w32 0) (sym (append_assoc (number w32 1) (entry.encoding (entry_view first)) (links_of rest)))
 
 pub entries_fit : (page : Page) → PageFits page → All EntryFits page.entries.items
 entries_fit page fits = All-from_recursion EntryFits page.entries.items fits

@@ -3,7 +3,7 @@ use Rattle.std.proofs.Common.{◌≡◌, ℕ, Bool, true, false, refl, sym, ap, 
 use Rattle.layout.specs.Stands.{Kept}
 use Rattle.volume.specs.Changes.{Given, Ending, Done, Nothing, Broken, EndsAs}
 use Rattle.volume.specs.VolumeState.{VolumeState, IsSameVolume, IsRecent, AddsKept, MakesAtMost}
-use Rattle.volume.specs.Shown.{ShowsAs}
+use Rattle.volume.specs.Alike.{ShowsAs}
 use Rattle.model_tree.specs.Trees.Tree.{Tree}
 use Rattle.fs.specs.Changes.{FsChanges, LetsWait, deferred}
 use Rattle.fs.proofs.ChangeLaws.{none_and, waits_by}
@@ -35,7 +35,7 @@ lets_nothing keeps_word given old new ending same none =
       mode = ap (λ (f : FileSystem). f.defers) same;
       waits_on = λ was. waits ∙ was;
       at_once = λ at. waits;
-      undone = λ undone. waits;
+      failed = λ failed. waits;
       waits = λ keeps done defers kept is. absurd (none keeps done kept is);
     }
 
@@ -52,7 +52,7 @@ leaves_all keeps_word given old new before after same told =
         ends = held;
         brief = λ keeps. no_calls old.volume new.volume held;
       };
-      no_count = λ undone. ap (λ (f : FileSystem). f.changes) same;
+      no_count = λ failed. ap (λ (f : FileSystem). f.changes) same;
       lets_wait = lets_nothing keeps_word given old new Nothing same (λ keeps done. absurd (nothing_done done));
     }
 
@@ -83,7 +83,7 @@ answers_still keeps_word given old new before after same told up stays quiet =
         };
         brief = λ keeps. no_calls old.volume new.volume held;
       };
-      no_count = λ undone. ap (λ (f : FileSystem). f.changes) same;
+      no_count = λ failed. ap (λ (f : FileSystem). f.changes) same;
       lets_wait = lets_nothing keeps_word given old new Done same (λ keeps done kept is. never true (quiet keeps kept true is (stays keeps kept true is)) refl);
     }
   where
@@ -108,7 +108,7 @@ broken≢done is = cc
 pub left_all : (keeps_word : Type 0) (given : Given) (old new : FileSystem) (before after : ℕ) → FsChanges keeps_word given old new before after Nothing → new ≡ old
 left_all keeps_word given old new before after changes =
     ap₂ (λ (held : VolumeState) (count : ℕ). let fs : FileSystem = record new { volume = held; changes = count } in fs) changes.volume_changes.ends (changes.no_count nothing_done)
-    ∙ ap₂ (λ (defers waits : Bool). let fs : FileSystem = record old { defers = defers; waits = waits } in fs) changes.lets_wait.mode (changes.lets_wait.undone nothing_done)
+    ∙ ap₂ (λ (defers waits : Bool). let fs : FileSystem = record old { defers = defers; waits = waits } in fs) changes.lets_wait.mode (changes.lets_wait.failed nothing_done)
 
 -- The definition may be given otherwise if the device keeps its word, as long as its trees are the
 -- same on any device

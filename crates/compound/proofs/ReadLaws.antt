@@ -27,7 +27,7 @@ use Rattle.wire.specs.Short.{IsRefusal}
 use Rattle.compound.specs.Operates.{RunsTo, GivesIn, ChangesTreeAndOpens, run_in_room, tree_by}
 use Rattle.compound.specs.Runs.{with_rest}
 use Rattle.compound.specs.States.{shared}
-use Rattle.compound.specs.Trees.{IsHere, IsUp, fault_told}
+use Rattle.compound.specs.Trees.{IsHere, IsUp, fault_result}
 use Rattle.compound.specs.Volumes.{OperationGives, ending}
 use Rattle.compound.proofs.QuietLaws.{leaves_all, left_all, answers_quietly}
 use Rattle.compound.proofs.Rooms.{gives_refusal, state_same}
@@ -123,7 +123,7 @@ module _ (now : ℕ) (fs : FileSystem) (opens : Opens) (request : InProgress) (a
   module _ (keeps_word : Type 0) (new : FileSystem) (before after : ℕ) where
     pub told_reads : (T : Type 0) (why : FsFault) → Says fs opens request (λ state. IsNotRead fs state now (Argument.Read arguments) why)
         → FsChanges keeps_word (IsTree fs.volume fs.volume.tree) fs new before after (reading_ending {T = T} (Err why))
-        → IfOk (fault_told 25 why) (ChangesTreeAndOpens fs new opens opens now request (Argument.Read arguments))
+        → IfOk (fault_result 25 why) (ChangesTreeAndOpens fs new opens opens now request (Argument.Read arguments))
     told_reads T (fault.Status reason) step changes = λ table.
         subst (λ (one : FileSystem). GivesIn now (shared fs table opens) (shared one table opens) request request (Argument.Read arguments) (Refused 25 reason))
         (sym (left_all keeps_word (IsTree fs.volume fs.volume.tree) fs new before after changes))
@@ -145,7 +145,7 @@ module _ (now : ℕ) (fs : FileSystem) (opens : Opens) (request : InProgress) (a
 
     pub told_changes : (T : Type 0) (table : Table) (why : FsFault) → fs.volume.is_down ≡ false → Says fs opens request (λ state. IsNotRead fs state now (Argument.Read arguments) why)
         → FsChanges keeps_word (IsTree fs.volume fs.volume.tree) fs new before after (reading_ending {T = T} (Err why))
-        → FsChanges keeps_word (OperationGives (shared fs table opens) request now (Argument.Read arguments)) fs new before after (ending (fault_told 25 why))
+        → FsChanges keeps_word (OperationGives (shared fs table opens) request now (Argument.Read arguments)) fs new before after (ending (fault_result 25 why))
     told_changes T table (fault.Status reason) up step changes = read_quietly table up changes
     told_changes T table fault.NoRoom up step changes = read_quietly table up changes
     told_changes T table fault.Memory up step changes = read_nothing table changes

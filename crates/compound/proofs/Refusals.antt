@@ -13,7 +13,7 @@ use Rattle.model.specs.Server.World.{InProgress, Next, Refuses, Reads, next_oper
 use Rattle.model_tree.specs.declared.status.Status.{Status}
 use Rattle.model_tree.specs.declared.status.Status.TheVariants as status
 use Rattle.model.proofs.Sessions.KeptLaws.{refused_length}
-use Rattle.compound.specs.Operates.{IsSpelled}
+use Rattle.compound.specs.Operates.{IsEncoded}
 
 abbrev NotOk : Next → Type 0
 NotOk (Refuses operation reason) = code_of reason ≢ 0
@@ -56,9 +56,9 @@ next_not_ok request = number_not_ok request (number_at w32 request.rest)
 pub refused_not_ok : (request : InProgress) (operation : ℕ) (reason : Status) → next_operation request ≡ Refuses operation reason → code_of reason ≢ 0
 refused_not_ok request operation reason is = subst NotOk is (next_not_ok request)
 
-pub refused_spelled : (request : InProgress) (operation : ℕ) (reason : Status) → next_operation request ≡ Refuses operation reason → operation < 2 ^ 32
-    → IsSpelled request (model.Refused operation reason)
-refused_spelled request operation reason is fits = record {
+pub refused_encoded : (request : InProgress) (operation : ℕ) (reason : Status) → next_operation request ≡ Refuses operation reason → operation < 2 ^ 32
+    → IsEncoded request (model.Refused operation reason)
+refused_encoded request operation reason is fits = record {
   fits = (fits, refused_not_ok request operation reason is);
   small = omega (arith, refused_length operation reason);
   room = tt;

@@ -11,7 +11,7 @@ use Rattle.model.specs.Wire.Rpc.{Success, reply_text, compound_text}
 use Rattle.model.specs.Server.World.{InProgress, outcome_text, reply_with, result_of, status_of}
 use Rattle.model_tree.specs.declared.status.Status.{Status}
 use Rattle.model.proofs.Sessions.KeptLaws.{refused_length}
-use Rattle.compound.specs.Operates.{IsSpelled}
+use Rattle.compound.specs.Operates.{IsEncoded}
 
 pub reply_length : (xid : ℕ) (status : Status) (tag : List ℕ) (count : ℕ) (results more : List ℕ)
     → length (reply_text xid (Success (compound_text status tag count (results ++ more)))) ≡ 32 + length (counted tag) + length results + length more
@@ -46,11 +46,11 @@ pub tag_brief : (tag : List ℕ) → length tag ≤ 255 → length (counted tag)
 tag_brief tag short = omega (arith, counted_length tag)
 
 -- an OK result has room, and any other one exceeds it by a few bytes
-pub spelled_short : (request : InProgress) (outcome : Outcome) → IsSpelled request outcome
+pub encoded_short : (request : InProgress) (outcome : Outcome) → IsEncoded request outcome
     → 32 + length (counted request.tag) + length request.results ≤ 16368
     → 32 + length (counted request.tag) + length request.results + length (outcome_text outcome) ≤ 16380
-spelled_short request (Done answer) spelled brief = omega (arith, spelled.room, room_length request (Done answer))
-spelled_short request (Refused operation reason) spelled brief = omega (arith, brief, refused_length operation reason)
+encoded_short request (Done answer) encode brief = omega (arith, encode.room, room_length request (Done answer))
+encoded_short request (Refused operation reason) encode brief = omega (arith, brief, refused_length operation reason)
 
 -- how many bytes a whole result has
 pub result_length : (request : InProgress) (last : Status)

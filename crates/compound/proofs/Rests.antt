@@ -8,17 +8,17 @@ use Rattle.model.specs.Wire.Rpc.{is_empty}
 use Rattle.model.specs.Server.Served.{looks_no_further}
 use Rattle.model.specs.Server.World.{InProgress, is_last, by_arguments, Reads, Refuses}
 
-pub rest_short : (bytes : List ℕ) (p : ℕ) (front rest : List ℕ) → drop p bytes ≡ front ++ rest → length rest ≤ length bytes
-rest_short bytes p front rest e = omega (arith, ap length e, length-drop p bytes, length-append front rest)
+pub rest_short : (bytes : List ℕ) (p : ℕ) (prefix rest : List ℕ) → drop p bytes ≡ prefix ++ rest → length rest ≤ length bytes
+rest_short bytes p prefix rest e = omega (arith, ap length e, length-drop p bytes, length-append prefix rest)
 
-pub drop_rest : (bytes : List ℕ) (p : ℕ) (front rest : List ℕ) → drop p bytes ≡ front ++ rest → drop (length bytes - length rest) bytes ≡ rest
-drop_rest bytes p front rest e =
-    let whole : bytes ≡ (take p bytes ++ front) ++ rest =
-    sym (take-append-drop p bytes) ∙ ap (λ (tail : List ℕ). take p bytes ++ tail) e ∙ sym (append_assoc (take p bytes) front rest) in
-    let n : length (take p bytes ++ front) ≡ length bytes - length rest =
-    omega (arith, ap length whole, length-append (take p bytes ++ front) rest) in
+pub drop_rest : (bytes : List ℕ) (p : ℕ) (prefix rest : List ℕ) → drop p bytes ≡ prefix ++ rest → drop (length bytes - length rest) bytes ≡ rest
+drop_rest bytes p prefix rest e =
+    let whole : bytes ≡ (take p bytes ++ prefix) ++ rest =
+    sym (take-append-drop p bytes) ∙ ap (λ (tail : List ℕ). take p bytes ++ tail) e ∙ sym (append_assoc (take p bytes) prefix rest) in
+    let n : length (take p bytes ++ prefix) ≡ length bytes - length rest =
+    omega (arith, ap length whole, length-append (take p bytes ++ prefix) rest) in
     subst (λ (all : List ℕ). drop (length bytes - length rest) all ≡ rest) (sym whole)
-    (drop_at (take p bytes ++ front) rest (length bytes - length rest) n)
+    (drop_at (take p bytes ++ prefix) rest (length bytes - length rest) n)
 
 -- arguments that are read, if no extra byte follows them
 pub by_read : (request : InProgress) (operation : ℕ) (given : Result (Argument × List ℕ) Refusal) (read : Argument) (behind rest : List ℕ)

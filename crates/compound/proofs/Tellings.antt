@@ -16,28 +16,28 @@ use Rattle.model.specs.Server.World.{World, InProgress, Entry, Turned, Busy, Rep
 use Rattle.model_tree.specs.declared.status.Status.{Status}
 use Rattle.model_tree.specs.declared.status.Status.TheVariants as status
 use Rattle.wire.specs.OutcomeView.{outcome_view}
-use Rattle.compound.specs.Operates.{HasRoom, HasRoomFor, Spells, spelled_text}
-use Rattle.compound.specs.EncodedResult.{CanBeTold, Tells, is_ok, told_status, told_text, with_last, with_told}
+use Rattle.compound.specs.Operates.{HasRoom, HasRoomFor, EncodesAnswer, encoded_text}
+use Rattle.compound.specs.EncodedResult.{CanBeAdded, Tells, is_ok, status_of_result, text_of_result, with_last, with_encoded}
 use Rattle.compound.specs.Turns.{ResultLeaves}
 use Rattle.compound.specs.Views.{Asked, resumed}
 use Rattle.compound.specs.declared.progress.Progress.{Progress}
 use Rattle.compound.specs.declared.step.Stepped.TheVariants as stepped
 use Rattle.compound.specs.declared.encoded_result.EncodedResult.{EncodedResult}
 use Rattle.compound.specs.declared.encoded_result.EncodedResult.TheVariants as encoded
-use Rattle.compound.proofs.Replies.{room_length, spelled_short, tag_brief}
+use Rattle.compound.proofs.Replies.{room_length, encoded_short, tag_brief}
 use Rattle.compound.proofs.Resuming.{more_follow}
 
 -- its encoding is that of the definition
 
-done_text : (answer : Answer) → spelled_text (answers.answer_told answer).number (answers.answer_told answer).text ≡ outcome_text (Done answer)
+done_text : (answer : Answer) → encoded_text (answers.encoded_answer answer).number (answers.encoded_answer answer).text ≡ outcome_text (Done answer)
 unfolding outcome_text
 done_text answer = refl
 
-spelled_is : (operation : ℕ) (values : List ℕ) (answer : Answer) → Spells operation values answer → spelled_text operation values ≡ outcome_text (Done answer)
-spelled_is operation values answer is = ap₂ spelled_text (sym is.number_is) (sym is.values_are) ∙ done_text answer
+encoded_is : (operation : ℕ) (values : List ℕ) (answer : Answer) → EncodesAnswer operation values answer → encoded_text operation values ≡ outcome_text (Done answer)
+encoded_is operation values answer is = ap₂ encoded_text (sym is.number_is) (sym is.values_are) ∙ done_text answer
 
-spelled_length : (operation : ℕ) (values : List ℕ) → length (spelled_text operation values) ≡ 8 + length values
-spelled_length operation values = omega (
+encoded_length : (operation : ℕ) (values : List ℕ) → length (encoded_text operation values) ≡ 8 + length values
+encoded_length operation values = omega (
   arith,
   length-append (number w32 operation) (number w32 0 ++ values),
   length-append (number w32 0) values,
@@ -46,48 +46,48 @@ spelled_length operation values = omega (
 )
 
 -- how much room it needs
-room_spelled : (request : InProgress) (operation : ℕ) (values : List ℕ) (answer : Answer) → Spells operation values answer
+room_encoded : (request : InProgress) (operation : ℕ) (values : List ℕ) (answer : Answer) → EncodesAnswer operation values answer
     → length (reply_with request (Done answer)) ≡ 32 + length (counted request.tag) + length request.results + (8 + length values)
-room_spelled request operation values answer is =
-    omega (arith, room_length request (Done answer), ap length (spelled_is operation values answer is), spelled_length operation values)
+room_encoded request operation values answer is =
+    omega (arith, room_length request (Done answer), ap length (encoded_is operation values answer is), encoded_length operation values)
 
-pub room_for_spelled : (request : InProgress) (operation : ℕ) (values : List ℕ) (answer : Answer) (size : ℕ) (room : Bool) → Spells operation values answer
+pub room_for_encoded : (request : InProgress) (operation : ℕ) (values : List ℕ) (answer : Answer) (size : ℕ) (room : Bool) → EncodesAnswer operation values answer
     → size ≡ length values → room ≡ nat_le (32 + length (counted request.tag) + length request.results + (8 + size)) 16368
     → room ≡ nat_le (length (reply_with request (Done answer))) 16368
-room_for_spelled request operation values answer size room is same has =
+room_for_encoded request operation values answer size room is same has =
     has ∙ (ap (λ (n : ℕ). nat_le (32 + length (counted request.tag) + length request.results + (8 + n)) 16368) same
-    ∙ ap (λ (n : ℕ). nat_le n 16368) (sym (room_spelled request operation values answer is)))
+    ∙ ap (λ (n : ℕ). nat_le n 16368) (sym (room_encoded request operation values answer is)))
 
 pub has_room_for : (request : InProgress) (operation : ℕ) (values : List ℕ) (size : ℕ) → size ≡ length values
     → nat_le (32 + length (counted request.tag) + length request.results + (8 + size)) 16368 ≡ true
-    → HasRoomFor request (spelled_text operation values)
+    → HasRoomFor request (encoded_text operation values)
 has_room_for request operation values size same has =
-    omega (arith, same, spelled_length operation values, leb-true (32 + length (counted request.tag) + length request.results + (8 + size)) 16368 has)
+    omega (arith, same, encoded_length operation values, leb-true (32 + length (counted request.tag) + length request.results + (8 + size)) 16368 has)
 
 -- the first result has room, if its values are few
 pub first_has_room : (request : InProgress) (operation : ℕ) (values : List ℕ) → length request.tag ≤ 255 → request.results ≡ [] → length values ≤ 4096
-    → HasRoomFor request (spelled_text operation values)
+    → HasRoomFor request (encoded_text operation values)
 first_has_room request operation values short none few =
-    omega (arith, tag_brief request.tag short, ap length none, spelled_length operation values)
+    omega (arith, tag_brief request.tag short, ap length none, encoded_length operation values)
 
-pub first_spelled_room : (request : InProgress) (operation : ℕ) (values : List ℕ) (answer : Answer) → Spells operation values answer → length request.tag ≤ 255 → request.results ≡ []
+pub first_encoded_room : (request : InProgress) (operation : ℕ) (values : List ℕ) (answer : Answer) → EncodesAnswer operation values answer → length request.tag ≤ 255 → request.results ≡ []
     → length values ≤ 4096 → length (reply_with request (Done answer)) ≤ 16368
-first_spelled_room request operation values answer spells short none few =
-    omega (arith, room_spelled request operation values answer spells, tag_brief request.tag short, ap length none)
+first_encoded_room request operation values answer encodes short none few =
+    omega (arith, room_encoded request operation values answer encodes, tag_brief request.tag short, ap length none)
 
-pub text_is : (result : EncodedResult) (outcome : Outcome) → Tells result outcome → told_text result ≡ outcome_text outcome
+pub text_is : (result : EncodedResult) (outcome : Outcome) → Tells result outcome → text_of_result result ≡ outcome_text outcome
 text_is (encoded.Whole whole) outcome is = ap outcome_text (sym is)
-text_is (encoded.Spelled operation values) outcome is = spelled_is (number_of operation) values.now is.0 is.2 ∙ ap outcome_text (sym is.1)
+text_is (encoded.Values operation values) outcome is = encoded_is (number_of operation) values.now is.0 is.2 ∙ ap outcome_text (sym is.1)
 
-pub status_is : (result : EncodedResult) (outcome : Outcome) → Tells result outcome → told_status result ≡ status_of outcome
+pub status_is : (result : EncodedResult) (outcome : Outcome) → Tells result outcome → status_of_result result ≡ status_of outcome
 status_is (encoded.Whole whole) outcome is = ap status_of (sym is)
-status_is (encoded.Spelled operation values) outcome is = ap status_of (sym is.1)
+status_is (encoded.Values operation values) outcome is = ap status_of (sym is.1)
 
 pub ok_is : (result : EncodedResult) (outcome : Outcome) → Tells result outcome → is_ok result ≡ is_done outcome
 ok_is (encoded.Whole whole) outcome is = ap is_done (sym is)
-ok_is (encoded.Spelled operation values) outcome is = ap is_done (sym is.1)
+ok_is (encoded.Values operation values) outcome is = ap is_done (sym is.1)
 
-pub request_is : (request : InProgress) (result : EncodedResult) (outcome : Outcome) → Tells result outcome → with_told request result ≡ with_result request outcome
+pub request_is : (request : InProgress) (result : EncodedResult) (outcome : Outcome) → Tells result outcome → with_encoded request result ≡ with_result request outcome
 request_is request result outcome is =
     ap (λ (text : List ℕ). record request { answered = request.answered + 1; results = request.results ++ text }) (text_is result outcome is)
 
@@ -99,14 +99,14 @@ last_is request result outcome is =
 
 -- How long the reply is
 
-pub told_short : (request : InProgress) (result : EncodedResult) → CanBeTold request result
+pub told_short : (request : InProgress) (result : EncodedResult) → CanBeAdded request result
     → 32 + length (counted request.tag) + length request.results ≤ 16368
-    → 32 + length (counted request.tag) + length request.results + length (told_text result) ≤ 16380
-told_short request (encoded.Whole outcome) can brief = spelled_short request (outcome_view outcome.now) can brief
-told_short request (encoded.Spelled operation values) can brief = omega (arith, can)
+    → 32 + length (counted request.tag) + length request.results + length (text_of_result result) ≤ 16380
+told_short request (encoded.Whole outcome) can brief = encoded_short request (outcome_view outcome.now) can brief
+told_short request (encoded.Values operation values) can brief = omega (arith, can)
 
-pub ok_room : (request : InProgress) (result : EncodedResult) → CanBeTold request result → is_ok result ≡ true
-    → 32 + length (counted request.tag) + length request.results + length (told_text result) ≤ 16368
+pub ok_room : (request : InProgress) (result : EncodedResult) → CanBeAdded request result → is_ok result ≡ true
+    → 32 + length (counted request.tag) + length request.results + length (text_of_result result) ≤ 16368
 ok_room request (encoded.Whole outcome) can ok = by_outcome (outcome_view outcome.now) refl
   where
     by_outcome : (of : Outcome) → outcome_view outcome.now ≡ of → 32 + length (counted request.tag) + length request.results + length (outcome_text (outcome_view outcome.now)) ≤ 16368
@@ -115,7 +115,7 @@ ok_room request (encoded.Whole outcome) can ok = by_outcome (outcome_view outcom
         room : length (reply_with request (outcome_view outcome.now)) ≤ 16368
         room = subst (λ (o : Outcome). length (reply_with request o) ≤ 16368) (sym is) (subst (HasRoom request) is can.room)
     by_outcome (Refused n reason) is = let never : ⊥ = cc in absurd never
-ok_room request (encoded.Spelled operation values) can ok = can
+ok_room request (encoded.Values operation values) can ok = can
 
 -- After an OK result that is not the last one the COMPOUND goes on
 
@@ -125,7 +125,7 @@ goes_on_by table asked request (Done answer) progress done more pushed = more_fo
 goes_on_by table asked request (Refused n reason) progress done more pushed = let never : ⊥ = cc in absurd never
 
 pub goes_on_told : (table : Table) (asked : Asked) (request : InProgress) (result : EncodedResult) (outcome : Outcome) (progress : Progress) → is_ok result ≡ true → is_last request ≡ false
-    → resumed asked progress ≡ with_told request result → Tells result outcome → ResultLeaves table table asked request outcome (stepped.Ran progress)
+    → resumed asked progress ≡ with_encoded request result → Tells result outcome → ResultLeaves table table asked request outcome (stepped.Ran progress)
 goes_on_told table asked request result outcome progress ok more pushed is =
     goes_on_by table asked request outcome progress (sym (ok_is result outcome is) ∙ ok) more (pushed ∙ request_is request result outcome is)
 
@@ -168,13 +168,13 @@ holds_told table asked request result outcome progress last holds pushed is = λ
 -- or the reply is there
 pub ends_told : (old new : Table) (asked : Asked) (request : InProgress) (result : EncodedResult) (outcome : Outcome) (reply : Vec ℕ) → (is_ok result && not (is_last request)) ≡ false
     → is_to_hold request old ≡ false
-    → reply.items ≡ framed (reply_text request.xid (Success (result_of (with_last request result) (told_status result))))
-    → new ≡ kept_by request.slot false (result_of (with_last request result) (told_status result)) old → Tells result outcome
+    → reply.items ≡ framed (reply_text request.xid (Success (result_of (with_last request result) (status_of_result result))))
+    → new ≡ kept_by request.slot false (result_of (with_last request result) (status_of_result result)) old → Tells result outcome
     → ResultLeaves old new asked request outcome (stepped.Answered reply)
 ends_told old new asked request result outcome reply last none reply_is kept is = λ world number executed here.
     let ended = behind_last world number request outcome executed (ap (λ (b : Bool). b && not (is_last request)) (sym (ok_is result outcome is)) ∙ last) in
     let made = closes_unseated world number (with_result request outcome) (status_of outcome) executed (ap (is_to_hold request) here ∙ none) in
-    let text : result_of (with_last request result) (told_status result) ≡ result_of (with_result request outcome) (status_of outcome) =
+    let text : result_of (with_last request result) (status_of_result result) ≡ result_of (with_result request outcome) (status_of outcome) =
     ap₂ result_of (last_is request result outcome is) (status_is result outcome is) in
     let turn = ended ∙ made in (
       ap (λ (t : Turned). t.turn) turn,

@@ -134,11 +134,11 @@ first_bad (test ∷ rest) reason bad is =
     let each = and_parts (is_bad test.1) (all_bad rest) bad in
     first_bad_by test.0 test.1 reason (first_refusal rest) each.0 (first_bad rest reason each.1) is
 
-pub append_bad : (front rest : Refusals) → all_bad front ≡ true → all_bad rest ≡ true → all_bad (front ++ rest) ≡ true
+pub append_bad : (prefix rest : Refusals) → all_bad prefix ≡ true → all_bad rest ≡ true → all_bad (prefix ++ rest) ≡ true
 append_bad [] rest bad others = others
-append_bad (test ∷ front) rest bad others =
-    let each = and_parts (is_bad test.1) (all_bad front) bad in
-    ap (λ (b : Bool). b && all_bad (front ++ rest)) each.0 ∙ append_bad front rest each.1 others
+append_bad (test ∷ prefix) rest bad others =
+    let each = and_parts (is_bad test.1) (all_bad prefix) bad in
+    ap (λ (b : Bool). b && all_bad (prefix ++ rest)) each.0 ∙ append_bad prefix rest each.1 others
 
 each_bad : {X : Type 0} (tests : X → Refusals) → ((x : X) → all_bad (tests x) ≡ true) → (xs : List X) → all_bad (flat_map tests xs) ≡ true
 each_bad tests bad [] = refl

@@ -51,7 +51,7 @@ pub turns_read : (now : ℕ) (old new : SharedState) (request : InProgress) (ope
     → Operates now old new request operation done → TurnsExecuted now old new request rest altered done
 turns_read now old new request operation rest altered (execution.Gives outcome left) going next is ran =
     turns_to now old new request (left_by_effect left request) operation rest altered (outcome_view outcome) going next is ran
-turns_read now old new request operation rest altered (execution.GivesSpelled kind values) going next is ran = (
+turns_read now old new request operation rest altered (execution.GivesValues kind values) going next is ran = (
   ran.0,
   ran.1,
   turns_to now old new request request operation rest altered (model.Done ran.0) going next is ran.2,

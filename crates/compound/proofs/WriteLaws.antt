@@ -78,14 +78,14 @@ write_bad limits state now arguments reason is =
     let kind : Argument = Argument.Write arguments in
     let done = write_done (has_bytes arguments) limits state now arguments in
     let verdict = state_refusals state.opens state.context write_access arguments.state in
-    let front : Refusals = (not (are_bytes arguments.data_bytes), status.BadXdr) ∷ (current_refusals state ++ file_refusals state) in
+    let prefix : Refusals = (not (are_bytes arguments.data_bytes), status.BadXdr) ∷ (current_refusals state ++ file_refusals state) in
     let rights : Refusals =
     (without_rights state (need_first state.tree state.context kind), status.Access)
     ∷ (without_rights state (need_then state.tree state.context kind), status.Access)
     ∷ write_refusals limits arguments in
     does_bad limits state now kind reason (written_answer state.context.run arguments.stable done.0)
-    (append_bad (front ++ verdict) rights
-    (append_bad front verdict refl (verdict_bad write_access state.opens state.context arguments.state))
+    (append_bad (prefix ++ verdict) rights
+    (append_bad prefix verdict refl (verdict_bad write_access state.opens state.context arguments.state))
     refl)
     done.1 is
 

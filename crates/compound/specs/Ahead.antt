@@ -20,6 +20,6 @@ abbrev pub ahead_of : InProgress → Ahead
 ahead_of request = ahead_by (number_of_next (next_operation request)) request.ended
 
 -- the same number, from the word with which its bytes begin
-abbrev pub number_told : Result (ℕ × List ℕ) Refusal → ℕ
-number_told (Err fault) = op_illegal
-number_told (Ok read) = if is_no_operation read.0 then op_illegal else read.0
+abbrev pub number_of_read : Result (ℕ × List ℕ) Refusal → ℕ
+number_of_read (Err fault) = op_illegal
+number_of_read (Ok read) = if is_no_operation read.0 then op_illegal else read.0

@@ -12,7 +12,7 @@ use Rattle.compound.specs.Operates.{Operates, ChangesTableAndOpens, HasResult, I
 use Rattle.compound.specs.States.{Agrees, SharedState, shared_of}
 use Rattle.compound.specs.Steps.{RequestGoesOn, RequestSteps, stepped_on}
 use Rattle.compound.specs.Views.{asked_of, in_progress_of}
-use Rattle.compound.specs.Volumes.{OperationGives, RunGives, TurnGives, ending, undone_step_ending}
+use Rattle.compound.specs.Volumes.{OperationGives, RunGives, TurnGives, ending, failed_step_ending}
 use Rattle.compound.specs.declared.engine.Engine.{Engine}
 use Rattle.compound.specs.declared.executed.Executed.{Executed}
 use Rattle.compound.specs.declared.fault.Fault.{Fault}
@@ -85,12 +85,12 @@ pub record StepsTo {D : Type 0} {g : Ghosts D} (old new : Engine D g) (running :
       (asked_of running) (in_progress_of running))
   pub goes_on : IfOk result (RequestGoesOn (files_in old).volume.run (asked_of running)
       (in_progress_of running))
-  pub back : IfErr result (λ undone. undone.progress ≡ running.progress)
+  pub back : IfErr result (λ failed. failed.progress ≡ running.progress)
   pub table : OnErr result ((state_in new).table ≡ (state_in old).table)
   pub opens : OnErr result ((state_in new).opens ≡ (state_in old).opens)
   pub volume : AltersFs old.fs.now new.fs.now (TurnGives (state_in old)
       (λ world number. stepped_on world number old.moment (in_progress_of running)))
-      (undone_step_ending result)
+      (failed_step_ending result)
 
 -- and of a volume with the seats of the table
 pub record Steps {D : Type 0} {g : Ghosts D} (old new : Engine D g) (running : Running)

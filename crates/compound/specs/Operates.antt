@@ -65,20 +65,20 @@ GivesIn now old new request left operation outcome =
     ≡ turns.Gives outcome (with_state world new) (with_rest left rest)
 
 -- a result's number, the status OK, and these values after it
-abbrev pub spelled_text : (operation : ℕ) → (values : List ℕ) → List ℕ
-spelled_text operation values = number w32 operation ++ (number w32 0 ++ values)
+abbrev pub encoded_text : (operation : ℕ) → (values : List ℕ) → List ℕ
+encoded_text operation values = number w32 operation ++ (number w32 0 ++ values)
 
 -- this answer of the operation is encoded so after its status
-pub record Spells (operation : ℕ) (values : List ℕ) (answer : model.Answer) : Type 0 where
-  pub number_is : (answers.answer_told answer).number ≡ operation
-  pub values_are : (answers.answer_told answer).text ≡ values
+pub record EncodesAnswer (operation : ℕ) (values : List ℕ) (answer : model.Answer) : Type 0 where
+  pub number_is : (answers.encoded_answer answer).number ≡ operation
+  pub values_are : (answers.encoded_answer answer).text ≡ values
 
 abbrev pub Operates : (now : ℕ) → (old new : SharedState) → InProgress → Argument → Executed
     → Type 0
 Operates now old new request operation (execution.Gives outcome left) =
     GivesIn now old new request (left_by_effect left request) operation (outcome_view outcome)
-Operates now old new request operation (execution.GivesSpelled kind values) =
-    (answer : model.Answer) × Spells (number_of kind) values.items answer
+Operates now old new request operation (execution.GivesValues kind values) =
+    (answer : model.Answer) × EncodesAnswer (number_of kind) values.items answer
     × GivesIn now old new request request operation (model.Done answer)
 Operates now old new request operation (execution.Replays slot) =
     (reply : List ℕ) × (new ≡ old) × (reply_kept slot.session slot.slot old.table ≡ Some reply)
@@ -141,16 +141,16 @@ HasRoomFor request text =
     ≤ MAX_REPLY_BYTES
 
 -- a result can be encoded, in few bytes
-pub record IsSpelled (request : InProgress) (outcome : model.Outcome) : Type 0 where
+pub record IsEncoded (request : InProgress) (outcome : model.Outcome) : Type 0 where
   pub fits : answers.outcome.Fits outcome
   pub small : length (outcome_text outcome) < 2 ^ 63
   pub room : HasRoom request outcome
 
 -- an operation that ran has a result of its own, and the reply has room for it
 abbrev pub HasResult : InProgress → Executed → Type 0
-HasResult request (execution.Gives outcome left) = IsSpelled request (outcome_view outcome)
-HasResult request (execution.GivesSpelled kind values) =
-    HasRoomFor request (spelled_text (number_of kind) values.items)
+HasResult request (execution.Gives outcome left) = IsEncoded request (outcome_view outcome)
+HasResult request (execution.GivesValues kind values) =
+    HasRoomFor request (encoded_text (number_of kind) values.items)
 HasResult request (execution.Replays slot) = ⊥
 
 -- it only reads, and has a result
@@ -161,15 +161,15 @@ pub record Reads (files : FileSystem) (request : InProgress) (operation : Argume
 
 -- or its slot keeps the whole reply
 abbrev pub IsAnswered : InProgress → Executed → Type 0
-IsAnswered request (execution.Gives outcome left) = IsSpelled request (outcome_view outcome)
-IsAnswered request (execution.GivesSpelled kind values) =
-    HasRoomFor request (spelled_text (number_of kind) values.items)
+IsAnswered request (execution.Gives outcome left) = IsEncoded request (outcome_view outcome)
+IsAnswered request (execution.GivesValues kind values) =
+    HasRoomFor request (encoded_text (number_of kind) values.items)
 IsAnswered request (execution.Replays slot) = ⊤
 
 -- what is sent again is there
 abbrev pub IsReplyKept : Table → Executed → Type 0
 IsReplyKept table (execution.Gives outcome left) = Unit {0}
-IsReplyKept table (execution.GivesSpelled kind values) = Unit {0}
+IsReplyKept table (execution.GivesValues kind values) = Unit {0}
 IsReplyKept table (execution.Replays slot) =
     (reply : List ℕ) × (reply_kept slot.session slot.slot table ≡ Some reply)
 

@@ -9,7 +9,7 @@ use Rattle.xdr.specs.Grammar.{number}
 
 -- an entry in a chain; entries; entries with the end of their chain
 abbrev pub link_of : ListedEntry → List ℕ
-link_of listed = number w32 1 ++ entry.spelling (entry_view listed)
+link_of listed = number w32 1 ++ entry.encoding (entry_view listed)
 
 abbrev pub links_of : List ListedEntry → List ℕ
 links_of entries = flat_map link_of entries

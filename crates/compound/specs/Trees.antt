@@ -65,12 +65,12 @@ abbrev pub refusal : (operation : ℕ) → Status → Executed
 refusal operation reason = execution.Gives (outcomes.Refused operation reason) effect.Stays
 
 -- what an operation comes to that its file system did not do
-abbrev pub fault_told : (operation : ℕ) → FsFault → Result Executed Fault
-fault_told operation (fault.Status reason) = Ok (refusal operation reason)
-fault_told operation fault.NoRoom = Ok (refusal operation status.RepTooBig)
-fault_told operation fault.Memory = Err faults.Memory
-fault_told operation fault.Device = Err faults.Device
-fault_told operation fault.Down = Err faults.Device
+abbrev pub fault_result : (operation : ℕ) → FsFault → Result Executed Fault
+fault_result operation (fault.Status reason) = Ok (refusal operation reason)
+fault_result operation fault.NoRoom = Ok (refusal operation status.RepTooBig)
+fault_result operation fault.Memory = Err faults.Memory
+fault_result operation fault.Device = Err faults.Device
+fault_result operation fault.Down = Err faults.Device
 
 -- change values before and after
 abbrev pub change_answer : (before after : ℕ) → ChangeInfo

@@ -11,7 +11,7 @@ use Rattle.model_tree.specs.declared.seats.SeatEdits.{SeatEdits}
 use Rattle.session.specs.Views.{reply_kept}
 use Rattle.wire.specs.Numbers.{number_of}
 use Rattle.wire.specs.OutcomeView.{outcome_view}
-use Rattle.compound.specs.Operates.{Spells, left_by_effect}
+use Rattle.compound.specs.Operates.{EncodesAnswer, left_by_effect}
 use Rattle.compound.specs.Runs.{noted, with_rest}
 use Rattle.compound.specs.Views.{Asked}
 use Rattle.compound.specs.States.{SharedState, HasState, with_state}
@@ -51,8 +51,8 @@ abbrev pub TurnsExecuted : (now : ℕ) → (old new : SharedState) → InProgres
 TurnsExecuted now old new request rest altered (execution.Gives outcome left) =
     TurnsTo now old new request (noted altered (with_rest (left_by_effect left request) rest))
     (outcome_view outcome)
-TurnsExecuted now old new request rest altered (execution.GivesSpelled kind values) =
-    (answer : model.Answer) × Spells (number_of kind) values.items answer
+TurnsExecuted now old new request rest altered (execution.GivesValues kind values) =
+    (answer : model.Answer) × EncodesAnswer (number_of kind) values.items answer
     × TurnsTo now old new request (noted altered (with_rest request rest)) (model.Done answer)
 TurnsExecuted now old new request rest altered (execution.Replays slot) =
     (reply : List ℕ) × (new ≡ old) × (reply_kept slot.session slot.slot old.table ≡ Some reply)

@@ -26,9 +26,9 @@ abbrev pub ending : {T : Type 0} → Result T Fault → Ending
 ending (Ok done) = Done
 ending (Err reason) = fault_ending reason
 
-abbrev pub undone_step_ending : {T : Type 0} → Result T StepError → Ending
-undone_step_ending (Ok done) = Done
-undone_step_ending (Err undone) = fault_ending undone.fault
+abbrev pub failed_step_ending : {T : Type 0} → Result T StepError → Ending
+failed_step_ending (Ok done) = Done
+failed_step_ending (Err failed) = fault_ending failed.fault
 
 -- What it does
 

@@ -3,7 +3,7 @@
 ghost use Rattle.std.specs.Int.{w32};
 ghost use Rattle.std.specs.Prelude.{◌≡◌};
 ghost use Rattle.xdr.specs.Grammar.{number_at};
-ghost use Rattle.compound.specs.Ahead.{number_told};
+ghost use Rattle.compound.specs.Ahead.{number_of_read};
 
 use crate::next::{OP_ILLEGAL, is_no_operation};
 use crate::progress::Progress;
@@ -47,7 +47,7 @@ impl Progress {
 
 /// The number of the result of the operation with which these bytes begin.
 fn result_number(operations: &[u8]) -> u32
-    ensures { result ≡ number_told (number_at w32 operations.now) }
+    ensures { result ≡ number_of_read (number_at w32 operations.now) }
 {
     match Reader::new(operations).read_u32() {
         Ok(number) if !is_no_operation(number) => number,

@@ -27,8 +27,8 @@ impl<D: Device> Reading<'_, '_, D> {
         };
         match self.fs.attributes(running.cred, number, asked.as_slice()) {
             Ok(answer) => {
-                let values = spelled(running.alloc, &answer)?;
-                Ok(running.settle_spelled(Operation::GetAttr, values))
+                let values = encode(running.alloc, &answer)?;
+                Ok(running.settle_encoded(Operation::GetAttr, values))
             }
             Err(fault) => Ok(running.refuse(Operation::GetAttr, status_of(fault))),
         }
@@ -41,10 +41,10 @@ ghost use Rattle.wire_attributes.specs.NodeValues.{HasFewEntries, answer_view};
 ghost use Rattle.compound.specs.Memory.{OrMemory};
 
 /// The attributes, as the result has them.
-fn spelled(alloc: Global, answer: &AttributesAnswer<'_>) -> Result<Vec<u8>, Fault>
+fn encode(alloc: Global, answer: &AttributesAnswer<'_>) -> Result<Vec<u8>, Fault>
     requires { HasFewEntries answer.now.node }
     ensures { OrMemory result (λ values.
-        values.items ≡ answered_attributes.spelling (answer_view answer.now)) }
+        values.items ≡ answered_attributes.encoding (answer_view answer.now)) }
 {
     let mut out = Writer::with_capacity(alloc, answer.size())?;
     answer.write(&mut out)?;

@@ -46,8 +46,8 @@ impl Running<'_> {
         let memory = Writer::with_capacity(self.alloc, IDENTITY_BYTES)?;
         match table.exchange_id(self.cred.uid, arguments, &with_opens) {
             Ok(exchanged) => {
-                let values = spelled(&table.identity_answer(exchanged), memory);
-                Ok(self.answer_first_spelled(Operation::ExchangeId, values))
+                let values = encode(&table.identity_answer(exchanged), memory);
+                Ok(self.answer_first_encoded(Operation::ExchangeId, values))
             }
             Err(NotDone::Status(status)) => Ok(self.refuse(Operation::ExchangeId, status)),
             Err(NotDone::Memory) => Err(Fault::Memory),
@@ -126,10 +126,10 @@ impl Running<'_> {
 
 /// The answer's bytes, in memory that was allocated before.
 #[tactic(auto, using(crate::proofs::Identity::identity_short))]
-fn spelled(answer: &ExchangeIdAnswer<'_>, memory: Writer) -> Vec<u8>
+fn encode(answer: &ExchangeIdAnswer<'_>, memory: Writer) -> Vec<u8>
     requires names { (length answer.now.major_id.now ≤ 1024) × (length answer.now.scope.now ≤ 1024) }
     requires memory { (memory.bytes ≡ []) × (IDENTITY_BYTES ≤ memory.capacity) }
-    ensures values { result.items ≡ exchange_id_answer.spelling (answer_view answer.now) }
+    ensures values { result.items ≡ exchange_id_answer.encoding (answer_view answer.now) }
     ensures short { length result.items ≤ IDENTITY_BYTES }
 {
     let mut out = memory;

@@ -74,7 +74,7 @@ impl Running<'_> {
         ensures { EndsOpen (found (opens_of opens.now) (in_progress_of self.now).context
             (state_view stateid.now)) result }
     {
-        let found = opens.find(&self.standing(), stateid);
+        let found = opens.find(&self.id_context(), stateid);
         if let Some(status) = found.refuse_close() {
             return Err(status);
         }

@@ -9,7 +9,7 @@ use xdr::{Refusal, Writer};
 pub(crate) enum EncodedResult<'a> {
     Whole(&'a Outcome<'static>),
     /// An OK result, of which the values after the status are already encoded.
-    Spelled {
+    Values {
         operation: Operation,
         values: &'a [u8],
     },
@@ -17,7 +17,7 @@ pub(crate) enum EncodedResult<'a> {
 
 impl EncodedResult<'_> {
     ghost use Rattle.std.specs.Prelude.{◌≡◌, ◌+◌, ◌≤◌, ◌++◌, length};
-    ghost use Rattle.compound.specs.EncodedResult.{CanBeSpelled, told_text, told_status, is_ok};
+    ghost use Rattle.compound.specs.EncodedResult.{CanBeEncoded, text_of_result, status_of_result, is_ok};
 
     /// Whether its status is OK.
     pub(crate) fn is_ok(&self) -> bool
@@ -28,7 +28,7 @@ impl EncodedResult<'_> {
 
     /// The status.
     pub(crate) fn status(&self) -> Status
-        ensures { result ≡ told_status self.now }
+        ensures { result ≡ status_of_result self.now }
     {
         match self {
             EncodedResult::Whole(Outcome::Refused { status, .. }) => *status,
@@ -38,14 +38,14 @@ impl EncodedResult<'_> {
 
     /// It is encoded after other results.
     pub(crate) fn write(&self, results: Writer) -> Writer
-        requires spelled { CanBeSpelled self.now }
-        requires room { length results.bytes + length (told_text self.now) ≤ results.capacity }
-        ensures bytes { result.bytes ≡ results.bytes ++ told_text self.now }
+        requires encode { CanBeEncoded self.now }
+        requires room { length results.bytes + length (text_of_result self.now) ≤ results.capacity }
+        ensures bytes { result.bytes ≡ results.bytes ++ text_of_result self.now }
         ensures capacity { results.capacity ≤ result.capacity }
     {
         match self {
             EncodedResult::Whole(outcome) => write_outcome(results, outcome),
-            EncodedResult::Spelled { operation, values } => write_spelled(
+            EncodedResult::Values { operation, values } => write_encoded(
                 results, *operation, values,
             ),
         }
@@ -60,7 +60,7 @@ ghost use Rattle.model.specs.Wire.WireAnswers as answers;
 ghost use Rattle.model.specs.Server.World.{outcome_text};
 ghost use Rattle.wire.specs.Numbers.{number_of};
 ghost use Rattle.wire.specs.OutcomeView.{outcome_view};
-ghost use Rattle.compound.specs.Operates.{spelled_text};
+ghost use Rattle.compound.specs.Operates.{encoded_text};
 
 /// The results, and one more.
 #[tactic(auto, unfolding(model::specs::Server::World::outcome_text))]
@@ -79,23 +79,23 @@ fn write_outcome(results: Writer, outcome: &Outcome<'_>) -> Writer
 }
 
 /// The results, and one more whose values are already encoded.
-fn write_spelled(results: Writer, operation: Operation, values: &[u8]) -> Writer
-    requires { length results.bytes + length (spelled_text (number_of operation) values.now)
+fn write_encoded(results: Writer, operation: Operation, values: &[u8]) -> Writer
+    requires { length results.bytes + length (encoded_text (number_of operation) values.now)
         ≤ results.capacity }
     ensures bytes { result.bytes
-        ≡ results.bytes ++ spelled_text (number_of operation) values.now }
+        ≡ results.bytes ++ encoded_text (number_of operation) values.now }
     ensures capacity { results.capacity ≤ result.capacity }
 {
-    let mut front = results;
-    match write_front(&mut front, operation) {
-        Ok(()) => append(front, values),
+    let mut prefix = results;
+    match write_prefix(&mut prefix, operation) {
+        Ok(()) => append(prefix, values),
         Err(_) => unreachable!(),
     }
 }
 
 /// Writes the number and the status OK. A refusal may leave a prefix of them.
 #[tactic(auto, using(xdr::proofs::Writing::wrote_on, xdr::proofs::Writing::wrote_exit, xdr::proofs::Writing::wrote_end))]
-fn write_front(w: &mut Writer, operation: Operation) -> Result<(), Refusal>
+fn write_prefix(w: &mut Writer, operation: Operation) -> Result<(), Refusal>
     ensures { Wrote w.old w.new result (number w32 (number_of operation) ++ number w32 0) }
 {
     w.write_u32(operation.number())?;
@@ -103,12 +103,12 @@ fn write_front(w: &mut Writer, operation: Operation) -> Result<(), Refusal>
 }
 
 /// The bytes that were written, and others after them as they are.
-fn append(front: Writer, values: &[u8]) -> Writer
-    requires { length front.bytes + length values.now ≤ front.capacity }
-    ensures bytes { result.bytes ≡ front.bytes ++ values.now }
-    ensures capacity { front.capacity ≤ result.capacity }
+fn append(prefix: Writer, values: &[u8]) -> Writer
+    requires { length prefix.bytes + length values.now ≤ prefix.capacity }
+    ensures bytes { result.bytes ≡ prefix.bytes ++ values.now }
+    ensures capacity { prefix.capacity ≤ result.capacity }
 {
-    let mut bytes = front.into_vec();
+    let mut bytes = prefix.into_vec();
     match bytes.extend_from_slice(values) {
         Ok(()) => Writer::from_vec(bytes),
         Err(_) => unreachable!(),

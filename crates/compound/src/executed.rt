@@ -31,7 +31,7 @@ pub enum Executed {
         effect: Effect,
     },
     /// An OK result, encoded: the values after its status. Nothing changes.
-    GivesSpelled {
+    GivesValues {
         operation: Operation,
         values: Vec<u8>,
     },

@@ -107,8 +107,8 @@ impl<D: Device> Reading<'_, '_, D> {
         };
         match self.fs.handle(number) {
             Ok(handle) => {
-                let values = spelled(running.alloc, &handle)?;
-                Ok(running.settle_spelled(Operation::GetFh, values))
+                let values = encode(running.alloc, &handle)?;
+                Ok(running.settle_encoded(Operation::GetFh, values))
             }
             Err(fault) => Ok(running.refuse(Operation::GetFh, status_of(fault))),
         }
@@ -129,7 +129,7 @@ ghost use Rattle.xdr.specs.Forms.{counted};
 ghost use Rattle.compound.specs.Memory.{OrMemory};
 
 /// A filehandle, as the result of GETFH has it.
-fn spelled(alloc: Global, handle: &[u8; 8]) -> Result<Vec<u8>, Fault>
+fn encode(alloc: Global, handle: &[u8; 8]) -> Result<Vec<u8>, Fault>
     ensures { OrMemory result (λ values. values.items ≡ counted handle.now) }
 {
     let mut out = Writer::new(alloc);

@@ -40,8 +40,8 @@ impl<D: Device> Reading<'_, '_, D> {
         };
         match self.fs.list(running.cred, listing(directory, arguments)) {
             Ok(page) => {
-                let values = spelled(running.alloc, &page)?;
-                Ok(running.settle_spelled(Operation::ReadDir, values))
+                let values = encode(running.alloc, &page)?;
+                Ok(running.settle_encoded(Operation::ReadDir, values))
             }
             Err(fault) => running.tell_fault(Operation::ReadDir, fault),
         }
@@ -64,10 +64,10 @@ fn listing(directory: u64, arguments: &ReadDirArguments) -> Listing<'_>
 }
 
 /// The page as the result has it.
-fn spelled(alloc: Global, page: &Page<'_>) -> Result<Vec<u8>, Fault>
+fn encode(alloc: Global, page: &Page<'_>) -> Result<Vec<u8>, Fault>
     requires { PageFits page.now }
     ensures { OrMemory result (λ values.
-        values.items ≡ read_dir_answer.spelling (page_view page.now)) }
+        values.items ≡ read_dir_answer.encoding (page_view page.now)) }
 {
     let mut out = Writer::with_capacity(alloc, PAGE_BYTES)?;
     write_page(&mut out, page)?;
@@ -78,7 +78,7 @@ fn spelled(alloc: Global, page: &Page<'_>) -> Result<Vec<u8>, Fault>
 #[tactic(auto, using(xdr::proofs::Writing::wrote_on, xdr::proofs::Writing::wrote_exit, xdr::proofs::Writing::wrote_end))]
 fn write_page(w: &mut Writer, page: &Page<'_>) -> Result<(), Refusal>
     requires { PageFits page.now }
-    ensures { Wrote w.old w.new result (read_dir_answer.spelling (page_view page.now)) }
+    ensures { Wrote w.old w.new result (read_dir_answer.encoding (page_view page.now)) }
 {
     w.write_u64(0)?;
     write_chain(w, &page.entries)?;

@@ -18,7 +18,7 @@ use wire::{Operation, ReadArguments};
 
 /// The bytes of the values before those of the file: whether its end was reached, and how many
 /// there are.
-const FRONT: usize = 8;
+const PREFIX: usize = 8;
 
 /// The most bytes of a file that memory is allocated for: those that one READ gives.
 const PART_BYTES: usize = 8_192;
@@ -57,7 +57,7 @@ impl Running<'_> {
         {
             Ok(is_end) => {
                 finish(&mut values, is_end)?;
-                Ok(self.settle_spelled(Operation::Read, values))
+                Ok(self.settle_encoded(Operation::Read, values))
             }
             Err(fault) => self.tell_fault(Operation::Read, fault),
         }
@@ -70,40 +70,40 @@ fn room_for(alloc: Global, count: u32) -> Result<Vec<u8>, Fault>
     ensures values { OrMemory result (λ values. length values.items ≡ 8) }
 {
     let most = (count as usize).min(PART_BYTES);
-    let mut values = Vec::with_capacity(alloc, FRONT + most + MAX_PAD)?;
-    values.extend_from_slice(&[0; FRONT])?;
+    let mut values = Vec::with_capacity(alloc, PREFIX + most + MAX_PAD)?;
+    values.extend_from_slice(&[0; PREFIX])?;
     Ok(values)
 }
 
 /// Writes what comes before the bytes of the file, and the zeros after them.
 fn finish(values: &mut Vec<u8>, is_end: bool) -> Result<(), Fault>
-    ensures { OrMemory result (λ _. (front part : List ℕ) → values.old.items ≡ front ++ part
-        → length front ≡ 8 → length part < 2 ^ 32
-        → values.new.items ≡ read_answer.spelling (record { is_end = is_end; data_bytes = part })) }
+    ensures { OrMemory result (λ _. (prefix part : List ℕ) → values.old.items ≡ prefix ++ part
+        → length prefix ≡ 8 → length part < 2 ^ 32
+        → values.new.items ≡ read_answer.encoding (record { is_end = is_end; data_bytes = part })) }
 {
-    let len = values.len().saturating_sub(FRONT);
-    let front = front_of(is_end, len.min(u32::MAX as usize) as u32);
-    put_front(values.as_mut_slice(), &front);
+    let len = values.len().saturating_sub(PREFIX);
+    let prefix = prefix_of(is_end, len.min(u32::MAX as usize) as u32);
+    put_prefix(values.as_mut_slice(), &prefix);
     pad(values, len)
 }
 
 /// The words before this many bytes of a file.
-fn front_of(is_end: bool, len: u32) -> [u8; 8]
+fn prefix_of(is_end: bool, len: u32) -> [u8; 8]
     ensures { result ≡ number w32 (code_of is_end) ++ number w32 len }
 {
     let truth: u32 = if is_end { 1 } else { 0 };
-    let mut front = [0; FRONT];
-    front[..4].copy_from_slice(&truth.to_be_bytes());
-    front[4..].copy_from_slice(&len.to_be_bytes());
-    front
+    let mut prefix = [0; PREFIX];
+    prefix[..4].copy_from_slice(&truth.to_be_bytes());
+    prefix[4..].copy_from_slice(&len.to_be_bytes());
+    prefix
 }
 
 /// Puts these bytes over the first ones.
-fn put_front(values: &mut [u8], front: &[u8; 8])
-    ensures { 8 ≤ length values.old → values.new ≡ front.now ++ drop 8 values.old }
+fn put_prefix(values: &mut [u8], prefix: &[u8; 8])
+    ensures { 8 ≤ length values.old → values.new ≡ prefix.now ++ drop 8 values.old }
 {
-    if values.len() >= FRONT {
-        values[..FRONT].copy_from_slice(front);
+    if values.len() >= PREFIX {
+        values[..PREFIX].copy_from_slice(prefix);
     }
 }
 

@@ -21,7 +21,7 @@ const AROUND_RESULTS: usize = 32;
 const MAX_REFUSAL_BYTES: usize = 12;
 
 /// The bytes of a result before its values: its number and its status.
-const RESULT_FRONT: usize = 8;
+const RESULT_PREFIX: usize = 8;
 
 #[tactic(auto, unfolding(model::specs::Server::World::outcome_text))]
 impl Running<'_> {
@@ -35,9 +35,9 @@ impl Running<'_> {
     ghost use Rattle.wire.specs.Numbers.{number_of};
     ghost use Rattle.wire.specs.Short.{IsRefusal, IsShortAnswer};
     ghost use Rattle.wire.specs.declared.outcome.Outcome.TheVariants as outcomes;
-    ghost use Rattle.compound.specs.Operates.{Operates, RunsTo, GivesIn, Spells, HasResult, left_by_effect};
+    ghost use Rattle.compound.specs.Operates.{Operates, RunsTo, GivesIn, EncodesAnswer, HasResult, left_by_effect};
     ghost use Rattle.compound.specs.States.{SharedState};
-    ghost use Rattle.compound.specs.Trees.{IsUp, refusal, fault_told};
+    ghost use Rattle.compound.specs.Trees.{IsUp, refusal, fault_result};
     ghost use Rattle.compound.specs.Views.{in_progress_of};
     ghost use Rattle.compound.specs.declared.executed.Executed.TheVariants as execution;
 
@@ -72,7 +72,7 @@ impl Running<'_> {
     pub(crate) fn settle(&self, answer: Answer<'static>, effect: Effect) -> Executed
         requires { IsShortAnswer (answer_view answer) }
         ensures gives { (now : ℕ) (state : SharedState) (kind : Kind)
-            → (answers.answer_told (answer_view answer.entry)).number ≡ operation_of kind
+            → (answers.encoded_answer (answer_view answer.entry)).number ≡ operation_of kind
             → RunsTo now state state (in_progress_of self.now)
             (left_by_effect effect (in_progress_of self.now)) kind (Done (answer_view answer.entry))
             → Operates now state state (in_progress_of self.now) kind result }
@@ -88,19 +88,19 @@ impl Running<'_> {
 
     /// What an operation comes to that changes nothing, and whose OK result is encoded: it is
     /// refused if the reply has no room.
-    pub(crate) fn settle_spelled(&self, operation: Operation, values: Vec<u8>) -> Executed
+    pub(crate) fn settle_encoded(&self, operation: Operation, values: Vec<u8>) -> Executed
         ensures gives { (now : ℕ) (state : SharedState) (kind : Kind) (answer : Answered)
-            → Spells (number_of operation) values.items answer
+            → EncodesAnswer (number_of operation) values.items answer
             → number_of operation ≡ operation_of kind
             → RunsTo now state state (in_progress_of self.now) (in_progress_of self.now) kind
             (Done answer)
             → Operates now state state (in_progress_of self.now) kind result }
         ensures answered { HasResult (in_progress_of self.now) result }
     {
-        if !self.has_room_for(RESULT_FRONT + values.as_slice().len()) {
+        if !self.has_room_for(RESULT_PREFIX + values.as_slice().len()) {
             return self.refuse(operation, Status::RepTooBig);
         }
-        Executed::GivesSpelled { operation, values }
+        Executed::GivesValues { operation, values }
     }
 
     /// What an operation comes to that is refused.
@@ -125,7 +125,7 @@ impl Running<'_> {
     /// Those of the file system that have no status.
     pub(crate) fn tell_fault(&self, operation: Operation, fault: FsFault) -> Result<Executed, Fault>
         requires { IsUp fault }
-        ensures { result ≡ fault_told (number_of operation) fault }
+        ensures { result ≡ fault_result (number_of operation) fault }
     {
         match fault {
             FsFault::Status(status) => Ok(self.refuse(operation, status)),
@@ -156,32 +156,32 @@ impl Running<'_> {
 
     /// What the first operation comes to, if nothing refuses it and its OK result is encoded in few
     /// bytes: the reply has room for that.
-    pub(crate) fn answer_first_spelled(&self, operation: Operation, values: Vec<u8>) -> Executed
+    pub(crate) fn answer_first_encoded(&self, operation: Operation, values: Vec<u8>) -> Executed
         requires first { (in_progress_of self.now).answered ≡ 0 }
         requires short { length values.items ≤ 4096 }
         ensures gives { (now : ℕ) (old new : SharedState) (kind : Kind) (answer : Answered)
-            → Spells (number_of operation) values.items answer
+            → EncodesAnswer (number_of operation) values.items answer
             → RunsTo now old new (in_progress_of self.now) (in_progress_of self.now) kind
             (Done answer)
             → Operates now old new (in_progress_of self.now) kind result }
         ensures answered { HasResult (in_progress_of self.now) result }
     {
-        Executed::GivesSpelled { operation, values }
+        Executed::GivesValues { operation, values }
     }
 }
 
 impl Progress {
     ghost use Rattle.std.specs.Prelude.{◌≡◌, ◌+◌, ◌<◌, ◌≤◌, ◌^◌, length};
-    ghost use Rattle.compound.specs.EncodedResult.{CanBeSpelled, told_text, with_told, with_last};
+    ghost use Rattle.compound.specs.EncodedResult.{CanBeEncoded, text_of_result, with_encoded, with_last};
     ghost use Rattle.compound.specs.Views.{Asked, resumed};
 
     /// With one more result, after those so far.
     pub(crate) fn with_result(self, encoded: EncodedResult<'_>) -> Progress
-        requires spelled { CanBeSpelled encoded }
+        requires encode { CanBeEncoded encoded }
         requires more { self.answered + 1 < 2 ^ 32 }
-        requires room { length self.results.bytes + length (told_text encoded) ≤ RESULT_BUFFER }
+        requires room { length self.results.bytes + length (text_of_result encoded) ≤ RESULT_BUFFER }
         ensures request { (asked : Asked) → resumed asked result
-            ≡ with_told (resumed asked self) encoded.entry }
+            ≡ with_encoded (resumed asked self) encoded.entry }
         ensures position { result.position ≡ self.position }
     {
         let Progress {
@@ -214,9 +214,9 @@ impl Progress {
 
     /// With one more result, which is the last one.
     pub(crate) fn with_last(self, encoded: EncodedResult<'_>) -> Progress
-        requires spelled { CanBeSpelled encoded }
+        requires encode { CanBeEncoded encoded }
         requires more { self.answered + 1 < 2 ^ 32 }
-        requires room { length self.results.bytes + length (told_text encoded) ≤ RESULT_BUFFER }
+        requires room { length self.results.bytes + length (text_of_result encoded) ≤ RESULT_BUFFER }
         ensures request { (asked : Asked) → resumed asked result
             ≡ with_last (resumed asked self) encoded.entry }
         ensures position { result.position ≡ self.position }

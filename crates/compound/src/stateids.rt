@@ -16,7 +16,7 @@ impl Running<'_> {
     ghost use Rattle.compound.specs.Views.{in_progress_of};
 
     /// The context in which the next operation uses a stateid.
-    pub(crate) fn standing(&self) -> StateIdContext
+    pub(crate) fn id_context(&self) -> StateIdContext
         ensures { StandsAt result (in_progress_of self.now).context }
     {
         let (number, state) = match self.progress.current {
@@ -43,7 +43,10 @@ impl Running<'_> {
             → IsVerdict state access.0 (state_view stateid.now) result }
         ensures possible { IsPossible result }
     {
-        match opens.find(&self.standing(), stateid).refuse_access(access) {
+        match opens
+            .find(&self.id_context(), stateid)
+            .refuse_access(access)
+        {
             None => Ok(()),
             Some(status) => Err(status),
         }

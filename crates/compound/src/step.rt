@@ -56,11 +56,11 @@ impl Running<'_> {
     ghost use Rattle.compound.specs.Operates.{left_by_effect};
     ghost use Rattle.compound.specs.States.{Agrees, CanSeat, shared_of};
     ghost use Rattle.compound.specs.Steps.{CanRun, RequestSteps, RequestGoesOn, stepped_on};
-    ghost use Rattle.compound.specs.EncodedResult.{CanBeTold, Tells, with_last};
+    ghost use Rattle.compound.specs.EncodedResult.{CanBeAdded, Tells, with_last};
     ghost use Rattle.compound.specs.Nexts.{RunsNext};
     ghost use Rattle.compound.specs.Turns.{ResultLeaves};
     ghost use Rattle.compound.specs.Views.{in_progress_of, asked_of};
-    ghost use Rattle.compound.specs.Volumes.{TurnGives, undone_step_ending};
+    ghost use Rattle.compound.specs.Volumes.{TurnGives, failed_step_ending};
 
     /// Reads the next operation, tests it and runs it, at this time in nanoseconds since 1970. A
     /// change is kept on the device before its result is there. Once the last result is there and a
@@ -91,13 +91,13 @@ impl Running<'_> {
         ensures goes_on { IfOk result (RequestGoesOn (fs_of fs.old).volume.run (asked_of self.entry)
             (in_progress_of self.entry)) }
         // If it fails
-        ensures back { IfErr result (λ undone. undone.progress ≡ self.entry.progress) }
+        ensures back { IfErr result (λ failed. failed.progress ≡ self.entry.progress) }
         ensures others { OnErr result ((table_of table.new ≡ table_of table.old)
             × (opens_of opens.new ≡ opens_of opens.old)) }
         // However it ends
         ensures volume { AltersFs fs.old fs.new (TurnGives (shared_of fs.old table.old opens.old)
             (λ world number. stepped_on world number now (in_progress_of self.entry)))
-            (undone_step_ending result) }
+            (failed_step_ending result) }
     {
         let mut engine = Engine {
             fs,
@@ -141,8 +141,8 @@ impl Running<'_> {
                 &slot,
                 results_buffer,
             ))),
-            Executed::GivesSpelled { operation, values } => {
-                let encoded = EncodedResult::Spelled {
+            Executed::GivesValues { operation, values } => {
+                let encoded = EncodedResult::Values {
                     operation,
                     values: values.as_slice(),
                 };
@@ -234,7 +234,7 @@ impl Running<'_> {
         encoded: EncodedResult<'_>,
         results_buffer: &mut Writer,
     ) -> Stepped
-        requires encoded { CanBeTold (in_progress_of self) encoded }
+        requires encoded { CanBeAdded (in_progress_of self) encoded }
         requires more { (in_progress_of self).ended ≡ None }
         ensures stands { (outcome : model.Outcome) → Tells encoded.entry outcome
             → ResultLeaves (table_of table.old) (table_of table.new)
@@ -261,7 +261,7 @@ impl Running<'_> {
     /// With this result, the last one.
     #[tactic(auto, unfolding(crate::specs::Views::in_progress_of))]
     fn with_last(self, encoded: EncodedResult<'_>) -> Self
-        requires encoded { CanBeTold (in_progress_of self) encoded }
+        requires encoded { CanBeAdded (in_progress_of self) encoded }
         requires more { (in_progress_of self).ended ≡ None }
         ensures asked { asked_of result ≡ asked_of self.entry }
         ensures request { in_progress_of result

@@ -113,7 +113,7 @@ fn length_of(address: IpAddr) -> u32 {
 /// Whether two addresses are the same except for the last `last` bits.
 fn agree(one: u128, other: u128, last: u32) -> bool {
     match (one ^ other).checked_shr(last) {
-        Some(front) => front == 0,
+        Some(prefix) => prefix == 0,
         // All of their bits may differ.
         None => true,
     }

@@ -259,8 +259,8 @@ module _ (order : List ℕ) (xs : List Record) (cookie far : ℕ) (kept : IsOrde
 
 -- The first records
 
-pub front_rising : (by : By) (order : List ℕ) (xs : List Record) (k : ℕ) → IsOrder by order (take k xs) → AreRising by xs order
-front_rising by order xs k kept =
+pub prefix_rising : (by : By) (order : List ℕ) (xs : List Record) (k : ℕ) → IsOrder by order (take k xs) → AreRising by xs order
+prefix_rising by order xs k kept =
     placed_same by (take k xs) xs order
     (λ a has. let low : a < length (take k xs) = (kept.all a).0 has in sym (get_or-take k xs a nothing (omega (arith, low, length-take k xs)))) kept.rising
 

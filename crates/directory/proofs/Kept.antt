@@ -42,12 +42,12 @@ IsDirectory-push xs new kept room fresh is = record {
   few = omega (arith, length_push xs new);
   each = each_push IsRecord xs new kept.each is;
   apart = λ i j d lt within.
-      let front : get_or (xs ++ new ∷ []) i d ≡ get_or xs i d = get_or_append_left xs (new ∷ []) d i (omega (arith, length_push xs new)) in
+      let prefix : get_or (xs ++ new ∷ []) i d ≡ get_or xs i d = get_or_append_left xs (new ∷ []) d i (omega (arith, length_push xs new)) in
       elim (cases_lt j (length xs)) [
-        | inl old ↦ λ e. kept.apart i j d lt old (ap (λ (r : Record). r.1.name) (sym front) ∙ e ∙ ap (λ (r : Record). r.1.name) (get_or_append_left xs (new ∷ []) d j old))
+        | inl old ↦ λ e. kept.apart i j d lt old (ap (λ (r : Record). r.1.name) (sym prefix) ∙ e ∙ ap (λ (r : Record). r.1.name) (get_or_append_left xs (new ∷ []) d j old))
         | inr last ↦
             let back : get_or (xs ++ new ∷ []) j d ≡ new = get_or_push xs new d j (omega (arith, length_push xs new)) in
-            λ e. fresh i d (omega (arith, length_push xs new)) (ap (λ (r : Record). r.1.name) (sym front) ∙ e ∙ ap (λ (r : Record). r.1.name) back)
+            λ e. fresh i d (omega (arith, length_push xs new)) (ap (λ (r : Record). r.1.name) (sym prefix) ∙ e ∙ ap (λ (r : Record). r.1.name) back)
       ];
 }
 
@@ -70,12 +70,12 @@ module _ {K : Type 0} (key_of : Record → K) (xs : List Record) (new : Record) 
 
   pub push_apart : ApartBy key_of (xs ++ new ∷ [])
   push_apart i j d lt within =
-      let front : get_or (xs ++ new ∷ []) i d ≡ get_or xs i d = get_or_append_left xs (new ∷ []) d i (omega (arith, length_push xs new)) in
+      let prefix : get_or (xs ++ new ∷ []) i d ≡ get_or xs i d = get_or_append_left xs (new ∷ []) d i (omega (arith, length_push xs new)) in
       elim (cases_lt j (length xs)) [
-        | inl old ↦ λ e. apart i j d lt old (sym (ap key_of front) ∙ e ∙ ap key_of (get_or_append_left xs (new ∷ []) d j old))
+        | inl old ↦ λ e. apart i j d lt old (sym (ap key_of prefix) ∙ e ∙ ap key_of (get_or_append_left xs (new ∷ []) d j old))
         | inr last ↦
             let back : get_or (xs ++ new ∷ []) j d ≡ new = get_or_push xs new d j (omega (arith, length_push xs new)) in
-            λ e. fresh i d (omega (arith, length_push xs new)) (sym (ap key_of front) ∙ e ∙ ap key_of back)
+            λ e. fresh i d (omega (arith, length_push xs new)) (sym (ap key_of prefix) ∙ e ∙ ap key_of back)
       ]
 
 -- the last record, and what is at a place once it has moved

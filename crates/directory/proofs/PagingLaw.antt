@@ -38,33 +38,33 @@ last_high : (cookie : ℕ) (entries : Keyed DirEntry) → IsAbove cookie entries
 last_high cookie [] above = omega arith
 last_high cookie (entry ∷ rest) above = omega (arith, last_high entry.0 rest above.1, above.0)
 
-above_append : (cookie : ℕ) (front rest : Keyed DirEntry) → IsAbove cookie front → IsAbove (last_cookie cookie front) rest → IsAbove cookie (front ++ rest)
+above_append : (cookie : ℕ) (prefix rest : Keyed DirEntry) → IsAbove cookie prefix → IsAbove (last_cookie cookie prefix) rest → IsAbove cookie (prefix ++ rest)
 above_append cookie [] rest above behind = behind
-above_append cookie (entry ∷ front) rest above behind = (above.0, above_append entry.0 front rest above.1 behind)
+above_append cookie (entry ∷ prefix) rest above behind = (above.0, above_append entry.0 prefix rest above.1 behind)
 
-above_front : (cookie : ℕ) (front rest : Keyed DirEntry) → IsAbove cookie (front ++ rest) → IsAbove cookie front
-above_front cookie [] rest above = tt
-above_front cookie (entry ∷ front) rest above = (above.0, above_front entry.0 front rest above.1)
+above_prefix : (cookie : ℕ) (prefix rest : Keyed DirEntry) → IsAbove cookie (prefix ++ rest) → IsAbove cookie prefix
+above_prefix cookie [] rest above = tt
+above_prefix cookie (entry ∷ prefix) rest above = (above.0, above_prefix entry.0 prefix rest above.1)
 
-above_back : (cookie : ℕ) (front rest : Keyed DirEntry) → IsAbove cookie (front ++ rest) → IsAbove (last_cookie cookie front) rest
+above_back : (cookie : ℕ) (prefix rest : Keyed DirEntry) → IsAbove cookie (prefix ++ rest) → IsAbove (last_cookie cookie prefix) rest
 above_back cookie [] rest above = above
-above_back cookie (entry ∷ front) rest above = above_back entry.0 front rest above.1
+above_back cookie (entry ∷ prefix) rest above = above_back entry.0 prefix rest above.1
 
-at_front : (key : ℕ) (value : DirEntry) (front rest : Keyed DirEntry) → at key front ≡ Some value → at key (front ++ rest) ≡ Some value
-at_front key value [] rest is = absurd (some≢none value (sym is))
-at_front key value (first ∷ front) rest is = step (key == first.0) is (λ others. at_front key value front rest others)
+at_prefix : (key : ℕ) (value : DirEntry) (prefix rest : Keyed DirEntry) → at key prefix ≡ Some value → at key (prefix ++ rest) ≡ Some value
+at_prefix key value [] rest is = absurd (some≢none value (sym is))
+at_prefix key value (first ∷ prefix) rest is = step (key == first.0) is (λ others. at_prefix key value prefix rest others)
   where
-    step : (is_here : Bool) → here_or is_here first.1 (at key front) ≡ Some value → (at key front ≡ Some value → at key (front ++ rest) ≡ Some value)
-        → here_or is_here first.1 (at key (front ++ rest)) ≡ Some value
+    step : (is_here : Bool) → here_or is_here first.1 (at key prefix) ≡ Some value → (at key prefix ≡ Some value → at key (prefix ++ rest) ≡ Some value)
+        → here_or is_here first.1 (at key (prefix ++ rest)) ≡ Some value
     step true is others = is
     step false is others = others is
 
-at_back : (key : ℕ) (front rest : Keyed DirEntry) → at key front ≡ None → at key (front ++ rest) ≡ at key rest
+at_back : (key : ℕ) (prefix rest : Keyed DirEntry) → at key prefix ≡ None → at key (prefix ++ rest) ≡ at key rest
 at_back key [] rest none = refl
-at_back key (first ∷ front) rest none = step (key == first.0) none (λ others. at_back key front rest others)
+at_back key (first ∷ prefix) rest none = step (key == first.0) none (λ others. at_back key prefix rest others)
   where
-    step : (is_here : Bool) → here_or is_here first.1 (at key front) ≡ None → (at key front ≡ None → at key (front ++ rest) ≡ at key rest)
-        → here_or is_here first.1 (at key (front ++ rest)) ≡ at key rest
+    step : (is_here : Bool) → here_or is_here first.1 (at key prefix) ≡ None → (at key prefix ≡ None → at key (prefix ++ rest) ≡ at key rest)
+        → here_or is_here first.1 (at key (prefix ++ rest)) ≡ at key rest
     step true none others = absurd (some≢none first.1 none)
     step false none others = others none
 
@@ -75,14 +75,14 @@ at_past cookie key (entry ∷ rest) above past =
     let high : entry.0 ≤ last_cookie entry.0 rest = last_high entry.0 rest above.1 in
     at-rest entry.0 key entry.1 rest (omega arith) ∙ at_past entry.0 key rest above.1 past
 
--- an entry of all that does not come after the last of `front` is in `front`
-in_front : (cookie key : ℕ) (value : DirEntry) (front rest : Keyed DirEntry) → IsAbove cookie (front ++ rest) → key ≤ last_cookie cookie front
-    → at key (front ++ rest) ≡ Some value → at key front ≡ Some value
-in_front cookie key value front rest above low is = step (at key front) refl
+-- an entry of all that does not come after the last of `prefix` is in `prefix`
+is_before : (cookie key : ℕ) (value : DirEntry) (prefix rest : Keyed DirEntry) → IsAbove cookie (prefix ++ rest) → key ≤ last_cookie cookie prefix
+    → at key (prefix ++ rest) ≡ Some value → at key prefix ≡ Some value
+is_before cookie key value prefix rest above low is = step (at key prefix) refl
   where
-    step : (found : Option DirEntry) → at key front ≡ found → at key front ≡ Some value
-    step None none = absurd (some≢none value (sym is ∙ (at_back key front rest none ∙ at-below rest (last_cookie cookie front) key (above_back cookie front rest above) low)))
-    step (Some other) there = there ∙ (sym (at_front key other front rest there) ∙ is)
+    step : (found : Option DirEntry) → at key prefix ≡ found → at key prefix ≡ Some value
+    step None none = absurd (some≢none value (sym is ∙ (at_back key prefix rest none ∙ at-below rest (last_cookie cookie prefix) key (above_back cookie prefix rest above) low)))
+    step (Some other) there = there ∙ (sym (at_prefix key other prefix rest there) ∙ is)
 
 -- Listings
 
@@ -92,7 +92,7 @@ rising_pages cookie (page ∷ []) listing =
     subst (IsAbove cookie) (listing ∙ sym (append-nil page.shown)) (after_above cookie (by_stamp page.records) (rising_by_stamp page.records))
 rising_pages cookie (page ∷ next ∷ rest) listing =
     let whole = subst (IsAbove cookie) listing.0.1 (after_above cookie (by_stamp page.records) (rising_by_stamp page.records)) in
-    above_append cookie page.shown (all_shown (next ∷ rest)) (above_front cookie page.shown listing.0.0 whole)
+    above_append cookie page.shown (all_shown (next ∷ rest)) (above_prefix cookie page.shown listing.0.0 whole)
     (rising_pages (last_cookie cookie page.shown) (next ∷ rest) listing.1)
 
 -- there is something of this kind at a key
@@ -114,13 +114,13 @@ shown_pages P cookie (page ∷ next ∷ rest) listing stamp above there =
       | inl past ↦
           let behind = shown_pages P (last_cookie cookie page.shown) (next ∷ rest) listing.1 stamp past there.1 in (
             behind.0,
-            at_back stamp page.shown others (at_past cookie stamp page.shown (above_front cookie page.shown listing.0.0 whole) past) ∙ behind.1,
+            at_back stamp page.shown others (at_past cookie stamp page.shown (above_prefix cookie page.shown listing.0.0 whole) past) ∙ behind.1,
             behind.2,
           )
       | inr within ↦ (
         there.0.0,
-        at_front stamp there.0.0 page.shown others
-            (in_front cookie stamp there.0.0 page.shown listing.0.0 whole within
+        at_prefix stamp there.0.0 page.shown others
+            (is_before cookie stamp there.0.0 page.shown listing.0.0 whole within
             (ap (at stamp) (sym listing.0.1) ∙ (at_after cookie stamp (by_stamp page.records) above ∙ there.0.1))),
         there.0.2,
       )

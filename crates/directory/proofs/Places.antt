@@ -66,7 +66,7 @@ with_record-push (x ∷ xs) new h = push_step (is_named new.1.name x) x new xs (
 
 pub bytes_eq-same : (a : List ℕ) → bytes_eq a a ≡ true
 bytes_eq-same [] = refl
-bytes_eq-same (x ∷ a) = let front : eqb x x ≡ true = eq-eqb x x refl in rw (front, bytes_eq-same a) refl
+bytes_eq-same (x ∷ a) = let prefix : eqb x x ≡ true = eq-eqb x x refl in rw (prefix, bytes_eq-same a) refl
 
 absent_step : (name : List ℕ) (b : Bool) (x : Record) (xs : List Record) (p : ℕ) (i : ℕ) (d : Record) → is_named name x ≡ b → suc (length xs) ≤ cond b 0 (p + 1) → i < suc (length xs)
     → (length xs ≤ p → (k : ℕ) → k < length xs → (get_or xs k d).1.name ≢ name) → (get_or (x ∷ xs) i d).1.name ≢ name

@@ -4,7 +4,7 @@ use Rattle.std.proofs.lemmas.Nat.{from_be_bytes-to_be_bytes_8}
 use Rattle.std.proofs.lemmas.List.{take_at, take-take, take-append-le}
 use Rattle.sector.specs.Records as widths
 use Rattle.directory.specs.Records.{Record, IsRecord, record_from}
-use Rattle.directory.specs.Spelling.{directory_sector, record_bytes, name_bytes}
+use Rattle.directory.specs.Encoding.{directory_sector, record_bytes, name_bytes}
 use Rattle.directory.specs.Reading.{record_in, records_in, RecordsReadBack}
 use Rattle.directory.proofs.Sector.{records_wide, length-name_bytes}
 

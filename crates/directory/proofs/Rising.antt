@@ -136,13 +136,13 @@ has_cases xs x y (suc k, within, is) = inr (k, omega arith, is)
 has_one_more : (xs ys : List ℕ) (y other : ℕ) → (other ≡ y) ⊎ Contains (xs ++ ys) other → Contains (xs ++ y ∷ ys) other
 has_one_more xs ys y other (inl same) = subst (Contains (xs ++ y ∷ ys)) (sym same) (Contains-append_right xs (y ∷ ys) y (has_first ys y))
 has_one_more xs ys y other (inr has) = elim (Contains-append_cases xs ys other has) [
-  | inl front ↦ Contains-append_left xs (y ∷ ys) other front
+  | inl prefix ↦ Contains-append_left xs (y ∷ ys) other prefix
   | inr back ↦ Contains-append_right xs (y ∷ ys) other (has_behind ys y other back)
 ]
 
 was_one_more : (xs ys : List ℕ) (y other : ℕ) → Contains (xs ++ y ∷ ys) other → (other ≡ y) ⊎ Contains (xs ++ ys) other
 was_one_more xs ys y other has = elim (Contains-append_cases xs (y ∷ ys) other has) [
-  | inl front ↦ inr (Contains-append_left xs ys other front)
+  | inl prefix ↦ inr (Contains-append_left xs ys other prefix)
   | inr back ↦ elim (has_cases ys y other back) [
     | inl same ↦ inl same
     | inr further ↦ inr (Contains-append_right xs ys other further)

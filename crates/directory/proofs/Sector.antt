@@ -9,7 +9,7 @@ use Rattle.sector.specs.Placed.{IsNumberAt}
 use Rattle.sector.specs.Records.{AreWide}
 use Rattle.directory.specs.declared.entry.Entry.{Entry}
 use Rattle.directory.specs.Records.{Record, record_of, record_from, IsRecord}
-use Rattle.directory.specs.Spelling.{record_bytes, name_bytes, directory_sector}
+use Rattle.directory.specs.Encoding.{record_bytes, name_bytes, directory_sector}
 
 length_of : (name zeros : List ℕ) → length zeros ≡ 255 → length (take 255 (name ++ zeros)) ≡ 255
 length_of name zeros long = omega (arith, length-take 255 (name ++ zeros), length-append name zeros)
@@ -78,8 +78,8 @@ module _ (sector : List ℕ) (at : ℕ) (other : Record) (rest : List ℕ) (fits
   name_there n len =
       let zeros : List ℕ = replicate (255 - length other.1.name) 0 in
       let behind : drop (at + 17) sector ≡ name_bytes other.1.name ++ rest = sym (drop-drop 17 at sector) ∙ ap (drop 17) there in
-      let spelled : drop (at + 17) sector ≡ other.1.name ++ (zeros ++ rest) = behind ∙ ap (λ (x : List ℕ). x ++ rest) (name_bytes-fits other.1.name fits.few) ∙ append_assoc other.1.name zeros rest in
-      ap (take n) spelled ∙ take_at other.1.name (zeros ++ rest) n (sym len)
+      let encoded : drop (at + 17) sector ≡ other.1.name ++ (zeros ++ rest) = behind ∙ ap (λ (x : List ℕ). x ++ rest) (name_bytes-fits other.1.name fits.few) ∙ append_assoc other.1.name zeros rest in
+      ap (take n) encoded ∙ take_at other.1.name (zeros ++ rest) n (sym len)
 
 pub same_record : (stamp number : ℕ) (name : List ℕ) (other : Record) → stamp ≡ other.0 → name ≡ other.1.name → number ≡ other.1.number → record_from stamp name number ≡ other
 same_record stamp number name other a b c = rw (a, b, c) refl
@@ -89,20 +89,20 @@ same_record stamp number name other a b c = rw (a, b, c) refl
 pub directory_sector-written : (names : List Record) (entries : List Entry) (new : List ℕ) (end count : ℕ) → names ≡ map record_of entries → end ≡ 272 * length entries → length entries ≤ 15 → count ≡ 4096 - end → length new ≡ 4096
     → take (end + count) new ≡ flat_map entry_bytes entries ++ replicate count 0 → new ≡ directory_sector names
 unfolding directory_sector
-directory_sector-written names entries new end count is place few rest len front =
+directory_sector-written names entries new end count is place few rest len prefix =
     let n : length (map record_of entries) ≡ length entries = length-map entries record_of in
     let whole : take (end + count) new ≡ new = take_all (end + count) new (omega arith) in
     let zeros : count ≡ 4096 - 272 * length (map record_of entries) = omega arith in
-    sym whole ∙ front ∙ ap (λ (bytes : List ℕ). bytes ++ replicate count 0) (flat_map-records entries) ∙ ap (λ (k : ℕ). flat_map record_bytes (map record_of entries) ++ replicate k 0) zeros
+    sym whole ∙ prefix ∙ ap (λ (bytes : List ℕ). bytes ++ replicate count 0) (flat_map-records entries) ∙ ap (λ (k : ℕ). flat_map record_bytes (map record_of entries) ++ replicate k 0) zeros
     ∙ ap (λ (rs : List Record). flat_map record_bytes rs ++ replicate (4096 - 272 * length rs) 0) (sym is)
 
 pub sector_written : (names : List Record) (new : List ℕ) (end count : ℕ) → end ≡ 272 * length names → length names ≤ 15 → count ≡ 4096 - end → length new ≡ 4096
     → take (end + count) new ≡ flat_map record_bytes names ++ replicate count 0 → new ≡ directory_sector names
 unfolding directory_sector
-sector_written names new end count place few rest len front =
+sector_written names new end count place few rest len prefix =
     let whole : take (end + count) new ≡ new = take_all (end + count) new (omega arith) in
     let zeros : count ≡ 4096 - 272 * length names = omega arith in
-    sym whole ∙ front ∙ ap (λ (k : ℕ). flat_map record_bytes names ++ replicate k 0) zeros
+    sym whole ∙ prefix ∙ ap (λ (k : ℕ). flat_map record_bytes names ++ replicate k 0) zeros
 
 pub records_there : (others : List Record) (sector : List ℕ) → sector ≡ directory_sector others → drop 0 sector ≡ flat_map record_bytes others ++ replicate (4096 - 272 * length others) 0
 unfolding directory_sector

@@ -4,5 +4,5 @@ pub mod Order
 pub mod Reading
 pub mod Records
 pub mod Rest
-pub mod Spelling
+pub mod Encoding
 pub mod Blocks

@@ -3,9 +3,9 @@
 use Rattle.std.specs.Prelude.{◌≡◌, ℕ, List, length, take, drop, slice_index}
 use Rattle.std.specs.List.{AllByRecursion}
 use Rattle.std.specs.Int.{w64, from_be_bytes}
-use Rattle.sector.specs.Records.{records_at_front}
+use Rattle.sector.specs.Records.{records_at_prefix}
 use Rattle.directory.specs.Records.{Record, IsRecord, record_from}
-use Rattle.directory.specs.Spelling.{directory_sector}
+use Rattle.directory.specs.Encoding.{directory_sector}
 
 -- the record of these bytes
 abbrev pub record_in : List ℕ → Record
@@ -15,7 +15,7 @@ record_in bytes =
 
 -- the first records of a sector
 unfoldable pub records_in : (count : ℕ) → List ℕ → List Record
-records_in count sector = records_at_front record_in 272 count sector
+records_in count sector = records_at_prefix record_in 272 count sector
 
 abbrev pub RecordsReadBack : Type 0
 RecordsReadBack = (names : List Record) → AllByRecursion IsRecord names

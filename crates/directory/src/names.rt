@@ -3,7 +3,7 @@
 ghost use Rattle.std.specs.Prelude.{◌≡◌, ◌≢◌, ◌<◌, ◌≤◌, ◌+◌, ◌++◌, ℕ, List, [], ◌∷◌, Option, Some, None, length, map, take, drop, option_map, slice_index_or, slice_set, IsErrOf, IsTrue, ◌↔◌, IfOk, IfSome, IfNone, OnOk, OnErr, MatchOption};
 ghost use Rattle.std.specs.List.{AllByRecursion};
 ghost use Rattle.model_tree.specs.Trees.Tree.{entry_of};
-ghost use Rattle.directory.specs.Spelling.{directory_sector};
+ghost use Rattle.directory.specs.Encoding.{directory_sector};
 ghost use Rattle.directory.specs.Order.{IsOrder};
 ghost use Rattle.directory.specs.declared.order.By.TheVariants as By;
 ghost use Rattle.directory.specs.Records.{record_of, record_from, name_of, place_of, with_record, without_place, NamesApart, NamesStamped, Record, IsRecord, IsDirectory};

@@ -4,7 +4,7 @@ ghost use Rattle.std.specs.Prelude.{◌≡◌, ◌<◌, ◌≤◌, ◌+◌, ◌^
 ghost use Rattle.std.specs.List.{AllByRecursion};
 ghost use Rattle.std.specs.Rc.{rc_slice_items};
 ghost use Rattle.directory.specs.Records.{Record, record_of, IsRecord};
-ghost use Rattle.directory.specs.Spelling.{record_bytes, directory_sector};
+ghost use Rattle.directory.specs.Encoding.{record_bytes, directory_sector};
 
 use crate::entry::Entry;
 use crate::fault::RecordsFault;
@@ -24,7 +24,7 @@ const WIDTH: usize = 272;
 fn put_record(sector: &mut [u8; SIZE], at: usize, entry: &Entry)
     requires within { at + WIDTH ≤ SIZE }
     requires few { length (rc_slice_items entry.now.name) ≤ MAX_NAME_BYTES }
-    ensures front { take (at + WIDTH) sector.new
+    ensures prefix { take (at + WIDTH) sector.new
         ≡ take at sector.old ++ record_bytes (record_of entry.now) }
     ensures len { length sector.new ≡ SIZE }
 {
@@ -124,9 +124,9 @@ pub fn read_records(
         → length others ≡ count → ¬ (sector.now ≡ directory_sector others) }
 {
     let entries = entries_in(alloc, count, sector)?;
-    let mut spelled = [0; SIZE];
-    write(&entries, &mut spelled);
-    if spelled != *sector {
+    let mut encoded = [0; SIZE];
+    write(&entries, &mut encoded);
+    if encoded != *sector {
         return Err(RecordsFault::NotRecords);
     }
     Ok(entries)

@@ -16,4 +16,4 @@ get_or-holes (b ∷ blocks) n (suc k) = get_or-holes blocks n k
 
 -- what `resize` makes if it does not cut
 pub resized : (blocks : List (Option ℕ)) (len : ℕ) → length blocks ≤ len → take len blocks ++ replicate (len - length blocks) None ≡ with_holes blocks len
-resized blocks len h = ap (λ (front : List (Option ℕ)). front ++ replicate (len - length blocks) None) (take_all len blocks h)
+resized blocks len h = ap (λ (prefix : List (Option ℕ)). prefix ++ replicate (len - length blocks) None) (take_all len blocks h)

@@ -10,14 +10,14 @@ and-false false = refl
 
 pub is_in-yes : (run : Run) (k : ℕ) → run.block ≤ k → k < run.block + run.length → is_in run k ≡ true
 is_in-yes run k low high =
-    let front : leb run.block k ≡ true = le-leb run.block k low in
+    let prefix : leb run.block k ≡ true = le-leb run.block k low in
     let back : ltb k (run.block + run.length) ≡ true = lt-ltb k (run.block + run.length) high in
-    rw (front, back) refl
+    rw (prefix, back) refl
 
 pub is_in-before : (run : Run) (k : ℕ) → k < run.block → is_in run k ≡ false
 is_in-before run k low =
-    let front : leb run.block k ≡ false = lt-leb run.block k low in
-    rw front refl
+    let prefix : leb run.block k ≡ false = lt-leb run.block k low in
+    rw prefix refl
 
 pub is_in-behind : (run : Run) (k : ℕ) → run.block + run.length ≤ k → is_in run k ≡ false
 is_in-behind run k high =

@@ -17,18 +17,18 @@ abbrev pub written : List Run → ℕ → List ℕ
 written runs n = header ++ flat_map run_bytes (take n runs)
 
 pub record IsWritten (sector : List ℕ) (runs : List Run) (n : ℕ) : Type 0 where
-  pub front : take (96 + 8 * n) sector ≡ written runs n
+  pub prefix : take (96 + 8 * n) sector ≡ written runs n
   pub len : length sector ≡ 4096
 
 -- the zeros after the last run end the sector
 pub run_sector-written : (old new : List ℕ) (runs : List Run) (end count : ℕ) → IsWritten old runs (length runs) → length runs ≤ 500 → end ≡ 96 + 8 * length runs → count ≡ 4096 - end → take (end + length (replicate {A = ℕ} count 0)) new ≡ take end old ++ replicate count 0
     → length new ≡ 4096 → new ≡ run_sector runs
-run_sector-written old new runs end count far few place rest front len =
+run_sector-written old new runs end count far few place rest prefix len =
     let counted : length (replicate {A = ℕ} count 0) ≡ count = length-replicate count 0 in
     let whole : take (end + length (replicate {A = ℕ} count 0)) new ≡ new = take_all (end + length (replicate {A = ℕ} count 0)) new (omega (arith, counted)) in
     let zeros : count ≡ 4000 - 8 * length runs = omega arith in
     let all : take (length runs) runs ≡ runs = take_all (length runs) runs (omega arith) in
-    sym whole ∙ front ∙ ap (λ (i : ℕ). take i old ++ replicate count 0) place ∙ ap (λ (bytes : List ℕ). bytes ++ replicate count 0) far.front
+    sym whole ∙ prefix ∙ ap (λ (i : ℕ). take i old ++ replicate count 0) place ∙ ap (λ (bytes : List ℕ). bytes ++ replicate count 0) far.prefix
     ∙ ap (λ (rs : List Run). header ++ flat_map run_bytes rs ++ replicate count 0) all ∙ ap (λ (i : ℕ). header ++ flat_map run_bytes runs ++ replicate i 0) zeros
 
 -- ---- reading

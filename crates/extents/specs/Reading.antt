@@ -3,7 +3,7 @@
 use Rattle.std.specs.Prelude.{◌≡◌, ℕ, List, length, drop}
 use Rattle.std.specs.List.{AllByRecursion}
 use Rattle.std.specs.Int.{w16, w32, from_be_bytes}
-use Rattle.sector.specs.Records.{records_at_front}
+use Rattle.sector.specs.Records.{records_at_prefix}
 use Rattle.extents.specs.declared.run.Run.{Run}
 use Rattle.extents.specs.Sector.{run_sector, IsRun}
 
@@ -17,7 +17,7 @@ run_in bytes = record {
 
 -- the first runs of a run sector
 unfoldable pub runs_in : (count : ℕ) → List ℕ → List Run
-runs_in count sector = records_at_front run_in 8 count (drop 96 sector)
+runs_in count sector = records_at_prefix run_in 8 count (drop 96 sector)
 
 abbrev pub RunsReadBack : Type 0
 RunsReadBack =

@@ -20,7 +20,7 @@ const WIDTH: usize = 8;
 
 fn put_run(sector: &mut [u8; SIZE], at: usize, run: Run)
     requires { at + WIDTH ≤ SIZE }
-    ensures front { take (at + WIDTH) sector.new ≡ take at sector.old ++ run_bytes run }
+    ensures prefix { take (at + WIDTH) sector.new ≡ take at sector.old ++ run_bytes run }
     ensures len { length sector.new ≡ SIZE }
 {
     put_u16(sector, at, run.block);
@@ -85,9 +85,9 @@ pub fn read_run_sector(alloc: Global, sector: &[u8; SIZE]) -> Result<Vec<Run>, E
         → (runs : List Run) → FillSector runs → ¬ (sector.now ≡ run_sector runs) }
 {
     let runs = runs_in(alloc, sector)?;
-    let mut spelled = [0; SIZE];
-    write_run_sector(&runs, &mut spelled);
-    if runs.is_empty() || spelled != *sector {
+    let mut encoded = [0; SIZE];
+    write_run_sector(&runs, &mut encoded);
+    if runs.is_empty() || encoded != *sector {
         return Err(ExtentsFault::NotRuns);
     }
     Ok(runs)

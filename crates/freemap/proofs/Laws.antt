@@ -3,7 +3,7 @@ use Rattle.std.proofs.Common.{◌≡◌, ◌<◌, ◌+◌, ◌-◌, ◌*◌, ◌
 use Rattle.std.proofs.Math.Nat.{pow-suc, div-one}
 use Rattle.std.proofs.lemmas.Nat.{shr-shr}
 use Rattle.std.proofs.lemmas.List.{ext_get_or}
-use Rattle.freemap.specs.Places.{bit_from, bit_of, IsBytes, OneSet, OneSpelling}
+use Rattle.freemap.specs.Places.{bit_from, bit_of, IsBytes, OneSet, OneEncoding}
 use Rattle.freemap.specs.Kept.{HaveSameBits}
 use Rattle.freemap.proofs.Bits.{bit_in-shown}
 
@@ -38,6 +38,6 @@ same_bytes a b len other_len fits other same =
     let both : bit_of a (8 * k + (7 - i)) ≡ bit_of b (8 * k + (7 - i)) = same (8 * k + (7 - i)) within in
     rw (row, column) at both))
 
-pub one_spelling : OneSpelling
-one_spelling places first a b fits other shown again =
+pub one_encoding : OneEncoding
+one_encoding places first a b fits other shown again =
     same_bytes a b shown.len again.len fits other (λ i h. shown.bits i h ∙ sym (again.bits i h))

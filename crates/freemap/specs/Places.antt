@@ -54,8 +54,8 @@ OneSet =
     → Show low high count b → a ≡ b
 
 -- a set has one encoding in a sector
-abbrev pub OneSpelling : Type 0
-OneSpelling =
+abbrev pub OneEncoding : Type 0
+OneEncoding =
     (places : List Bool) (first : ℕ) (a b : List ℕ) → IsBytes a → IsBytes b
     → ShowsPlaces a places first
     → ShowsPlaces b places first → a ≡ b

@@ -1,7 +1,7 @@
 //! The set of used places.
 
 ghost use Rattle.std.specs.Prelude.{◌≡◌, ◌<◌, ◌≤◌, ◌*◌, ◌↔◌, Bool, true, false, List, length, replicate, slice_index_or, slice_get, slice_set, All, IfOk, OnErr, IsTrue};
-ghost use Rattle.freemap.specs.Places.{ShowsPlaces, HaveSamePart, OneSet, OneSpelling};
+ghost use Rattle.freemap.specs.Places.{ShowsPlaces, HaveSamePart, OneSet, OneEncoding};
 ghost use Rattle.freemap.specs.Kept.{free_places, parts};
 
 use crate::fault::Full;
@@ -146,7 +146,7 @@ fn parts_of(count: u32) -> usize
 }
 
 /// Two sectors encode at most one set of a given size, and a set is encoded by one pair of sectors.
-pub fn one_spelling()
+pub fn one_encoding()
     ensures set { OneSet }
-    ensures sectors { OneSpelling }
+    ensures sectors { OneEncoding }
 {}

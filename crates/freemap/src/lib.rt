@@ -6,7 +6,7 @@ mod fault;
 mod places;
 mod sectors;
 
-pub use bitmap::{Bitmap, one_spelling};
+pub use bitmap::{Bitmap, one_encoding};
 pub use fault::{Full, TakeFault};
 pub use places::SharedBitmap;
 pub use sectors::SECTOR_PLACES;

@@ -4,7 +4,7 @@ use Rattle.std.specs.List.{flat_map}
 use Rattle.std.proofs.lemmas.List.{length-replicate}
 use Rattle.directory.specs.Listing.{by_stamp}
 use Rattle.layout.specs.CachedNodes.{CachedNode}
-use Rattle.layout.specs.Known.{IsCard, HasContent}
+use Rattle.layout.specs.Known.{IsCached, HasContent}
 use Rattle.layout.proofs.ChargeLaws.{length-by_stamp}
 use Rattle.model_tree.specs.declared.limits.Limits.{Limits}
 use Rattle.model_tree.specs.declared.node.NodeKind.{NodeKind}
@@ -15,7 +15,7 @@ use Rattle.model_tree.specs.Rights.Mode.{mode_of}
 use Rattle.model.specs.Attributes.NodeAttributes.{node_values, node_attributes, asked_values, common, supported_bitmap, size_of}
 use Rattle.model.specs.Operations.Operation.{Attributes}
 use Rattle.model_tree.specs.Trees.Tree.{Tree, Node, kind_of}
-use Rattle.fs.specs.Outline.{content_shown, node_shown}
+use Rattle.fs.specs.Outline.{content_metadata, node_metadata}
 use Rattle.fs.proofs.AccessLaws.{kind_is}
 use Rattle.volume.specs.Nodes.{IsNodeOf, ShowsContent}
 use Rattle.wire_attributes.specs.declared.node.NodeAttributes.{NodeAttributes}
@@ -33,46 +33,46 @@ answered_by bitmap values = record {
   values = flat_map value_text (asked_values (attributes_of bitmap) values);
 }
 
-module _ (card : CachedNode) where
-  kind_shown : (of : NodeKind) → kind_of (content_shown of card) ≡ of
-  kind_shown kind.File = refl
-  kind_shown kind.Directory = refl
+module _ (cached : CachedNode) where
+  kind_metadata : (of : NodeKind) → kind_of (content_metadata of cached) ≡ of
+  kind_metadata kind.File = refl
+  kind_metadata kind.Directory = refl
 
-  module _ (fit : IsCard card) where
-    names_count : card.fields.kind ≡ kind.Directory → length (by_stamp card.names) ≡ card.fields.size
+  module _ (fit : IsCached cached) where
+    names_count : cached.fields.kind ≡ kind.Directory → length (by_stamp cached.names) ≡ cached.fields.size
     names_count directory =
-        let has = subst (λ (of : NodeKind). HasContent of card) directory fit.content in
-        length-by_stamp card.names has.stamped ∙ has.count
+        let has = subst (λ (of : NodeKind). HasContent of cached) directory fit.content in
+        length-by_stamp cached.names has.stamped ∙ has.count
 
-    size_shown : size_of (content_shown card.fields.kind card) ≡ card.fields.size
-    size_shown = by_kind card.fields.kind refl
+    size_metadata : size_of (content_metadata cached.fields.kind cached) ≡ cached.fields.size
+    size_metadata = by_kind cached.fields.kind refl
       where
-        by_kind : (of : NodeKind) → card.fields.kind ≡ of → size_of (content_shown of card) ≡ card.fields.size
-        by_kind kind.File is = length-replicate card.fields.size 0
+        by_kind : (of : NodeKind) → cached.fields.kind ≡ of → size_of (content_metadata of cached) ≡ cached.fields.size
+        by_kind kind.File is = length-replicate cached.fields.size 0
         by_kind kind.Directory is = names_count is
 
     -- what the node of a tree shows, its cached node shows
-    module _ (limits : Limits) (tree : Tree) (number : ℕ) (is : IsNodeOf tree number card) where
-      size_is : size_of is.node.content ≡ card.fields.size
-      size_is = by_kind card.fields.kind refl is.content
+    module _ (limits : Limits) (tree : Tree) (number : ℕ) (is : IsNodeOf tree number cached) where
+      size_is : size_of is.node.content ≡ cached.fields.size
+      size_is = by_kind cached.fields.kind refl is.content
         where
-          by_kind : (of : NodeKind) → card.fields.kind ≡ of → ShowsContent of card is.node.content → size_of is.node.content ≡ card.fields.size
+          by_kind : (of : NodeKind) → cached.fields.kind ≡ of → ShowsContent of cached is.node.content → size_of is.node.content ≡ cached.fields.size
           by_kind kind.File same file = ap size_of file.file ∙ file.size_is
           by_kind kind.Directory same names = ap size_of names ∙ names_count same
 
-      pub attributes_are : (bitmap : List ℕ) → node_attributes limits bitmap number is.node ≡ node_attributes limits bitmap card.fields.number (node_shown card)
+      pub attributes_are : (bitmap : List ℕ) → node_attributes limits bitmap number is.node ≡ node_attributes limits bitmap cached.fields.number (node_metadata cached)
       unfolding node_attributes answered_by
       attributes_are bitmap = ap (answered_by bitmap)
-          (same_values limits number card.fields.number is.node (node_shown card) (sym is.number_is) (kind_is tree number card is ∙ sym (kind_shown card.fields.kind))
-          (size_is ∙ sym size_shown) is.owner is.group is.acl is.change is.time_modify)
+          (same_values limits number cached.fields.number is.node (node_metadata cached) (sym is.number_is) (kind_is tree number cached is ∙ sym (kind_metadata cached.fields.kind))
+          (size_is ∙ sym size_metadata) is.owner is.group is.acl is.change is.time_modify)
 
     -- and so do the attributes that are returned
-    pub shows : (limits : Limits) (node : NodeAttributes) → node.kind ≡ card.fields.kind → node.number ≡ card.fields.number → node.owner ≡ card.fields.owner → node.group ≡ card.fields.group
-        → node.acl.now ≡ card.fields.acl → node.change ≡ card.fields.change → node.time_modify ≡ card.fields.time_modify
-        → node.size ≡ card.fields.size → node.max_file_size ≡ limits.file_bytes → node.max_name ≡ limits.name_bytes
-        → node.max_transfer ≡ limits.transfer_bytes → (bitmap : List ℕ) → attributes_answered node bitmap ≡ node_attributes limits bitmap card.fields.number (node_shown card)
+    pub shows : (limits : Limits) (node : NodeAttributes) → node.kind ≡ cached.fields.kind → node.number ≡ cached.fields.number → node.owner ≡ cached.fields.owner → node.group ≡ cached.fields.group
+        → node.acl.now ≡ cached.fields.acl → node.change ≡ cached.fields.change → node.time_modify ≡ cached.fields.time_modify
+        → node.size ≡ cached.fields.size → node.max_file_size ≡ limits.file_bytes → node.max_name ≡ limits.name_bytes
+        → node.max_transfer ≡ limits.transfer_bytes → (bitmap : List ℕ) → attributes_answered node bitmap ≡ node_attributes limits bitmap cached.fields.number (node_metadata cached)
     unfolding attributes_answered node_attributes answered_by
     shows limits node kind number owner group acl change time size file name transfer bitmap =
-        let here : map (value_of node) every_attribute ≡ node_values limits card.fields.number (node_shown card)
-        = rw (kind, number, owner, group, acl, change, time, size, file, name, transfer, kind_shown card.fields.kind, size_shown) refl in
+        let here : map (value_of node) every_attribute ≡ node_values limits cached.fields.number (node_metadata cached)
+        = rw (kind, number, owner, group, acl, change, time, size, file, name, transfer, kind_metadata cached.fields.kind, size_metadata) refl in
         ap (answered_by bitmap) here

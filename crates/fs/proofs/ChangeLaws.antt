@@ -19,7 +19,7 @@ use Rattle.volume.specs.Changes.{Given, Ending, Done, Nothing, Broken, EndsAs, I
 use Rattle.volume.specs.declared.fault.VolumeFault.{VolumeFault}
 use Rattle.volume.specs.declared.fault.VolumeFault.TheVariants as volumes
 use Rattle.volume.specs.VolumeState.{VolumeState, IsRecent, StandsForOne, MayAdd, with_tree}
-use Rattle.volume.specs.Shown.{ShowsAs}
+use Rattle.volume.specs.Alike.{ShowsAs}
 
 -- what the definition says may be stated otherwise
 
@@ -58,7 +58,7 @@ waits_by keeps_word given other weaker old new ending lets = record {
   mode = lets.mode;
   waits_on = lets.waits_on;
   at_once = lets.at_once;
-  undone = lets.undone;
+  failed = lets.failed;
   waits = λ keeps done defers after is. lets.waits keeps done defers after (weaker keeps after true is);
 }
 
@@ -92,7 +92,7 @@ lets_nothing_wait keeps_word given old new ending mode same none = record {
   mode = mode;
   waits_on = λ waits. same ∙ waits;
   at_once = λ at. same;
-  undone = λ not_done. same;
+  failed = λ not_done. same;
   waits = λ keeps done defers after is. absurd (none defers after is);
 }
 
@@ -143,7 +143,7 @@ module _ (keeps_word : Type 0) (old new : FileSystem) (before after : ℕ) (endi
       mode = mode;
       waits_on = λ was. waits;
       at_once = λ at. absurd (never_true old.defers defers at);
-      undone = λ not_done. absurd (not_done done);
+      failed = λ not_done. absurd (not_done done);
       waits = λ keeps is_done deferring kept is. waits;
     };
   }
@@ -159,7 +159,7 @@ module _ (keeps_word : Type 0) (old new : FileSystem) (before after : ℕ) (endi
       mode = mode;
       waits_on = λ waits. same ∙ waits;
       at_once = λ at. same;
-      undone = λ undone. same;
+      failed = λ failed. same;
       waits = λ keeps done deferring kept is. absurd (not_done done);
     };
   }
@@ -206,9 +206,9 @@ stays keeps_word old new before after ending no_count mode same changes = record
 }
 
 -- nothing was done yet
-pub waiting : (keeps_word : Type 0) (old new : FileSystem) (failed : ℕ) → new.volume ≡ old.volume → new.changes ≡ old.changes → new.defers ≡ old.defers → old.volume.is_down ≡ false
-    → old.defers ≡ true → new.waits ≡ true → FsChanges keeps_word (IsTree old.volume old.volume.tree) old new failed failed Done
-waiting keeps_word old new failed same counts mode up defers waits = later keeps_word old new failed failed Done (with_tree old.volume old.volume.tree) (λ undone. counts) mode defers waits refl (record {
+pub waiting : (keeps_word : Type 0) (old new : FileSystem) (fault_count : ℕ) → new.volume ≡ old.volume → new.changes ≡ old.changes → new.defers ≡ old.defers → old.volume.is_down ≡ false
+    → old.defers ≡ true → new.waits ≡ true → FsChanges keeps_word (IsTree old.volume old.volume.tree) old new fault_count fault_count Done
+waiting keeps_word old new fault_count same counts mode up defers waits = later keeps_word old new fault_count fault_count Done (with_tree old.volume old.volume.tree) (λ failed. counts) mode defers waits refl (record {
   same = record {
     sectors = ap (λ (h : VolumeState). h.sectors) same;
     limits = ap (λ (h : VolumeState). h.limits) same;
@@ -234,8 +234,8 @@ waiting keeps_word old new failed same counts mode up defers waits = later keeps
 })
 
 -- a call that ends before its change leaves all as it was
-module _ (keeps_word : Type 0) (given : Given) (fs : FileSystem) (failed : ℕ) where
-  pub left : FsChanges keeps_word given fs fs failed failed Nothing
+module _ (keeps_word : Type 0) (given : Given) (fs : FileSystem) (fault_count : ℕ) where
+  pub left : FsChanges keeps_word given fs fs fault_count fault_count Nothing
   left = record {
     volume_changes = record {
       same = record { sectors = refl; limits = refl; run = refl };
@@ -250,7 +250,7 @@ module _ (keeps_word : Type 0) (given : Given) (fs : FileSystem) (failed : ℕ) 
       mode = refl;
       waits_on = λ waits. waits;
       at_once = λ at. refl;
-      undone = λ undone. refl;
+      failed = λ failed. refl;
       waits = λ keeps done defers after is. absurd (nothing_is_done done);
     };
   }
@@ -258,7 +258,7 @@ module _ (keeps_word : Type 0) (given : Given) (fs : FileSystem) (failed : ℕ) 
       nothing_is_done : Nothing ≡ Done → ⊥
       nothing_is_done is = cc
 
-  pub left_by : (refused : NotDone) → FsChanges keeps_word given fs fs failed failed (fs_ending {T = Unit {0}} (Err (fault_of refused)))
+  pub left_by : (refused : NotDone) → FsChanges keeps_word given fs fs fault_count fault_count (fs_ending {T = Unit {0}} (Err (fault_of refused)))
   left_by (refusal.Status reason) = left
   left_by refusal.Memory = left
 

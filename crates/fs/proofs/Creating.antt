@@ -89,10 +89,10 @@ module _ (limits : Limits) (state : State) (now : ℕ) (name : List ℕ) (given 
   own_first : first_refusal (refusals limits state (create_of name given)) ≡ first_refusal own_tests
   unfolding refusals
   own_first =
-      let front : Option Status → Option Status = λ o. refused_or (not (is_key (current state) state.tree)) status.Stale
+      let prefix : Option Status → Option Status = λ o. refused_or (not (is_key (current state) state.tree)) status.Stale
       (refused_or (not (is_directory_at state.tree (current state))) status.NotDir o) in
-      ap (λ (b : Bool). refused_or (not b) status.NoFileHandle (front (first_refusal (arguments ++ behind)))) has
-      ∙ ap front (first-append arguments behind
+      ap (λ (b : Bool). refused_or (not b) status.NoFileHandle (prefix (first_refusal (arguments ++ behind)))) has
+      ∙ ap prefix (first-append arguments behind
       ∙ (ap (or_else (first_refusal arguments)) behind_is ∙ sym (first-append arguments own_behind)))
 
   does_is : (o : Option Status)

@@ -46,14 +46,14 @@ known_number (who.User number) has = ltb-true number (2 ^ 32) has
 known_number (who.NamedGroup number) has = ltb-true number (2 ^ 32) has
 
 -- an entry that a node may have can be encoded
-each_spelled : (of : NodeKind) (acl : List Ace) → list_all (is_entry_for of) acl ≡ true → AllByRecursion IsAce acl
-each_spelled of [] all = tt
-each_spelled of (ace ∷ acl) all =
+each_encoded : (of : NodeKind) (acl : List Ace) → list_all (is_entry_for of) acl ≡ true → AllByRecursion IsAce acl
+each_encoded of [] all = tt
+each_encoded of (ace ∷ acl) all =
     let parts = and_parts _ _ all in
     let entry = and_parts (are_flags_for of ace.flags.0 && is_within ace.mask.0 every_right) (has_width ace.who) parts.0 in
-    let front = and_parts (are_flags_for of ace.flags.0) (is_within ace.mask.0 every_right) entry.0 in (
-      record { flags = few_for of ace.flags.0 front.0; mask = known_rights ace.mask.0 front.1; id = known_number ace.who entry.1 },
-      each_spelled of acl parts.1,
+    let prefix = and_parts (are_flags_for of ace.flags.0) (is_within ace.mask.0 every_right) entry.0 in (
+      record { flags = few_for of ace.flags.0 prefix.0; mask = known_rights ace.mask.0 prefix.1; id = known_number ace.who entry.1 },
+      each_encoded of acl parts.1,
     )
 
 pub record IsSmall (acl : List Ace) (most : ℕ) : Type 0 where
@@ -63,19 +63,19 @@ pub record IsSmall (acl : List Ace) (most : ℕ) : Type 0 where
 pub small_list : (limits : Limits) (of : NodeKind) (acl : List Ace) → IsList limits of acl → IsSmall acl limits.aces
 unfolding is_list_for
 small_list limits of acl is =
-    let front = and_parts _ _ is in
-    let parts = and_parts _ _ front.0 in
-    record { each = each_spelled of acl parts.0; few = leb-true (length acl) limits.aces parts.1 }
+    let prefix = and_parts _ _ is in
+    let parts = and_parts _ _ prefix.0 in
+    record { each = each_encoded of acl parts.0; few = leb-true (length acl) limits.aces parts.1 }
 
 -- no node has more entries than the limit, whatever its form has room for
 pub few_listed : (fs : FileSystem) → MayStand fs.volume fs.changes → fs.volume.limits ≡ limits_of fs.volume.sectors fs.volume.limits.nodes
-    → (number : ℕ) (card : CachedNode) → IsNodeOf fs.volume.tree number card
-    → length card.fields.acl ≤ 72
-few_listed fs formed limited number card node = ∥∥₁_elim formed.well_formed (Prim.hlevel props) (λ well.
+    → (number : ℕ) (cached : CachedNode) → IsNodeOf fs.volume.tree number cached
+    → length cached.fields.acl ≤ 72
+few_listed fs formed limited number cached node = ∥∥₁_elim formed.well_formed (Prim.hlevel props) (λ well.
     let is = well.nodes number (blank_node node.node) (at-without_data fs.volume.tree number ∙ ap (option_map blank_node) node.there) in
     let small = small_list fs.volume.limits _ node.node.acl is.entries in
     let most : fs.volume.limits.aces ≡ 72 = ap (λ (l : Limits). l.aces) limited in
-    let same : length node.node.acl ≡ length card.fields.acl = ap (λ (l : List Ace). length l) node.acl in
+    let same : length node.node.acl ≡ length cached.fields.acl = ap (λ (l : List Ace). length l) node.acl in
     omega (arith, small.few, most, same))
 
 -- the list of a new node may be one if the list that is given may

@@ -60,14 +60,14 @@ module _ (limits : Limits) (state : State) (now : ℕ) where
           let stale = not (is_key (current state) state.tree) in
           let directory = is_directory_at state.tree (current state) in
           let granted = granted_on (at (current state) state.tree) state.context.cred mask in
-          let front : Option Status → Option Status = λ o. refused_or stale status.Stale (refused_or directory status.IsDir o) in
+          let prefix : Option Status → Option Status = λ o. refused_or stale status.Stale (refused_or directory status.IsDir o) in
           let right = without_rights state (here state.context mask) in
           let stateids = state_refusals state.opens state.context access stateid in
-          ap (λ (b : Bool). refused_or (not b) status.NoFileHandle (front (first_refusal (stateids ++ ((right, status.Access) ∷ behind))))) has
-          ∙ ap front (first-append stateids ((right, status.Access) ∷ behind)
+          ap (λ (b : Bool). refused_or (not b) status.NoFileHandle (prefix (first_refusal (stateids ++ ((right, status.Access) ∷ behind))))) has
+          ∙ ap prefix (first-append stateids ((right, status.Access) ∷ behind)
           ∙ ap₂ (λ (o : Option Status) (b : Bool). or_else o (refused_or (not b) status.Access (first_refusal behind))) (verdict_first state access stateid verdict is) (alone granted))
           ∙ regrouped stale directory (not granted) status.Stale status.IsDir status.Access (first_refusal (verdict_refusals verdict)) (first_refusal behind)
-          ∙ ap (λ (o : Option Status). or_else (front o) (first_refusal behind)) (sym (first-append (verdict_refusals verdict) ((not granted, status.Access) ∷ [])))
+          ∙ ap (λ (o : Option Status). or_else (prefix o) (first_refusal behind)) (sym (first-append (verdict_refusals verdict) ((not granted, status.Access) ∷ [])))
 
     -- READ
 

@@ -12,7 +12,7 @@ use Rattle.fs.specs.Listing.{page_of}
 
 -- what is shown so far, the room that it leaves, and the entries after it
 pub record IsFilled (whole room : ℕ) (all rest : List Entry) (shown : List ListedEntry) : Type 0 where
-  pub front : fitting whole all ≡ map entry_view shown ++ fitting room rest
+  pub prefix : fitting whole all ≡ map entry_view shown ++ fitting room rest
   pub count : length shown + length rest ≡ length all
   pub fits : AllByRecursion EntryFits shown
 
@@ -38,7 +38,7 @@ module _ (whole room : ℕ) (all rest : List Entry) (shown : List ListedEntry) w
   pub one_more : (entry : ListedEntry) (size : ℕ) → IsFilled whole room all (entry_view entry ∷ rest) shown → EntryFits entry → size ≡ entry_size (entry_view entry) → size ≤ room
       → IsFilled whole (room - size) all rest (shown ++ entry ∷ [])
   one_more entry size filled fits is low = record {
-    front = filled.front
+    prefix = filled.prefix
         ∙ ap (λ (l : List Entry). map entry_view shown ++ l) (by_room room rest (entry_view entry) true (le-leb (entry_size (entry_view entry)) room (omega (arith, is, low))))
         ∙ sym (append_assoc (map entry_view shown) (entry_view entry ∷ []) (fitting (room - entry_size (entry_view entry)) rest))
         ∙ ap (λ (l : List Entry). l ++ fitting (room - entry_size (entry_view entry)) rest) (sym (map-append entry_view shown (entry ∷ [])))
@@ -50,9 +50,9 @@ module _ (whole room : ℕ) (all rest : List Entry) (shown : List ListedEntry) w
   -- one that there is none for
   pub full : (entry : Entry) → IsFilled whole room all (entry ∷ rest) shown → room < entry_size entry → page_with shown false ≡ page_of whole all
   full entry filled high =
-      let told = filled.front ∙ ap (λ (l : List Entry). map entry_view shown ++ l) (by_room room rest entry false (lt-leb (entry_size entry) room high)) ∙ append-nil (map entry_view shown) in
+      let told = filled.prefix ∙ ap (λ (l : List Entry). map entry_view shown ++ l) (by_room room rest entry false (lt-leb (entry_size entry) room high)) ∙ append-nil (map entry_view shown) in
       page_is whole all shown false told (ne_eqb (length shown) (length all) (λ same. omega (arith, filled.count, same)))
 
 pub ended : (whole room : ℕ) (all : List Entry) (shown : List ListedEntry) → IsFilled whole room all [] shown → page_with shown true ≡ page_of whole all
 ended whole room all shown filled =
-    page_is whole all shown true (filled.front ∙ append-nil (map entry_view shown)) (eq-eqb (length shown) (length all) (omega (arith, filled.count)))
+    page_is whole all shown true (filled.prefix ∙ append-nil (map entry_view shown)) (eq-eqb (length shown) (length all) (omega (arith, filled.count)))

@@ -11,7 +11,7 @@ use Rattle.model_tree.specs.declared.acl.Cred.{Cred}
 use Rattle.model_tree.specs.Rights.Acl.{delete, delete_child}
 use Rattle.model_tree.specs.Trees.Changes.{touched}
 use Rattle.model_tree.specs.Trees.Tree.{number_of_entry, Tree, Node, DirEntry, entry_of, names_at}
-use Rattle.model_tree.specs.Trees.Edit.{Shown, DropNode, Show, PutName, DropName, done, altered, altered_at, showing, with_content, name_put, name_dropped}
+use Rattle.model_tree.specs.Trees.Edit.{Metadata, DropNode, Show, PutName, DropName, done, altered, altered_at, showing, with_content, name_put, name_dropped}
 use Rattle.model_tree.specs.Trees.Keyed.{Keyed, at, with, without, is_key}
 use Rattle.model.specs.Operations.Need.{granted_on}
 use Rattle.model_tree.proofs.Trees.KeyedLaws.{at-with_same, at-with_other, at-without_other}
@@ -57,8 +57,8 @@ flat_altered change keeps tree flat number = by_node (at number tree) refl
     by_node (Some node) is = without_data-with tree number (change node)
         ∙ ap₂ (λ (t : Tree) (one : Node). with t number one) flat (keeps node (node_flat tree flat number node is))
 
-pub flat_shown : (tree : Tree) → without_data tree ≡ tree → (number : ℕ) (shown : Shown) → without_data (done (Show number shown) tree) ≡ done (Show number shown) tree
-flat_shown tree flat number shown = flat_altered (showing shown) (λ node same. ap (λ (n : Node). with_content (showing shown node) n.content) same) tree flat number
+pub flat_metadata : (tree : Tree) → without_data tree ≡ tree → (number : ℕ) (metadata : Metadata) → without_data (done (Show number metadata) tree) ≡ done (Show number metadata) tree
+flat_metadata tree flat number metadata = flat_altered (showing metadata) (λ node same. ap (λ (n : Node). with_content (showing metadata node) n.content) same) tree flat number
 
 pub flat_name_dropped : (tree : Tree) → without_data tree ≡ tree → (number stamp : ℕ) → without_data (done (DropName number stamp) tree) ≡ done (DropName number stamp) tree
 flat_name_dropped tree flat number stamp = flat_altered (name_dropped stamp) (λ node same. refl) tree flat number

@@ -11,7 +11,7 @@ use Rattle.tree_edits.proofs.FitLaws.{fits-without_data}
 use Rattle.model_tree.specs.declared.limits.Limits.{Limits}
 use Rattle.model_tree.specs.declared.node.NodeKind.TheVariants as kind
 use Rattle.model_tree.specs.Trees.Charge.{fits}
-use Rattle.model_tree.specs.Trees.Edit.{Edit, SetSize, Show, Shown, edited, showing, with_content, resized}
+use Rattle.model_tree.specs.Trees.Edit.{Edit, SetSize, Show, Metadata, edited, showing, with_content, resized}
 use Rattle.model_tree.specs.Trees.Keyed.{at, with}
 use Rattle.model_tree.specs.Trees.Stamp.{next_stamp}
 use Rattle.model_tree.specs.Trees.Tree.{Tree, Node, Content, File, Directory, bytes_of, names_of, is_directory}
@@ -44,8 +44,8 @@ few_bytes limits (File bytes) file is = is
 few_bytes limits (Directory names) file is = absurd cc
 
 module _ (fs : FileSystem) (formed : MayStand fs.volume fs.changes) (number : ℕ) (node : Node) (there : at number fs.volume.tree ≡ Some node) (file : is_directory node.content ≡ false)
-    (size : ℕ) (low : size ≤ fs.volume.limits.file_bytes) (shown : Shown) (stamped : shown.change ≡ next_stamp fs.volume.run fs.changes)
-    (listed : IsWellFormed fs.volume.limits (without_data fs.volume.tree) → IsList fs.volume.limits kind.File shown.acl) where
+    (size : ℕ) (low : size ≤ fs.volume.limits.file_bytes) (metadata : Metadata) (stamped : metadata.change ≡ next_stamp fs.volume.run fs.changes)
+    (listed : IsWellFormed fs.volume.limits (without_data fs.volume.tree) → IsList fs.volume.limits kind.File metadata.acl) where
   abbrev limits : Limits
   limits = fs.volume.limits
 
@@ -59,7 +59,7 @@ module _ (fs : FileSystem) (formed : MayStand fs.volume fs.changes) (number : �
   own = next_stamp fs.volume.run fs.changes
 
   abbrev pub wanted : List Edit
-  wanted = SetSize number size ∷ Show number shown ∷ []
+  wanted = SetSize number size ∷ Show number metadata ∷ []
 
   abbrev pub after : Tree
   after = edited wanted tree
@@ -73,16 +73,16 @@ module _ (fs : FileSystem) (formed : MayStand fs.volume fs.changes) (number : �
   -- The trees after the edits
 
   abbrev last : Node
-  last = showing shown (sized node)
+  last = showing metadata (sized node)
 
   abbrev last_flat : Node
-  last_flat = showing shown (sized (blank_node node))
+  last_flat = showing metadata (sized (blank_node node))
 
   after_is : after ≡ with tree number last
-  after_is = altered-twice sized (showing shown) tree number node there
+  after_is = altered-twice sized (showing metadata) tree number node there
 
   same_node : last_flat ≡ blank_node last
-  same_node = ap (λ (bytes : List ℕ). showing shown (with_content node (File bytes))) (resized_blank node.content size)
+  same_node = ap (λ (bytes : List ℕ). showing metadata (with_content node (File bytes))) (resized_blank node.content size)
 
   seen : with flat number last_flat ≡ without_data after
   seen = ap (with flat number) same_node ∙ sym (without_data-with tree number last) ∙ sym (ap without_data after_is)

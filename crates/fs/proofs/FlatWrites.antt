@@ -16,7 +16,7 @@ use Rattle.model_tree.specs.declared.status.Status.TheVariants as status
 use Rattle.model_tree.specs.Rights.Acl.{write_data}
 use Rattle.model_tree.specs.Trees.Changes.{touched}
 use Rattle.model_tree.specs.Trees.Charge.{fits}
-use Rattle.model_tree.specs.Trees.Edit.{Edit, PutBytes, Show, Shown, edited, showing, with_content, overwritten, resized}
+use Rattle.model_tree.specs.Trees.Edit.{Edit, PutBytes, Show, Metadata, edited, showing, with_content, overwritten, resized}
 use Rattle.model.specs.Operations.Files.{are_bytes, taken_bytes, write}
 use Rattle.model_tree.specs.Trees.Keyed.{at, with, is_key}
 use Rattle.model_tree.specs.Trees.Limits.{limits_of}
@@ -30,7 +30,7 @@ use Rattle.model.specs.Operations.Step.{State, does}
 use Rattle.model_tree.specs.Trees.Tree.{Tree, Node, Content, File, Directory, bytes_of, is_directory_at}
 use Rattle.model_tree.specs.Trees.WellFormed.{IsContent}
 use Rattle.model_tree.proofs.Trees.NodeChangeLaws.{altered-twice}
-use Rattle.model.proofs.Operations.RefusalLaws.{none_in_front, none_in_both}
+use Rattle.model.proofs.Operations.RefusalLaws.{none_earlier, none_in_both}
 use Rattle.fs.specs.FileSystem.{FileSystem}
 use Rattle.fs.specs.Files.{permit_refusals, verdict_refusals}
 use Rattle.fs.specs.Ready.{MayStand}
@@ -47,12 +47,12 @@ resized_zeros n size = by_test (nat_le size n) refl
     by_test true is =
         let less = leb-true size n is in
         let none : size - length (zeros n) ≡ 0 = omega (arith, length-zeros n) in
-        ap₂ (λ (front : List ℕ) (k : ℕ). front ++ replicate k 0) (take-replicate size n 0 less) none ∙ append-nil (zeros size)
+        ap₂ (λ (prefix : List ℕ) (k : ℕ). prefix ++ replicate k 0) (take-replicate size n 0 less) none ∙ append-nil (zeros size)
     by_test false is =
         let more = leb-false size n is in
         let rest : size - length (zeros n) ≡ size - n = ap (λ (k : ℕ). size - k) (length-zeros n) in
         let whole : n + (size - n) ≡ size = omega arith in
-        ap₂ (λ (front : List ℕ) (k : ℕ). front ++ replicate k 0) (take_all size (zeros n) (omega (arith, length-zeros n))) rest
+        ap₂ (λ (prefix : List ℕ) (k : ℕ). prefix ++ replicate k 0) (take_all size (zeros n) (omega (arith, length-zeros n))) rest
         ∙ replicate-append-replicate n (size - n) 0 ∙ ap zeros whole
 
 overwritten_zeros : (n offset k : ℕ) → overwritten (zeros n) offset (zeros k) ≡ zeros (length (overwritten (zeros n) offset (zeros k)))
@@ -62,7 +62,7 @@ overwritten_zeros n offset k =
     overwritten-length (zeros n) (zeros k) offset ∙ ap₂ (λ (a b : ℕ). offset + (a + (b - (offset + a)))) (length-zeros k) (length-zeros n) in
     let rest : drop (offset + length (zeros k)) (zeros n) ≡ zeros tail =
     ap (λ (a : ℕ). drop (offset + a) (zeros n)) (length-zeros k) ∙ drop-replicate (offset + k) n 0 in
-    ap₂ (λ (front back : List ℕ). front ++ (zeros k ++ back)) (resized_zeros n offset) rest
+    ap₂ (λ (prefix back : List ℕ). prefix ++ (zeros k ++ back)) (resized_zeros n offset) rest
     ∙ ap (λ (back : List ℕ). zeros offset ++ back) (replicate-append-replicate k tail 0)
     ∙ replicate-append-replicate offset (k + tail) 0 ∙ ap zeros (sym count)
 
@@ -122,17 +122,17 @@ module _ (fs : FileSystem) (formed : MayStand fs.volume fs.changes) (counted : f
   abbrev blanks : List ℕ
   blanks = zeros (length part)
 
-  abbrev shown : Shown
-  shown = touched (Some node) own now
+  abbrev metadata : Metadata
+  metadata = touched (Some node) own now
 
   abbrev pub wanted : List Edit
-  wanted = PutBytes number offset part ∷ Show number shown ∷ []
+  wanted = PutBytes number offset part ∷ Show number metadata ∷ []
 
   abbrev pub after : Tree
   after = edited wanted tree
 
   abbrev wanted_flat : List Edit
-  wanted_flat = PutBytes number offset blanks ∷ Show number shown ∷ []
+  wanted_flat = PutBytes number offset blanks ∷ Show number metadata ∷ []
 
   pub flat_there : at number flat ≡ Some (blank_node node)
   flat_there = at-without_data tree number ∙ ap (option_map blank_node) there
@@ -142,17 +142,17 @@ module _ (fs : FileSystem) (formed : MayStand fs.volume fs.changes) (counted : f
   abbrev put : List ℕ → Node → Node
   put bytes old = with_content old (File (overwritten (bytes_of old.content) offset bytes))
 
-  after_is : after ≡ with tree number (showing shown (put part node))
-  after_is = altered-twice (put part) (showing shown) tree number node there
+  after_is : after ≡ with tree number (showing metadata (put part node))
+  after_is = altered-twice (put part) (showing metadata) tree number node there
 
-  flat_is : edited wanted_flat flat ≡ with flat number (showing shown (put blanks (blank_node node)))
-  flat_is = altered-twice (put blanks) (showing shown) flat number (blank_node node) flat_there
+  flat_is : edited wanted_flat flat ≡ with flat number (showing metadata (put blanks (blank_node node)))
+  flat_is = altered-twice (put blanks) (showing metadata) flat number (blank_node node) flat_there
 
-  same_node : showing shown (put blanks (blank_node node)) ≡ blank_node (showing shown (put part node))
-  same_node = ap (λ (bytes : List ℕ). showing shown (with_content node (File bytes))) (written_blank node.content offset part)
+  same_node : showing metadata (put blanks (blank_node node)) ≡ blank_node (showing metadata (put part node))
+  same_node = ap (λ (bytes : List ℕ). showing metadata (with_content node (File bytes))) (written_blank node.content offset part)
 
   seen : edited wanted_flat flat ≡ without_data after
-  seen = flat_is ∙ ap (with flat number) same_node ∙ sym (without_data-with tree number (showing shown (put part node))) ∙ sym (ap without_data after_is)
+  seen = flat_is ∙ ap (with flat number) same_node ∙ sym (without_data-with tree number (showing metadata (put part node))) ∙ sym (ap without_data after_is)
 
   fits_flat : fits limits (edited wanted_flat flat) ≡ fits limits after
   fits_flat = ap (fits limits) seen ∙ fits-without_data limits after
@@ -164,10 +164,10 @@ module _ (fs : FileSystem) (formed : MayStand fs.volume fs.changes) (counted : f
 
   passed_flat : first_refusal (permit_refusals flat cred number write_data (Ok tt)) ≡ None
   passed_flat =
-      let stale = none_in_front (not (is_key number tree)) status.Stale _ passed in
-      let directory = none_in_front (is_directory_at tree number) status.IsDir _ stale.1 in
+      let stale = none_earlier (not (is_key number tree)) status.Stale _ passed in
+      let directory = none_earlier (is_directory_at tree number) status.IsDir _ stale.1 in
       let stateid = none_in_both (verdict_refusals verdict) ((not (granted_on (at number tree) cred write_data), status.Access) ∷ []) directory.1 in
-      let right = none_in_front (not (granted_on (at number tree) cred write_data)) status.Access None stateid.1 in
+      let right = none_earlier (not (granted_on (at number tree) cred write_data)) status.Access None stateid.1 in
       rw (key-without_data tree number, directory-without_data tree number, granted_flat, stale.0, directory.0, right.0) refl
 
   abbrev flat_arguments : WriteArguments

@@ -172,12 +172,12 @@ module _ (limits : Limits) (tree : Tree) (cred : Cred) (number : ℕ) (state : S
       let other = not (arguments.cookie == 0) && not (bytes_eq arguments.verifier (replicate 8 0)) in
       let asks = asks_lists arguments.bitmap && not (asks_errors arguments.bitmap) in
       let may = may_read_lists state.tree state.context.cred (current state) arguments.cookie in
-      let front : Bool → Bool → Option Status = λ g r. refused_or stale status.Stale (refused_or file status.NotDir (refused_or (not g) status.Access (refused_or other status.NotSame (refused_or r status.Access behind)))) in
+      let prefix : Bool → Bool → Option Status = λ g r. refused_or stale status.Stale (refused_or file status.NotDir (refused_or (not g) status.Access (refused_or other status.NotSame (refused_or r status.Access behind)))) in
       let named = names_after arguments.cookie (names_at state.tree (current state)) in
       let rights = map (λ (name : ℕ × DirEntry). record { number = name.1.number; mask = read_acl } ∷ []) named in
       ap (λ (o : Option Status). or_else o None)
-      (ap (λ (b : Bool). refused_or (not b) status.NoFileHandle (front (are_granted state.tree state.context (here state.context read_data)) (without_rights state (listing_rights state.tree state.context arguments)))) is.has_current
-      ∙ ap₂ front (alone granted) (denied_if state.tree state.context asks may rights (each_read state.tree state.context.cred named))
+      (ap (λ (b : Bool). refused_or (not b) status.NoFileHandle (prefix (are_granted state.tree state.context (here state.context read_data)) (without_rights state (listing_rights state.tree state.context arguments)))) is.has_current
+      ∙ ap₂ prefix (alone granted) (denied_if state.tree state.context asks may rights (each_read state.tree state.context.cred named))
       ∙ regrouped stale file (not granted) other (asks && not may) behind)
       ∙ or_none _
 
@@ -210,8 +210,8 @@ module _ (limits : Limits) (tree : Tree) (cred : Cred) (number : ℕ) (state : S
   list_refused reason first = steps (Some reason) (ap (λ (o : Option Status). or_else o behind) (same_tests ∙ first))
 
   module _ (passed : first_refusal (list_refusals tree cred number arguments) ≡ None) where
-    front_passed : or_else (first_refusal (list_refusals state.tree state.context.cred (current state) arguments)) behind ≡ behind
-    front_passed = ap (λ (o : Option Status). or_else o behind) (same_tests ∙ passed)
+    prefix_passed : or_else (first_refusal (list_refusals state.tree state.context.cred (current state) arguments)) behind ≡ behind
+    prefix_passed = ap (λ (o : Option Status). or_else o behind) (same_tests ∙ passed)
 
     abbrev second : Bool
     second = nat_lt 0 (length (all_entries limits state arguments)) && length (page limits state arguments).entries == 0
@@ -220,7 +220,7 @@ module _ (limits : Limits) (tree : Tree) (cred : Cred) (number : ℕ) (state : S
     late small crowded = refused_or small status.TooSmall (refused_or crowded status.TooSmall None)
 
     pub list_small : nat_lt (page_bytes limits arguments) 16 ≡ true → does limits state now operation ≡ refused state operation status.TooSmall
-    list_small small = steps (Some status.TooSmall) (front_passed ∙ ap (λ (b : Bool). late b second) small)
+    list_small small = steps (Some status.TooSmall) (prefix_passed ∙ ap (λ (b : Bool). late b second) small)
 
     module _ (large : nat_lt (page_bytes limits arguments) 16 ≡ false) (shown : ReadDirAnswer) (shown_is : shown ≡ page_of (page_room limits arguments) all) where
       second_is : second ≡ (nat_lt 0 (length all) && length shown.entries == 0)
@@ -230,10 +230,10 @@ module _ (limits : Limits) (tree : Tree) (cred : Cred) (number : ℕ) (state : S
       end_is = ap (λ (p : ReadDirAnswer). length p.entries == length all) shown_is ∙ sym (ap (λ (p : ReadDirAnswer). p.is_end) shown_is)
 
       pub list_crowded : (length shown.entries == 0) ≡ true → shown.is_end ≡ false → does limits state now operation ≡ refused state operation status.TooSmall
-      list_crowded none short = steps (Some status.TooSmall) (front_passed ∙ ap₂ late large (second_is ∙ crowded_second (length all) (length shown.entries) none (end_is ∙ short)))
+      list_crowded none short = steps (Some status.TooSmall) (prefix_passed ∙ ap₂ late large (second_is ∙ crowded_second (length all) (length shown.entries) none (end_is ∙ short)))
 
       pub list_done : ((length shown.entries == 0) ≡ false) ⊎ (shown.is_end ≡ true) → does limits state now operation ≡ answered state (Answer.ReadDir shown)
-      list_done some = steps None (front_passed ∙ ap₂ late large (second_is ∙ roomy_second (length all) (length shown.entries) (by_end some)))
+      list_done some = steps None (prefix_passed ∙ ap₂ late large (second_is ∙ roomy_second (length all) (length shown.entries) (by_end some)))
           ∙ ap (λ (p : ReadDirAnswer). answered state (Answer.ReadDir p)) (same_page ∙ sym shown_is)
         where
           by_end : ((length shown.entries == 0) ≡ false) ⊎ (shown.is_end ≡ true) → ((length shown.entries == 0) ≡ false) ⊎ ((length shown.entries == length all) ≡ true)

@@ -11,7 +11,7 @@ use Rattle.model_tree.specs.declared.node.NodeKind.{NodeKind}
 use Rattle.model_tree.specs.declared.node.NodeKind.TheVariants as kind
 use Rattle.model_tree.specs.Trees.Changes.{touched}
 use Rattle.model_tree.specs.Trees.Charge.{fits}
-use Rattle.model_tree.specs.Trees.Edit.{Edit, Shown, PutNode, PutName, Show, edited, altered, altered_at, with_content, name_put, showing}
+use Rattle.model_tree.specs.Trees.Edit.{Edit, Metadata, PutNode, PutName, Show, edited, altered, altered_at, with_content, name_put, showing}
 use Rattle.model_tree.specs.Trees.Keyed.{Keyed, at, with, is_key}
 use Rattle.model_tree.specs.Trees.Stamp.{next_stamp}
 use Rattle.model_tree.specs.Trees.Tree.{Tree, Node, File, Directory, DirEntry, names_of, names_at, is_directory, is_directory_node, is_directory_at, entry_of}
@@ -36,10 +36,10 @@ no_names kind.Directory size = refl
 
 -- The trees that its edits leave one after the other
 
-abbrev pub made_by : (stamp number : ℕ) → (child : Node) → DirEntry → Shown → List Edit
-made_by stamp number child entry shown = PutNode stamp child ∷ PutName number stamp entry ∷ Show number shown ∷ []
+abbrev pub made_by : (stamp number : ℕ) → (child : Node) → DirEntry → Metadata → List Edit
+made_by stamp number child entry metadata = PutNode stamp child ∷ PutName number stamp entry ∷ Show number metadata ∷ []
 
-module _ (tree : Tree) (stamp number : ℕ) (child parent : Node) (entry : DirEntry) (shown : Shown) (apart : number ≢ stamp) (there : at number tree ≡ Some parent) where
+module _ (tree : Tree) (stamp number : ℕ) (child parent : Node) (entry : DirEntry) (metadata : Metadata) (apart : number ≢ stamp) (there : at number tree ≡ Some parent) where
   abbrev with_child : Tree
   with_child = with tree stamp child
 
@@ -50,10 +50,10 @@ module _ (tree : Tree) (stamp number : ℕ) (child parent : Node) (entry : DirEn
   with_name = with with_child number named
 
   abbrev last : Node
-  last = showing shown named
+  last = showing metadata named
 
-  abbrev with_shown : Tree
-  with_shown = with with_name number last
+  abbrev with_metadata : Tree
+  with_metadata = with with_name number last
 
   pub parent_there : at number with_child ≡ Some parent
   parent_there = at-with_other tree stamp number child apart ∙ there
@@ -65,8 +65,8 @@ module _ (tree : Tree) (stamp number : ℕ) (child parent : Node) (entry : DirEn
   pub second_is : altered (name_put stamp entry) with_child number ≡ with_name
   second_is = ap (altered_at (name_put stamp entry) with_child number) parent_there
 
-  pub after_is : edited (made_by stamp number child entry shown) tree ≡ with_shown
-  after_is = ap (λ (t : Tree). altered (showing shown) t number) second_is ∙ ap (altered_at (showing shown) with_name number) named_there
+  pub after_is : edited (made_by stamp number child entry metadata) tree ≡ with_metadata
+  after_is = ap (λ (t : Tree). altered (showing metadata) t number) second_is ∙ ap (altered_at (showing metadata) with_name number) named_there
 
 module _ (fs : FileSystem) (formed : MayStand fs.volume fs.changes) (now number : ℕ) (name : List ℕ) (parent : Node) (names : Keyed DirEntry)
     (there : at number fs.volume.tree ≡ Some parent) (content : parent.content ≡ Directory names) where
@@ -85,8 +85,8 @@ module _ (fs : FileSystem) (formed : MayStand fs.volume fs.changes) (now number 
   abbrev pub entry : DirEntry
   entry = record { name = name; number = own }
 
-  abbrev pub shown : Shown
-  shown = touched (Some parent) own now
+  abbrev pub metadata : Metadata
+  metadata = touched (Some parent) own now
 
   same_blank : blank_node parent ≡ parent
   same_blank = ap (with_content parent) (ap blank content ∙ sym content)
@@ -121,12 +121,12 @@ module _ (fs : FileSystem) (formed : MayStand fs.volume fs.changes) (now number 
 
   -- A node of this kind, that has this size after the edits
 
-  module _ (of : NodeKind) (size : ℕ) (made : Shown) where
+  module _ (of : NodeKind) (size : ℕ) (made : Metadata) where
     abbrev pub child : Node
     child = first_node of size made
 
     abbrev pub wanted : List Edit
-    wanted = made_by own number child entry shown
+    wanted = made_by own number child entry metadata
 
     abbrev pub after : Tree
     after = edited wanted tree
@@ -142,9 +142,9 @@ module _ (fs : FileSystem) (formed : MayStand fs.volume fs.changes) (now number 
 
     flat_after : without_data (edited wanted flat) ≡ edited wanted flat
     flat_after =
-        let is = after_is flat own number child parent entry shown apart flat_there in
+        let is = after_is flat own number child parent entry metadata apart flat_there in
         ap without_data is
-        ∙ flat-with (with (with flat own child) number (name_put own entry parent)) number (showing shown (name_put own entry parent))
+        ∙ flat-with (with (with flat own child) number (name_put own entry parent)) number (showing metadata (name_put own entry parent))
         (flat-with (with flat own child) number (name_put own entry parent) (flat-with flat own child (without_data-twice tree) flat_child) refl) refl
         ∙ sym is
 

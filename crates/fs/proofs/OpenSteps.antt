@@ -51,8 +51,8 @@ module _ (limits : Limits) (state : State) (now : ℕ) (asked : OpenArguments) (
     abbrev by_name : OpenArguments
     by_name = record asked { opening = Opening_of of (ByName name) }
 
-    abbrev front : Refusals
-    front = (not (is_key (current state) state.tree), status.Stale)
+    abbrev prefix : Refusals
+    prefix = (not (is_key (current state) state.tree), status.Stale)
         ∷ (share_refusals by_name ++ ((not (is_directory_at state.tree (current state)), status.NotDir) ∷ []))
 
     abbrev names : Refusals
@@ -82,8 +82,8 @@ module _ (limits : Limits) (state : State) (now : ℕ) (asked : OpenArguments) (
         ∙ grouped (first_refusal found) (first_refusal rights) (first_refusal late)
         ∙ ap (λ (o : Option Status). or_else o (first_refusal late)) (sym (first-append found rights))
 
-    place_is : first_refusal (place_tests limits state by_name name) ≡ or_else (first_refusal front) (or_else (first_refusal names) (first_refusal own_look_up))
-    place_is = first-append front (names ++ own_look_up) ∙ ap (or_else (first_refusal front)) (first-append names own_look_up)
+    place_is : first_refusal (place_tests limits state by_name name) ≡ or_else (first_refusal prefix) (or_else (first_refusal names) (first_refusal own_look_up))
+    place_is = first-append prefix (names ++ own_look_up) ∙ ap (or_else (first_refusal prefix)) (first-append names own_look_up)
 
     named_first : first_refusal (refusals limits state (Argument.Open by_name))
         ≡ or_else (first_refusal (place_tests limits state by_name name))
@@ -92,12 +92,12 @@ module _ (limits : Limits) (state : State) (now : ℕ) (asked : OpenArguments) (
     named_first =
         let late = late_at_open limits state by_name in
         let rest = found ++ (rights ++ late) in
-        ap (λ (b : Bool). refused_or (not b) status.NoFileHandle (first_refusal (front ++ (names ++ (look_up ++ rest))))) has
-        ∙ first-append front (names ++ (look_up ++ rest))
-        ∙ ap (or_else (first_refusal front)) (first-append names (look_up ++ rest) ∙ ap (or_else (first_refusal names))
+        ap (λ (b : Bool). refused_or (not b) status.NoFileHandle (first_refusal (prefix ++ (names ++ (look_up ++ rest))))) has
+        ∙ first-append prefix (names ++ (look_up ++ rest))
+        ∙ ap (or_else (first_refusal prefix)) (first-append names (look_up ++ rest) ∙ ap (or_else (first_refusal names))
         (first-append look_up rest ∙ ap₂ or_else look_up_is behind_is))
-        ∙ ap (or_else (first_refusal front)) (grouped (first_refusal names) (first_refusal own_look_up) (or_else (first_refusal (file_tests limits state by_name.access of name)) (first_refusal late)))
-        ∙ grouped (first_refusal front) (or_else (first_refusal names) (first_refusal own_look_up)) (or_else (first_refusal (file_tests limits state by_name.access of name)) (first_refusal late))
+        ∙ ap (or_else (first_refusal prefix)) (grouped (first_refusal names) (first_refusal own_look_up) (or_else (first_refusal (file_tests limits state by_name.access of name)) (first_refusal late)))
+        ∙ grouped (first_refusal prefix) (or_else (first_refusal names) (first_refusal own_look_up)) (or_else (first_refusal (file_tests limits state by_name.access of name)) (first_refusal late))
         ∙ ap (λ (o : Option Status). or_else o (or_else (first_refusal (file_tests limits state by_name.access of name)) (first_refusal late))) (sym place_is)
 
     pub named_by : (o : Option Status)

@@ -2,8 +2,8 @@
 use Rattle.std.proofs.Common.{◌≡◌, ◌≢◌, ◌≤◌, ◌<◌, ◌+◌, ◌⊎◌, ℕ, Bool, true, false, List, [], ◌∷◌, Option, Some, None, length, eqb, refl, sym, ap, ◌∙◌, arith, is_some, inl, inr, bytes_eq, lt_irrefl, true≢false}
 use Rattle.std.proofs.lemmas.Bool.{cases_eq, cases_Bool, eqb-true}
 use Rattle.directory.specs.Records.{record_from}
-use Rattle.tree_transaction.specs.declared.nodes.Shown.{Shown}
-use Rattle.tree_transaction.specs.Nodes.{shown_of}
+use Rattle.tree_transaction.specs.declared.nodes.Metadata.{Metadata}
+use Rattle.tree_transaction.specs.Nodes.{metadata_of}
 use Rattle.tree_edits.specs.declared.edit.Edit.{Edit}
 use Rattle.tree_edits.specs.Edits.{AreEntries, AreDoable}
 use Rattle.model_tree.specs.declared.limits.Limits.{Limits}
@@ -139,8 +139,8 @@ module _ (limits : Limits) (tree : Tree) (well : IsWellFormed limits tree) (own 
 
 -- What its edits require of the tree, only in equalities
 
-abbrev pub moving_edits : Renaming → (old_stamp number stamp : ℕ) → (from_shown to_shown : Shown) → List Edit
-moving_edits asked old_stamp number stamp from_shown to_shown = moving number (old_place asked old_stamp) (new_place asked stamp) from_shown to_shown
+abbrev pub moving_edits : Renaming → (old_stamp number stamp : ℕ) → (from_metadata to_metadata : Metadata) → List Edit
+moving_edits asked old_stamp number stamp from_metadata to_metadata = moving number (old_place asked old_stamp) (new_place asked stamp) from_metadata to_metadata
 
 pub record CanMove (tree : Tree) (asked : Renaming) (old_stamp number own : ℕ) : Type 0 where
   pub from_directory : is_directory_at tree asked.from ≡ true
@@ -185,9 +185,9 @@ zero_open limits tree own from to old_name new_name stamp entry free = by_place 
 
 -- Then it goes to its place
 
-module _ (tree : Tree) (own number old_stamp : ℕ) (asked : Renaming) (from_shown to_shown : Shown) (can : CanMove tree asked old_stamp number own)
+module _ (tree : Tree) (own number old_stamp : ℕ) (asked : Renaming) (from_metadata to_metadata : Metadata) (can : CanMove tree asked old_stamp number own)
     (high : 0 < own) (some : 0 < length asked.new_name.now) (short : length asked.new_name.now ≤ 255)
-    (from_entries : AreEntries (shown_of from_shown).acl) (to_entries : AreEntries (shown_of to_shown).acl) where
+    (from_entries : AreEntries (metadata_of from_metadata).acl) (to_entries : AreEntries (metadata_of to_metadata).acl) where
   abbrev put : DirEntry
   put = record { name = asked.new_name.now; number = number }
 
@@ -197,7 +197,7 @@ module _ (tree : Tree) (own number old_stamp : ℕ) (asked : Renaming) (from_sho
   abbrev second : Tree
   second = done (PutName asked.to own put) first
 
-  pub moved_doable : AreDoable tree (moving_edits asked old_stamp number own from_shown to_shown)
+  pub moved_doable : AreDoable tree (moving_edits asked old_stamp number own from_metadata to_metadata)
   moved_doable = (
     record { there = can.from_directory; number = number; named = can.entry },
     (
@@ -209,7 +209,7 @@ module _ (tree : Tree) (own number old_stamp : ℕ) (asked : Renaming) (from_sho
         },
         (
           record {
-            there = key-altered (showing (shown_of from_shown)) second asked.from asked.to ∙ key-altered (name_put own put) first asked.to asked.to
+            there = key-altered (showing (metadata_of from_metadata)) second asked.from asked.to ∙ key-altered (name_put own put) first asked.to asked.to
                 ∙ key-altered (name_dropped old_stamp) tree asked.from asked.to ∙ can.to_key;
             entries = to_entries;
           },

@@ -33,12 +33,12 @@ only_reads : (keeps_word : Type 0) (old new : FileSystem) (before after : ℕ) (
 only_reads keeps_word old new before after tree ending not_done counts mode same changes = record {
   volume_changes = volume_by keeps_word (IsTree old.volume tree) (deferred old.defers (IsTree old.volume tree))
       (λ kept lasting is. is.1) old.volume new.volume before after ending changes;
-  no_count = λ undone. counts;
+  no_count = λ failed. counts;
   lets_wait = record {
     mode = mode;
     waits_on = λ waits. same ∙ waits;
     at_once = λ at. same;
-    undone = λ undone. same;
+    failed = λ failed. same;
     waits = λ keeps done defers kept is. absurd (not_done done);
   };
 }

@@ -4,13 +4,13 @@ use denote.Ref.{Bor}
 use Rattle.std.proofs.Common.{◌≡◌, ◌<◌, ◌+◌, ◌^◌, ℕ, true, false, List, [], ◌∷◌, Option, Some, None, sym, ap, ◌∙◌, subst}
 use Rattle.std.proofs.lemmas.Bool.{lt-ltb}
 use Rattle.directory.specs.Records.{Record, record_from}
-use Rattle.tree_transaction.specs.declared.nodes.Shown.{Shown}
-use Rattle.tree_transaction.specs.Nodes.{shown_of}
+use Rattle.tree_transaction.specs.declared.nodes.Metadata.{Metadata}
+use Rattle.tree_transaction.specs.Nodes.{metadata_of}
 use Rattle.tree_edits.specs.declared.edit.Edit.{Edit}
 use Rattle.tree_edits.specs.declared.edit.Edit.TheVariants as edit
 use Rattle.tree_edits.specs.Edits.{AreEntries, AreDoable, edits_of}
 use Rattle.layout.specs.CachedNodes.{CachedNode}
-use Rattle.layout.specs.Known.{IsCard}
+use Rattle.layout.specs.Known.{IsCached}
 use Rattle.model_tree.specs.declared.acl.Ace.{Ace}
 use Rattle.model_tree.specs.declared.acl.Cred.{Cred}
 use Rattle.model_tree.specs.declared.status.Status.TheVariants as status
@@ -28,7 +28,7 @@ use Rattle.model.specs.Operations.Step.{State, does, refused}
 use Rattle.model_tree.specs.Trees.Tree.{Tree, Node, names_at, entry_of}
 use Rattle.fs.specs.FileSystem.{FileSystem}
 use Rattle.fs.specs.Operations.{IsOn}
-use Rattle.fs.specs.Planned.{IsPlanned, shown_by}
+use Rattle.fs.specs.Planned.{IsPlanned, metadata_by}
 use Rattle.fs.specs.Ready.{MayStand}
 use Rattle.fs.specs.Removing.{removal_refusals, removed}
 use Rattle.fs.proofs.KeptLaws.{planned_by}
@@ -41,90 +41,90 @@ use Rattle.fs.proofs.EntryLaws.{few_listed}
 
 -- What a cached node shows is what its node does
 
-abbrev shown_with : (stamp now owner group : ℕ) → List Ace → model.Shown
-shown_with stamp now owner group acl = record { owner = owner; group = group; acl = acl; change = stamp; time_modify = now }
+abbrev metadata_with : (stamp now owner group : ℕ) → List Ace → model.Metadata
+metadata_with stamp now owner group acl = record { owner = owner; group = group; acl = acl; change = stamp; time_modify = now }
 
-pub shown_touched : (tree : Tree) (number : ℕ) (card : CachedNode) (is : IsNodeOf tree number card) (stamp now : ℕ) → shown_by card.fields stamp now ≡ touched (at number tree) stamp now
-shown_touched tree number card is stamp now =
-    ap (λ (n : ℕ). shown_with stamp now n card.fields.group card.fields.acl) (sym is.owner)
-    ∙ ap (λ (n : ℕ). shown_with stamp now is.node.owner n card.fields.acl) (sym is.group)
-    ∙ ap (shown_with stamp now is.node.owner is.node.group) (sym is.acl)
+pub metadata_touched : (tree : Tree) (number : ℕ) (cached : CachedNode) (is : IsNodeOf tree number cached) (stamp now : ℕ) → metadata_by cached.fields stamp now ≡ touched (at number tree) stamp now
+metadata_touched tree number cached is stamp now =
+    ap (λ (n : ℕ). metadata_with stamp now n cached.fields.group cached.fields.acl) (sym is.owner)
+    ∙ ap (λ (n : ℕ). metadata_with stamp now is.node.owner n cached.fields.acl) (sym is.group)
+    ∙ ap (metadata_with stamp now is.node.owner is.node.group) (sym is.acl)
     ∙ ap (λ (o : Option Node). touched o stamp now) (sym is.there)
 
-pub change_shown : (tree : Tree) (number : ℕ) (card : CachedNode) (is : IsNodeOf tree number card) → change_of (at number tree) ≡ card.fields.change
-change_shown tree number card is = ap change_of is.there ∙ is.change
+pub change_metadata : (tree : Tree) (number : ℕ) (cached : CachedNode) (is : IsNodeOf tree number cached) → change_of (at number tree) ≡ cached.fields.change
+change_metadata tree number cached is = ap change_of is.there ∙ is.change
 
-pub entries_shown : (fs : FileSystem) → MayStand fs.volume fs.changes → fs.volume.limits ≡ limits_of fs.volume.sectors fs.volume.limits.nodes → (number : ℕ) (card : CachedNode) → IsNodeOf fs.volume.tree number card
-    → (fit : IsCard card) (shown : Shown) (stamp now : ℕ) → shown_of shown ≡ shown_by card.fields stamp now → AreEntries (shown_of shown).acl
-entries_shown fs formed limited number card node fit shown stamp now is =
-    subst (λ (s : model.Shown). AreEntries s.acl) (sym is) (record { few = few_listed fs formed limited number card node; each = fit.fits.each_ace })
+pub entries_metadata : (fs : FileSystem) → MayStand fs.volume fs.changes → fs.volume.limits ≡ limits_of fs.volume.sectors fs.volume.limits.nodes → (number : ℕ) (cached : CachedNode) → IsNodeOf fs.volume.tree number cached
+    → (fit : IsCached cached) (metadata : Metadata) (stamp now : ℕ) → metadata_of metadata ≡ metadata_by cached.fields stamp now → AreEntries (metadata_of metadata).acl
+entries_metadata fs formed limited number cached node fit metadata stamp now is =
+    subst (λ (s : model.Metadata). AreEntries s.acl) (sym is) (record { few = few_listed fs formed limited number cached node; each = fit.fits.each_ace })
 
 module _ (fs : FileSystem) (formed : MayStand fs.volume fs.changes) (counted : fs.changes < 2 ^ 32) (limited : fs.volume.limits ≡ limits_of fs.volume.sectors fs.volume.limits.nodes)
-    (cred : Cred) (now number : ℕ) (card : CachedNode) (spelled : Bor (List ℕ)) (entry_stamp target : ℕ) (node : IsNodeOf fs.volume.tree number card) (fit_card : IsCard card)
-    (found : entry_of spelled.now (names_at fs.volume.tree number) ≡ Some (record_from entry_stamp spelled.now target))
-    (passed : first_refusal (removal_refusals fs.volume.limits fs.volume.tree cred number spelled.now) ≡ None)
-    (stamp : ℕ) (shown : Shown) (edits : List Edit) (stamp_is : stamp ≡ next_stamp fs.volume.run fs.changes)
-    (shown_is : shown_of shown ≡ shown_by card.fields stamp now)
-    (edits_are : edits ≡ edit.DropName number entry_stamp spelled ∷ edit.DropNode target ∷ edit.Show number shown ∷ []) where
+    (cred : Cred) (now number : ℕ) (cached : CachedNode) (encoded : Bor (List ℕ)) (entry_stamp target : ℕ) (node : IsNodeOf fs.volume.tree number cached) (fit_cached : IsCached cached)
+    (found : entry_of encoded.now (names_at fs.volume.tree number) ≡ Some (record_from entry_stamp encoded.now target))
+    (passed : first_refusal (removal_refusals fs.volume.limits fs.volume.tree cred number encoded.now) ≡ None)
+    (stamp : ℕ) (metadata : Metadata) (edits : List Edit) (stamp_is : stamp ≡ next_stamp fs.volume.run fs.changes)
+    (metadata_is : metadata_of metadata ≡ metadata_by cached.fields stamp now)
+    (edits_are : edits ≡ edit.DropName number entry_stamp encoded ∷ edit.DropNode target ∷ edit.Show number metadata ∷ []) where
   abbrev own : ℕ
   own = next_stamp fs.volume.run fs.changes
 
   abbrev entry : Record
-  entry = record_from entry_stamp spelled.now target
+  entry = record_from entry_stamp encoded.now target
 
   abbrev list : List Edit
-  list = edit.DropName number entry_stamp spelled ∷ edit.DropNode target ∷ edit.Show number shown ∷ []
+  list = edit.DropName number entry_stamp encoded ∷ edit.DropNode target ∷ edit.Show number metadata ∷ []
 
   abbrev wanted : List model.Edit
-  wanted = laws.wanted fs formed counted limited cred now number spelled.now entry found passed
+  wanted = laws.wanted fs formed counted limited cred now number encoded.now entry found passed
 
-  shown_then : shown_of shown ≡ touched (at number fs.volume.tree) own now
-  shown_then = shown_is ∙ ap (λ (s : ℕ). shown_by card.fields s now) stamp_is ∙ shown_touched fs.volume.tree number card node own now
+  metadata_then : metadata_of metadata ≡ touched (at number fs.volume.tree) own now
+  metadata_then = metadata_is ∙ ap (λ (s : ℕ). metadata_by cached.fields s now) stamp_is ∙ metadata_touched fs.volume.tree number cached node own now
 
   list_is : edits_of list ≡ wanted
-  list_is = ap (λ (s : model.Shown). DropName number entry_stamp ∷ DropNode target ∷ Show number s ∷ []) shown_then
+  list_is = ap (λ (s : model.Metadata). DropName number entry_stamp ∷ DropNode target ∷ Show number s ∷ []) metadata_then
 
   wanted_is : edits_of edits ≡ wanted
   wanted_is = ap edits_of edits_are ∙ list_is
 
-  pub after_is : edited_by fs.volume edits ≡ laws.after fs formed counted limited cred now number spelled.now entry found passed
+  pub after_is : edited_by fs.volume edits ≡ laws.after fs formed counted limited cred now number encoded.now entry found passed
   after_is = ap (λ (l : List model.Edit). edited l fs.volume.tree) wanted_is
 
   doable_list : AreDoable fs.volume.tree list
   doable_list = (
-    record { there = (laws.is fs formed counted limited cred now number spelled.now entry found passed).directory; number = target; named = found },
+    record { there = (laws.is fs formed counted limited cred now number encoded.now entry found passed).directory; number = target; named = found },
     (
-      laws.node_there fs formed counted limited cred now number spelled.now entry found passed,
+      laws.node_there fs formed counted limited cred now number encoded.now entry found passed,
       (
         record {
-          there = laws.directory_there fs formed counted limited cred now number spelled.now entry found passed;
-          entries = entries_shown fs formed limited number card node fit_card shown stamp now shown_is;
+          there = laws.directory_there fs formed counted limited cred now number encoded.now entry found passed;
+          entries = entries_metadata fs formed limited number cached node fit_cached metadata stamp now metadata_is;
         },
         tt,
       ),
     ),
   )
 
-  list_after : edited_by fs.volume list ≡ laws.after fs formed counted limited cred now number spelled.now entry found passed
+  list_after : edited_by fs.volume list ≡ laws.after fs formed counted limited cred now number encoded.now entry found passed
   list_after = ap (λ (l : List model.Edit). edited l fs.volume.tree) list_is
 
   pub planned : fs.changes + 1 < 2 ^ 32 → IsPlanned fs edits
   planned left = subst (IsPlanned fs) (sym edits_are) (planned_by fs formed counted limited
-      (form.Removing (record { directory = number; stamp = entry_stamp; name = spelled }) target shown) tt doable_list
-      (ap (fits fs.volume.limits) list_after ∙ laws.fit fs formed counted limited cred now number spelled.now entry found passed) left
+      (form.Removing (record { directory = number; stamp = entry_stamp; name = encoded }) target metadata) tt doable_list
+      (ap (fits fs.volume.limits) list_after ∙ laws.fit fs formed counted limited cred now number encoded.now entry found passed) left
       (subst (IsFormed fs.volume.limits (next_stamp fs.volume.run (fs.changes + 1))) (sym list_after)
-      (laws.formed_after fs formed counted limited cred now number spelled.now entry found passed (lt-ltb (fs.changes + 1) (2 ^ 32) left))))
+      (laws.formed_after fs formed counted limited cred now number encoded.now entry found passed (lt-ltb (fs.changes + 1) (2 ^ 32) left))))
 
   module _ (state : State) (on : IsOn fs cred number state) where
     pub used_up : is_stamp_left fs.changes ≡ false
-        → does fs.volume.limits state now (Argument.Remove spelled.now) ≡ refused state (Argument.Remove spelled.now) status.ServerFault
-    used_up none = laws.used_up fs formed counted limited cred now number spelled.now entry found passed state on none
+        → does fs.volume.limits state now (Argument.Remove encoded.now) ≡ refused state (Argument.Remove encoded.now) status.ServerFault
+    used_up none = laws.used_up fs formed counted limited cred now number encoded.now entry found passed state on none
 
-    pub goes_on : is_stamp_left fs.changes ≡ true → (before : ℕ) → before ≡ card.fields.change
-        → does fs.volume.limits state now (Argument.Remove spelled.now)
+    pub goes_on : is_stamp_left fs.changes ≡ true → (before : ℕ) → before ≡ cached.fields.change
+        → does fs.volume.limits state now (Argument.Remove encoded.now)
         ≡ removed (edited_by fs.volume edits) (fs.changes + 1) state (record { number = target; before = before; after = stamp })
     goes_on left before before_is =
-        laws.goes_on fs formed counted limited cred now number spelled.now entry found passed state on left before
-        (change_shown fs.volume.tree number card node ∙ sym before_is)
+        laws.goes_on fs formed counted limited cred now number encoded.now entry found passed state on left before
+        (change_metadata fs.volume.tree number cached node ∙ sym before_is)
         ∙ ap (λ (t : Tree). removed t (fs.changes + 1) state (record { number = target; before = before; after = own })) (sym after_is)
         ∙ ap (λ (s : ℕ). removed (edited_by fs.volume edits) (fs.changes + 1) state (record { number = target; before = before; after = s })) (sym stamp_is)

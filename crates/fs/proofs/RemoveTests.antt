@@ -79,8 +79,8 @@ module _ (limits : Limits) (tree : Tree) (cred : Cred) (number : ℕ) (name : Li
 
 -- In a state
 
-nested : (front : Option Status) (test : Bool) (rest : Option Status)
-    → or_else (or_else front (refused_or test status.NoEnt None)) rest ≡ or_else front (refused_or test status.NoEnt rest)
+nested : (prefix : Option Status) (test : Bool) (rest : Option Status)
+    → or_else (or_else prefix (refused_or test status.NoEnt None)) rest ≡ or_else prefix (refused_or test status.NoEnt rest)
 nested None true rest = refl
 nested None false rest = refl
 nested (Some reason) test rest = refl
@@ -104,15 +104,15 @@ module _ (limits : Limits) (state : State) (now : ℕ) (name : List ℕ) (has : 
       ∷ (without_rights state (need_then state.tree state.context (Argument.Remove name)), status.Access)
       ∷ late limits state (Argument.Remove name)
 
-  abbrev front : Option Status → Option Status
-  front o = refused_or (not (is_key (current state) state.tree)) status.Stale
+  abbrev prefix : Option Status → Option Status
+  prefix o = refused_or (not (is_key (current state) state.tree)) status.Stale
       (refused_or (not (is_directory_at state.tree (current state))) status.NotDir o)
 
   own_first : first_refusal (refusals limits state (Argument.Remove name)) ≡ first_refusal own_tests
   unfolding refusals
   own_first =
-      ap (λ (b : Bool). refused_or (not b) status.NoFileHandle (front (first_refusal ((names ++ ((missing, status.NoEnt) ∷ [])) ++ last)))) has
-      ∙ ap front
+      ap (λ (b : Bool). refused_or (not b) status.NoFileHandle (prefix (first_refusal ((names ++ ((missing, status.NoEnt) ∷ [])) ++ last)))) has
+      ∙ ap prefix
       (first-append (names ++ ((missing, status.NoEnt) ∷ [])) last
       ∙ ap (λ (o : Option Status). or_else o (first_refusal last)) (first-append names ((missing, status.NoEnt) ∷ []))
       ∙ nested (first_refusal names) missing (first_refusal last)

@@ -16,7 +16,7 @@ use Rattle.model_tree.specs.Trees.Changes.{touched, removal, removed_edits}
 use Rattle.model_tree.specs.Trees.Charge.{fits}
 use Rattle.model.specs.Operations.Directory.{change_of}
 use Rattle.model_tree.specs.Trees.Tree.{is_named, number_named, number_of_entry, Tree, Node, DirEntry, is_directory_node, is_directory_at, names_at, entry_of}
-use Rattle.model_tree.specs.Trees.Edit.{Edit, Shown, DropName, DropNode, Show, done, edited, name_dropped}
+use Rattle.model_tree.specs.Trees.Edit.{Edit, Metadata, DropName, DropNode, Show, done, edited, name_dropped}
 use Rattle.model_tree.specs.Trees.Keyed.{Keyed, at, is_key}
 use Rattle.model_tree.specs.Trees.Limits.{limits_of}
 use Rattle.model_tree.specs.Refusals.Name.{name_refusals}
@@ -30,7 +30,7 @@ use Rattle.model.specs.Operations.Step.{State, Stepped, does, answered, refused,
 use Rattle.model_tree.specs.Trees.WellFormed.{IsWellFormed}
 use Rattle.model_tree.proofs.Trees.ChangeLaws.{entry_found, names_in, led_to}
 use Rattle.model_tree.proofs.Trees.EditLaws.{forest_of}
-use Rattle.model.proofs.Operations.RefusalLaws.{none_in_front, none_in_both}
+use Rattle.model.proofs.Operations.RefusalLaws.{none_earlier, none_in_both}
 use Rattle.model_tree.proofs.Facts.OptionLaws.{some≢none}
 use Rattle.volume.specs.Formed.{IsFormed}
 use Rattle.volume.proofs.EditLaws.{fits_alike}
@@ -39,7 +39,7 @@ use Rattle.fs.specs.FileSystem.{FileSystem}
 use Rattle.fs.specs.Operations.{IsOn}
 use Rattle.fs.specs.Ready.{MayStand}
 use Rattle.fs.specs.Removing.{may_remove, removal_refusals, removed}
-use Rattle.fs.proofs.FlatLaws.{touched-without_data, removable-without_data, flat_shown, flat_name_dropped, flat_node_dropped, key-altered, key-dropped}
+use Rattle.fs.proofs.FlatLaws.{touched-without_data, removable-without_data, flat_metadata, flat_name_dropped, flat_node_dropped, key-altered, key-dropped}
 use Rattle.fs.proofs.KeptLaws.{formed_by}
 use Rattle.fs.proofs.RemoveTests as tests
 
@@ -56,12 +56,12 @@ pub record IsRemovable (tree : Tree) (number : ℕ) (entry : ℕ × DirEntry) : 
 pub removable_by : (limits : Limits) (tree : Tree) (cred : Cred) (number : ℕ) (name : List ℕ) (entry : ℕ × DirEntry) → entry_of name (names_at tree number) ≡ Some entry
     → first_refusal (removal_refusals limits tree cred number name) ≡ None → IsRemovable tree number entry
 removable_by limits tree cred number name entry found passed =
-    let stale = none_in_front _ status.Stale _ passed in
-    let place = none_in_front _ status.NotDir _ stale.1 in
+    let stale = none_earlier _ status.Stale _ passed in
+    let place = none_earlier _ status.NotDir _ stale.1 in
     let parts = none_in_both (name_refusals limits name) _ place.1 in
-    let named = none_in_front _ status.NoEnt _ parts.1 in
-    let rights = none_in_front _ status.Access _ named.1 in
-    let names = none_in_front _ status.NotEmpty None rights.1 in
+    let named = none_earlier _ status.NoEnt _ parts.1 in
+    let rights = none_earlier _ status.Access _ named.1 in
+    let names = none_earlier _ status.NotEmpty None rights.1 in
     record {
       directory = not-false _ place.0;
       empty = no_names (names_at tree entry.1.number) (sym (ap (λ (o : Option (ℕ × DirEntry)). has_names tree (number_of_entry o)) found) ∙ names.0);
@@ -174,10 +174,10 @@ module _ (fs : FileSystem) (formed : MayStand fs.volume fs.changes) (counted : f
   flat_edits : removed_edits flat number name own now ≡ wanted
   flat_edits =
       ap (λ (o : Option (ℕ × DirEntry)). removal number o ++ (Show number (touched (at number flat) own now) ∷ [])) (ap (entry_of name) (names-without_data tree number) ∙ found)
-      ∙ ap (λ (shown : Shown). DropName number entry.0 ∷ DropNode entry.1.number ∷ Show number shown ∷ []) (touched-without_data tree number own now)
+      ∙ ap (λ (metadata : Metadata). DropName number entry.0 ∷ DropNode entry.1.number ∷ Show number metadata ∷ []) (touched-without_data tree number own now)
 
   flat_after : without_data (edited wanted flat) ≡ edited wanted flat
-  flat_after = flat_shown (done (DropNode entry.1.number) (done (DropName number entry.0) flat))
+  flat_after = flat_metadata (done (DropNode entry.1.number) (done (DropName number entry.0) flat))
       (flat_node_dropped (done (DropName number entry.0) flat) (flat_name_dropped flat (without_data-twice tree) number entry.0) entry.1.number) number (touched (at number tree) own now)
 
   seen : (remove on now name).state.tree ≡ without_data after

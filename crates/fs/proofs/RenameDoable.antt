@@ -5,8 +5,8 @@ use denote.Ref.{Bor}
 use Rattle.std.proofs.Math.Logic.{∥∥₁_elim}
 use Rattle.std.proofs.Props.{props}
 use Rattle.directory.specs.Records.{record_from}
-use Rattle.tree_transaction.specs.declared.nodes.Shown.{Shown}
-use Rattle.tree_transaction.specs.Nodes.{shown_of}
+use Rattle.tree_transaction.specs.declared.nodes.Metadata.{Metadata}
+use Rattle.tree_transaction.specs.Nodes.{metadata_of}
 use Rattle.tree_edits.specs.declared.edit.Edit.{Edit}
 use Rattle.tree_edits.specs.declared.edit.Edit.TheVariants as edit
 use Rattle.tree_edits.specs.Sizes.{resized_by}
@@ -48,7 +48,7 @@ module _ (fs : FileSystem) (formed : MayStand fs.volume fs.changes) (counted : f
     (passed : first_refusal (moving_refusals fs.volume.limits fs.volume.tree asked.from asked.to (arguments_of asked)) ≡ None)
     (placed : first_refusal (placing_refusals fs.volume.tree cred asked.from asked.to (arguments_of asked)) ≡ None)
     (other : is_itself asked.from asked.to (arguments_of asked) ≡ false)
-    (from_shown to_shown : Shown) (from_entries : AreEntries (shown_of from_shown).acl) (to_entries : AreEntries (shown_of to_shown).acl) where
+    (from_metadata to_metadata : Metadata) (from_entries : AreEntries (metadata_of from_metadata).acl) (to_entries : AreEntries (metadata_of to_metadata).acl) where
   abbrev own : ℕ
   own = next_stamp fs.volume.run fs.changes
 
@@ -81,8 +81,8 @@ module _ (fs : FileSystem) (formed : MayStand fs.volume fs.changes) (counted : f
   pub name_high : 0 < own
   name_high = omega arith
 
-  moved : AreDoable (laws.cleared asked.to target flat) (moving_edits asked old_stamp number own from_shown to_shown)
-  moved = moved_doable (laws.cleared asked.to target flat) own number old_stamp asked from_shown to_shown can_move_there name_high name_is_some name_is_short from_entries to_entries
+  moved : AreDoable (laws.cleared asked.to target flat) (moving_edits asked old_stamp number own from_metadata to_metadata)
+  moved = moved_doable (laws.cleared asked.to target flat) own number old_stamp asked from_metadata to_metadata can_move_there name_high name_is_some name_is_short from_entries to_entries
 
   to_flat : is_directory_at flat asked.to ≡ true
   to_flat = directory-without_data fs.volume.tree asked.to ∙ places.to_directory
@@ -98,8 +98,8 @@ module _ (fs : FileSystem) (formed : MayStand fs.volume fs.changes) (counted : f
           (names-without_data fs.volume.tree one.1 ∙ laws.empty_by fs.volume.tree cred asked one there placed)
           (laws.differs fs formed counted limited cred now asked old_stamp number target found under passed placed other)
 
-  doable_by : (o : Option (ℕ × ℕ)) → IsTarget fs.volume.tree asked o → AreDoable (laws.cleared asked.to o flat) (moving_edits asked old_stamp number own from_shown to_shown)
-      → AreDoable flat (replacing asked.to asked.new_name o ++ moving_edits asked old_stamp number own from_shown to_shown)
+  doable_by : (o : Option (ℕ × ℕ)) → IsTarget fs.volume.tree asked o → AreDoable (laws.cleared asked.to o flat) (moving_edits asked old_stamp number own from_metadata to_metadata)
+      → AreDoable flat (replacing asked.to asked.new_name o ++ moving_edits asked old_stamp number own from_metadata to_metadata)
   doable_by None there rest = rest
   doable_by (Some one) there rest = (
     record { there = to_flat; number = one.1; named = ap (entry_of asked.new_name.now) (names-without_data fs.volume.tree asked.to) ∙ there },
@@ -107,7 +107,7 @@ module _ (fs : FileSystem) (formed : MayStand fs.volume fs.changes) (counted : f
   )
 
   abbrev pub list_at : (stamp : ℕ) → List Edit
-  list_at stamp = replacing asked.to asked.new_name target ++ moving_edits asked old_stamp number stamp from_shown to_shown
+  list_at stamp = replacing asked.to asked.new_name target ++ moving_edits asked old_stamp number stamp from_metadata to_metadata
 
   flat_doable : AreDoable flat (list_at own)
   flat_doable = doable_by target under moved
@@ -121,9 +121,9 @@ module _ (fs : FileSystem) (formed : MayStand fs.volume fs.changes) (counted : f
   zero_by well = zero_open fs.volume.limits (laws.cleared asked.to target flat) own asked.from asked.to asked.old_name.now asked.new_name.now old_stamp
       (record { name = asked.old_name.now; number = number }) (laws.free fs formed counted limited cred now asked old_stamp number target found under passed placed other well)
 
-  measured_by : (o : Option (ℕ × ℕ)) → AreMeasurable flat (replacing asked.to asked.new_name o ++ moving_edits asked old_stamp number own from_shown to_shown)
+  measured_by : (o : Option (ℕ × ℕ)) → AreMeasurable flat (replacing asked.to asked.new_name o ++ moving_edits asked old_stamp number own from_metadata to_metadata)
       → at 0 (names_at (done (DropName asked.from old_stamp) (laws.cleared asked.to o flat)) asked.to) ≡ None
-      → AreMeasurable flat (replacing asked.to asked.new_name o ++ moving_edits asked old_stamp number 0 from_shown to_shown)
+      → AreMeasurable flat (replacing asked.to asked.new_name o ++ moving_edits asked old_stamp number 0 from_metadata to_metadata)
   measured_by None can none = (can.0, (record { there = can.1.0.there; new_stamp = none }, (tt, (tt, tt))))
   measured_by (Some one) can none = (can.0, (can.1.0, (can.1.1.0, (record { there = can.1.1.1.0.there; new_stamp = none }, (tt, (tt, tt))))))
 
@@ -151,15 +151,15 @@ alike_by to name None rest others alike = alike
 alike_by to name (Some one) rest others alike =
     (record { number = refl; resized = λ size. refl }, (record { number = refl; resized = λ size. refl }, alike))
 
-pub moved_room : (limits : Limits) (tree : Tree) (asked : Renaming) (old_stamp number stamp other : ℕ) (target : Option (ℕ × ℕ)) (from_shown to_shown from_other to_other : Shown) → IsRising tree
-    → AreMeasurable tree (replacing asked.to asked.new_name target ++ moving_edits asked old_stamp number stamp from_shown to_shown)
+pub moved_room : (limits : Limits) (tree : Tree) (asked : Renaming) (old_stamp number stamp other : ℕ) (target : Option (ℕ × ℕ)) (from_metadata to_metadata from_other to_other : Metadata) → IsRising tree
+    → AreMeasurable tree (replacing asked.to asked.new_name target ++ moving_edits asked old_stamp number stamp from_metadata to_metadata)
     → AreMeasurable tree (replacing asked.to asked.new_name target ++ moving_edits asked old_stamp number other from_other to_other)
-    → fits limits (edited (edits_of (replacing asked.to asked.new_name target ++ moving_edits asked old_stamp number stamp from_shown to_shown)) tree)
+    → fits limits (edited (edits_of (replacing asked.to asked.new_name target ++ moving_edits asked old_stamp number stamp from_metadata to_metadata)) tree)
     ≡ fits limits (edited (edits_of (replacing asked.to asked.new_name target ++ moving_edits asked old_stamp number other from_other to_other)) tree)
-moved_room limits tree asked old_stamp number stamp other target from_shown to_shown from_other to_other rising can could =
-    same_room limits tree (replacing asked.to asked.new_name target ++ moving_edits asked old_stamp number stamp from_shown to_shown)
+moved_room limits tree asked old_stamp number stamp other target from_metadata to_metadata from_other to_other rising can could =
+    same_room limits tree (replacing asked.to asked.new_name target ++ moving_edits asked old_stamp number stamp from_metadata to_metadata)
     (replacing asked.to asked.new_name target ++ moving_edits asked old_stamp number other from_other to_other)
-    (alike_by asked.to asked.new_name target (moving_edits asked old_stamp number stamp from_shown to_shown) (moving_edits asked old_stamp number other from_other to_other) (
+    (alike_by asked.to asked.new_name target (moving_edits asked old_stamp number stamp from_metadata to_metadata) (moving_edits asked old_stamp number other from_other to_other) (
       record { number = refl; resized = λ size. refl },
       (
         record { number = refl; resized = put_alike asked.to stamp other number asked.new_name },
@@ -170,7 +170,7 @@ moved_room limits tree asked old_stamp number stamp other target from_shown to_s
 
 -- and what both directories show does not matter either
 
-shows_room : (limits : Limits) (tree : Tree) (from to : ℕ) (one two three four : model.Shown) → IsAbove 0 tree
+shows_room : (limits : Limits) (tree : Tree) (from to : ℕ) (one two three four : model.Metadata) → IsAbove 0 tree
     → fits limits (done (Show to two) (done (Show from one) tree)) ≡ fits limits (done (Show to four) (done (Show from three) tree))
 shows_room limits tree from to one two three four above =
     show_room limits (done (Show from one) tree) to two (above_altered (showing one) tree from above) ∙ show_room limits tree from one above
@@ -180,10 +180,10 @@ above_cleared : (tree : Tree) (to : ℕ) (target : Option (ℕ × ℕ)) → IsAb
 above_cleared tree to None above = above
 above_cleared tree to (Some one) above = IsAbove-without (done (DropName to one.0) tree) one.1 0 (above_altered (name_dropped one.0) tree to above)
 
-pub shown_room : (limits : Limits) (tree : Tree) (asked : Renaming) (old_stamp stamp : ℕ) (put : DirEntry) (target : Option (ℕ × ℕ)) (one two three four : model.Shown) → IsAbove 0 tree
+pub metadata_room : (limits : Limits) (tree : Tree) (asked : Renaming) (old_stamp stamp : ℕ) (put : DirEntry) (target : Option (ℕ × ℕ)) (one two three four : model.Metadata) → IsAbove 0 tree
     → fits limits (edited (laws.dropping asked.to target ++ (DropName asked.from old_stamp ∷ PutName asked.to stamp put ∷ Show asked.from one ∷ Show asked.to two ∷ [])) tree)
     ≡ fits limits (edited (laws.dropping asked.to target ++ (DropName asked.from old_stamp ∷ PutName asked.to stamp put ∷ Show asked.from three ∷ Show asked.to four ∷ [])) tree)
-shown_room limits tree asked old_stamp stamp put target one two three four above =
+metadata_room limits tree asked old_stamp stamp put target one two three four above =
     let cleared = laws.cleared asked.to target tree in
     let first = done (DropName asked.from old_stamp) cleared in
     let rises = above_altered (name_put stamp put) first asked.to (above_altered (name_dropped old_stamp) cleared asked.from (above_cleared tree asked.to target above)) in

@@ -8,14 +8,14 @@ use Rattle.std.proofs.lemmas.Bool.{lt-ltb, ltb-true}
 use Rattle.std.specs.Prelude.{IsTrue, option_map, unwrap_or, MatchOption}
 use Rattle.directory.specs.Listing.{by_stamp}
 use Rattle.directory.specs.Records.{Record, NamesStamped, record_from}
-use Rattle.tree_transaction.specs.declared.nodes.Shown.{Shown}
-use Rattle.tree_transaction.specs.Nodes.{shown_of}
+use Rattle.tree_transaction.specs.declared.nodes.Metadata.{Metadata}
+use Rattle.tree_transaction.specs.Nodes.{metadata_of}
 use Rattle.tree_edits.specs.declared.edit.Edit.{Edit}
 use Rattle.tree_edits.specs.Edits.{AreEntries, AreDoable, edits_of}
 use Rattle.tree_edits.specs.Measures.{AreMeasurable}
 use Rattle.model_tree.specs.declared.acl.Cred.{Cred}
 use Rattle.layout.specs.CachedNodes.{CachedNode}
-use Rattle.layout.specs.Known.{IsCard}
+use Rattle.layout.specs.Known.{IsCached}
 use Rattle.model_tree.specs.declared.status.Status.{Status}
 use Rattle.model_tree.specs.Trees.Changes.{touched}
 use Rattle.model_tree.specs.Trees.Charge.{fits}
@@ -32,15 +32,15 @@ use Rattle.fs.specs.declared.renaming.Moving.{Moving}
 use Rattle.fs.specs.declared.renaming.Renaming.{Renaming}
 use Rattle.fs.specs.FileSystem.{FileSystem}
 use Rattle.fs.specs.Making.{AsRoomy, room_tests}
-use Rattle.fs.specs.Planned.{IsPlanned, shown_by}
+use Rattle.fs.specs.Planned.{IsPlanned, metadata_by}
 use Rattle.fs.specs.Ready.{MayStand}
 use Rattle.fs.specs.Renaming.{IsOnBoth, arguments_of, is_itself, renamed}
 use Rattle.fs.specs.RenameTests.{FindsMoving, moving_refusals, placing_refusals, record_under, IsTarget, new_place, old_place}
-use Rattle.fs.proofs.CachedNodeViews.{entry_at, kind_told}
+use Rattle.fs.proofs.CachedNodeViews.{entry_at, encoded_kind}
 use Rattle.fs.proofs.KeptLaws.{planned_by}
 use Rattle.fs.proofs.PlacedLaws.{moving_edits}
-use Rattle.fs.proofs.RenameDoable.{doable_own, measured_at, measured_own, moved_room, shown_room}
-use Rattle.fs.proofs.RemovalPlans.{shown_touched, change_shown, entries_shown}
+use Rattle.fs.proofs.RenameDoable.{doable_own, measured_at, measured_own, moved_room, metadata_room}
+use Rattle.fs.proofs.RemovalPlans.{metadata_touched, change_metadata, entries_metadata}
 use Rattle.fs.proofs.RenamedLaws as laws
 use Rattle.fs.proofs.RoomTests.{HasRoom, above_all, rising_by, told_by}
 use Rattle.volume.specs.Edits.{edited_by}
@@ -59,14 +59,14 @@ module _ (fs : FileSystem) (formed : MayStand fs.volume fs.changes) (counted : f
     (passed : first_refusal (moving_refusals fs.volume.limits fs.volume.tree asked.from asked.to (arguments_of asked)) ≡ None)
     (placed : first_refusal (placing_refusals fs.volume.tree cred asked.from asked.to (arguments_of asked)) ≡ None)
     (other : is_itself asked.from asked.to (arguments_of asked) ≡ false)
-    (from_shown to_shown : Shown) (from_is : shown_of from_shown ≡ touched (at asked.from fs.volume.tree) (next_stamp fs.volume.run fs.changes) now)
-    (to_is : shown_of to_shown ≡ touched (at asked.to fs.volume.tree) (next_stamp fs.volume.run fs.changes) now)
-    (from_entries : AreEntries (shown_of from_shown).acl) (to_entries : AreEntries (shown_of to_shown).acl) where
+    (from_metadata to_metadata : Metadata) (from_is : metadata_of from_metadata ≡ touched (at asked.from fs.volume.tree) (next_stamp fs.volume.run fs.changes) now)
+    (to_is : metadata_of to_metadata ≡ touched (at asked.to fs.volume.tree) (next_stamp fs.volume.run fs.changes) now)
+    (from_entries : AreEntries (metadata_of from_metadata).acl) (to_entries : AreEntries (metadata_of to_metadata).acl) where
   abbrev own : ℕ
   own = next_stamp fs.volume.run fs.changes
 
   abbrev pub list : List Edit
-  list = replacing asked.to asked.new_name target ++ moving_edits asked old_stamp number own from_shown to_shown
+  list = replacing asked.to asked.new_name target ++ moving_edits asked old_stamp number own from_metadata to_metadata
 
   abbrev put : DirEntry
   put = record { name = asked.new_name.now; number = number }
@@ -78,18 +78,18 @@ module _ (fs : FileSystem) (formed : MayStand fs.volume fs.changes) (counted : f
   after = laws.after fs formed counted limited cred now asked old_stamp number target found under passed placed other
 
   wanted_is : edits_of list ≡ wanted
-  wanted_is = edits_are_of asked.to asked.new_name target (moving_edits asked old_stamp number own from_shown to_shown)
-      ∙ ap₂ (λ (a b : model.Shown). laws.dropping asked.to target ++ (DropName asked.from old_stamp ∷ PutName asked.to own put ∷ Show asked.from a ∷ Show asked.to b ∷ [])) from_is to_is
+  wanted_is = edits_are_of asked.to asked.new_name target (moving_edits asked old_stamp number own from_metadata to_metadata)
+      ∙ ap₂ (λ (a b : model.Metadata). laws.dropping asked.to target ++ (DropName asked.from old_stamp ∷ PutName asked.to own put ∷ Show asked.from a ∷ Show asked.to b ∷ [])) from_is to_is
 
   pub after_is : edited_by fs.volume list ≡ after
   after_is = ap (λ (l : List model.Edit). edited l fs.volume.tree) wanted_is
 
   doable : AreDoable fs.volume.tree list
-  doable = doable_own fs formed counted limited cred now asked old_stamp number target found under passed placed other from_shown to_shown from_entries to_entries
+  doable = doable_own fs formed counted limited cred now asked old_stamp number target found under passed placed other from_metadata to_metadata from_entries to_entries
 
   module _ (fit_after : IsTrue (fits fs.volume.limits after)) (left : fs.changes + 1 < 2 ^ 32) where
     pub planned : IsPlanned fs list
-    planned = planned_by fs formed counted limited (form.Moving number (old_place asked old_stamp) (new_place asked own) target from_shown to_shown) tt doable
+    planned = planned_by fs formed counted limited (form.Moving number (old_place asked old_stamp) (new_place asked own) target from_metadata to_metadata) tt doable
         (ap (fits fs.volume.limits) after_is ∙ fit_after) left
         (subst (IsFormed fs.volume.limits (next_stamp fs.volume.run (fs.changes + 1))) (sym after_is)
         (laws.formed_after fs formed counted limited cred now asked old_stamp number target found under passed placed other fit_after (lt-ltb (fs.changes + 1) (2 ^ 32) left)))
@@ -115,11 +115,11 @@ record_mapped name None = refl
 record_mapped name (Some found) = refl
 
 -- what a search of the target directory returns is the target
-pub target_told : (tree : Tree) (asked : Renaming) (card : CachedNode) (node : IsNodeOf tree asked.to card) → IsCard card → is_directory_at tree asked.to ≡ true
-    → (names : List Record) → names ≡ card.names → (target : Option (ℕ × ℕ))
+pub target_told : (tree : Tree) (asked : Renaming) (cached : CachedNode) (node : IsNodeOf tree asked.to cached) → IsCached cached → is_directory_at tree asked.to ≡ true
+    → (names : List Record) → names ≡ cached.names → (target : Option (ℕ × ℕ))
     → (NamesStamped names → option_map (λ (found : ℕ × ℕ). record_from found.0 asked.new_name.now found.1) target ≡ entry_of asked.new_name.now (by_stamp names)) → IsTarget tree asked target
-target_told tree asked card node fit directory names same target told =
-    entry_at tree asked.to card node fit (kind_told tree asked.to card node directory) asked.new_name.now names same (record_under asked.new_name.now target)
+target_told tree asked cached node fit directory names same target told =
+    entry_at tree asked.to cached node fit (encoded_kind tree asked.to cached node directory) asked.new_name.now names same (record_under asked.new_name.now target)
     (λ stamped. sym (record_mapped asked.new_name.now target) ∙ told stamped)
 
 module _ (fs : FileSystem) (formed : MayStand fs.volume fs.changes) (counted : fs.changes < 2 ^ 32) (limited : fs.volume.limits ≡ limits_of fs.volume.sectors fs.volume.limits.nodes)
@@ -128,20 +128,20 @@ module _ (fs : FileSystem) (formed : MayStand fs.volume fs.changes) (counted : f
     (placed : first_refusal (placing_refusals fs.volume.tree cred asked.from asked.to (arguments_of asked)) ≡ None)
     (other : is_itself asked.from asked.to (arguments_of asked) ≡ false) (names : List Record) (names_are : names ≡ moving.to.now.names)
     (told : NamesStamped names → option_map (λ (found : ℕ × ℕ). record_from found.0 asked.new_name.now found.1) target ≡ entry_of asked.new_name.now (by_stamp names))
-    (stamp : ℕ) (from_shown to_shown : Shown) (from_told : shown_of from_shown ≡ shown_by moving.from.now.fields stamp now)
-    (to_told : shown_of to_shown ≡ shown_by moving.to.now.fields stamp now) (edits : List Edit)
-    (edits_told : edits ≡ replacing asked.to asked.new_name target ++ moving_edits asked moving.stamp moving.number stamp from_shown to_shown) where
+    (stamp : ℕ) (from_metadata to_metadata : Metadata) (from_told : metadata_of from_metadata ≡ metadata_by moving.from.now.fields stamp now)
+    (to_told : metadata_of to_metadata ≡ metadata_by moving.to.now.fields stamp now) (edits : List Edit)
+    (edits_told : edits ≡ replacing asked.to asked.new_name target ++ moving_edits asked moving.stamp moving.number stamp from_metadata to_metadata) where
   abbrev stamp_now : ℕ
   stamp_now = next_stamp fs.volume.run fs.changes
 
   pub is_target : IsTarget fs.volume.tree asked target
   is_target = target_told fs.volume.tree asked moving.to.now moved.to moved.to_fits (laws.places_by fs.volume.limits fs.volume.tree asked passed).to_directory names names_are target told
 
-  from_list : AreEntries (shown_of from_shown).acl
-  from_list = entries_shown fs formed limited asked.from moving.from.now moved.from moved.from_fits from_shown stamp now from_told
+  from_list : AreEntries (metadata_of from_metadata).acl
+  from_list = entries_metadata fs formed limited asked.from moving.from.now moved.from moved.from_fits from_metadata stamp now from_told
 
-  to_list : AreEntries (shown_of to_shown).acl
-  to_list = entries_shown fs formed limited asked.to moving.to.now moved.to moved.to_fits to_shown stamp now to_told
+  to_list : AreEntries (metadata_of to_metadata).acl
+  to_list = entries_metadata fs formed limited asked.to moving.to.now moved.to moved.to_fits to_metadata stamp now to_told
 
   abbrev pub tree_after : Tree
   tree_after = laws.after fs formed counted limited cred now asked moving.stamp moving.number target moved.entry is_target passed placed other
@@ -149,8 +149,8 @@ module _ (fs : FileSystem) (formed : MayStand fs.volume fs.changes) (counted : f
   -- Which stamp it has does not matter to the room
 
   module _ (stamp_in : (stamp ≡ next_stamp fs.volume.run fs.changes) ⊎ (stamp ≡ 0)) where
-    list_measured : AreMeasurable fs.volume.tree (replacing asked.to asked.new_name target ++ moving_edits asked moving.stamp moving.number stamp from_shown to_shown)
-    list_measured = measured_at fs formed counted limited cred now asked moving.stamp moving.number target moved.entry is_target passed placed other from_shown to_shown from_list to_list stamp stamp_in
+    list_measured : AreMeasurable fs.volume.tree (replacing asked.to asked.new_name target ++ moving_edits asked moving.stamp moving.number stamp from_metadata to_metadata)
+    list_measured = measured_at fs formed counted limited cred now asked moving.stamp moving.number target moved.entry is_target passed placed other from_metadata to_metadata from_list to_list stamp stamp_in
 
     pub measured_edits : AreMeasurable fs.volume.tree edits
     measured_edits = subst (AreMeasurable fs.volume.tree) (sym edits_told) list_measured
@@ -159,12 +159,12 @@ module _ (fs : FileSystem) (formed : MayStand fs.volume fs.changes) (counted : f
     room_asked = sym (∥∥₁_elim formed.well_formed (Prim.hlevel props) (λ well.
         let put : DirEntry = record { name = asked.new_name.now; number = moving.number } in
         ap (λ (l : List Edit). fits fs.volume.limits (edited_by fs.volume l)) edits_told
-        ∙ moved_room fs.volume.limits fs.volume.tree asked moving.stamp moving.number stamp stamp_now target from_shown to_shown from_shown to_shown
+        ∙ moved_room fs.volume.limits fs.volume.tree asked moving.stamp moving.number stamp stamp_now target from_metadata to_metadata from_metadata to_metadata
         (rising_by fs.volume.limits fs.volume.tree well) list_measured
-        (measured_own fs formed counted limited cred now asked moving.stamp moving.number target moved.entry is_target passed placed other from_shown to_shown from_list to_list)
+        (measured_own fs formed counted limited cred now asked moving.stamp moving.number target moved.entry is_target passed placed other from_metadata to_metadata from_list to_list)
         ∙ ap (λ (l : List model.Edit). fits fs.volume.limits (edited l fs.volume.tree))
-        (edits_are_of asked.to asked.new_name target (moving_edits asked moving.stamp moving.number stamp_now from_shown to_shown))
-        ∙ shown_room fs.volume.limits fs.volume.tree asked moving.stamp stamp_now put target (shown_of from_shown) (shown_of to_shown)
+        (edits_are_of asked.to asked.new_name target (moving_edits asked moving.stamp moving.number stamp_now from_metadata to_metadata))
+        ∙ metadata_room fs.volume.limits fs.volume.tree asked moving.stamp stamp_now put target (metadata_of from_metadata) (metadata_of to_metadata)
         (touched (at asked.from fs.volume.tree) stamp_now now) (touched (at asked.to fs.volume.tree) stamp_now now) (above_all fs.volume.limits fs.volume.tree well)))
 
   pub late : (reason : Status) → first_refusal (room_tests fs tree_after) ≡ Some reason → (state : State) → IsOnBoth fs cred asked.from asked.to state
@@ -174,24 +174,24 @@ module _ (fs : FileSystem) (formed : MayStand fs.volume fs.changes) (counted : f
       (λ fit none. laws.used_up fs formed counted limited cred now asked moving.stamp moving.number target moved.entry is_target passed placed other state on fit none) reason first
 
   module _ (stamp_is : stamp ≡ next_stamp fs.volume.run fs.changes) where
-    from_then : shown_of from_shown ≡ touched (at asked.from fs.volume.tree) stamp_now now
-    from_then = from_told ∙ ap (λ (s : ℕ). shown_by moving.from.now.fields s now) stamp_is ∙ shown_touched fs.volume.tree asked.from moving.from.now moved.from stamp_now now
+    from_then : metadata_of from_metadata ≡ touched (at asked.from fs.volume.tree) stamp_now now
+    from_then = from_told ∙ ap (λ (s : ℕ). metadata_by moving.from.now.fields s now) stamp_is ∙ metadata_touched fs.volume.tree asked.from moving.from.now moved.from stamp_now now
 
-    to_then : shown_of to_shown ≡ touched (at asked.to fs.volume.tree) stamp_now now
-    to_then = to_told ∙ ap (λ (s : ℕ). shown_by moving.to.now.fields s now) stamp_is ∙ shown_touched fs.volume.tree asked.to moving.to.now moved.to stamp_now now
+    to_then : metadata_of to_metadata ≡ touched (at asked.to fs.volume.tree) stamp_now now
+    to_then = to_told ∙ ap (λ (s : ℕ). metadata_by moving.to.now.fields s now) stamp_is ∙ metadata_touched fs.volume.tree asked.to moving.to.now moved.to stamp_now now
 
-    edits_are : edits ≡ replacing asked.to asked.new_name target ++ moving_edits asked moving.stamp moving.number stamp_now from_shown to_shown
-    edits_are = edits_told ∙ ap (λ (s : ℕ). replacing asked.to asked.new_name target ++ moving_edits asked moving.stamp moving.number s from_shown to_shown) stamp_is
+    edits_are : edits ≡ replacing asked.to asked.new_name target ++ moving_edits asked moving.stamp moving.number stamp_now from_metadata to_metadata
+    edits_are = edits_told ∙ ap (λ (s : ℕ). replacing asked.to asked.new_name target ++ moving_edits asked moving.stamp moving.number s from_metadata to_metadata) stamp_is
 
     module _ (room : HasRoom fs tree_after) where
       pub planned_where : IsPlanned fs edits
       planned_where = subst (IsPlanned fs) (sym edits_are)
-          (planned fs formed counted limited cred now asked moving.stamp moving.number target moved.entry is_target passed placed other from_shown to_shown from_then to_then from_list to_list
+          (planned fs formed counted limited cred now asked moving.stamp moving.number target moved.entry is_target passed placed other from_metadata to_metadata from_then to_then from_list to_list
           room.fit (ltb-true (fs.changes + 1) (2 ^ 32) room.left))
 
     edits_after : edited_by fs.volume edits ≡ laws.after fs formed counted limited cred now asked moving.stamp moving.number target moved.entry is_target passed placed other
     edits_after = ap (edited_by fs.volume) edits_are
-        ∙ after_is fs formed counted limited cred now asked moving.stamp moving.number target moved.entry is_target passed placed other from_shown to_shown from_then to_then from_list to_list
+        ∙ after_is fs formed counted limited cred now asked moving.stamp moving.number target moved.entry is_target passed placed other from_metadata to_metadata from_then to_then from_list to_list
 
     module _ (room : HasRoom fs tree_after) where
       module _ (state : State) (on : IsOnBoth fs cred asked.from asked.to state) where
@@ -204,6 +204,6 @@ module _ (fs : FileSystem) (formed : MayStand fs.volume fs.changes) (counted : f
             let out = λ (t : Tree) (s : ℕ) (gone : Option ℕ). renamed t (fs.changes + 1) state (arguments_of asked)
             (record { source = record { before = from_before; after = s }; target = record { before = to_before; after = s }; replaced = gone }) in
             laws.goes_on fs formed counted limited cred now asked moving.stamp moving.number target moved.entry is_target passed placed other state on room.fit room.left
-            from_before to_before (change_shown fs.volume.tree asked.from moving.from.now moved.from ∙ sym from_is) (change_shown fs.volume.tree asked.to moving.to.now moved.to ∙ sym to_is)
+            from_before to_before (change_metadata fs.volume.tree asked.from moving.from.now moved.from ∙ sym from_is) (change_metadata fs.volume.tree asked.to moving.to.now moved.to ∙ sym to_is)
             ∙ ap (λ (t : Tree). out t stamp_now (option_map (λ (f : ℕ × ℕ). f.1) target)) (sym edits_after)
             ∙ ap₂ (out (edited_by fs.volume edits)) (sym stamp_is) (sym replaced_is)

@@ -21,9 +21,9 @@ use Rattle.model.proofs.Operations.RefusalLaws.{first-append, or_else}
 use Rattle.fs.specs.declared.renaming.Planned.{Planned}
 use Rattle.fs.specs.RenameTests.{directory_refusals, moving_refusals, placing_refusals}
 
-or_behind : (test : Bool) (reason : Status) (front rest : Option Status) → refused_or test reason (or_else front rest) ≡ or_else (refused_or test reason front) rest
-or_behind true reason front rest = refl
-or_behind false reason front rest = refl
+or_behind : (test : Bool) (reason : Status) (prefix rest : Option Status) → refused_or test reason (or_else prefix rest) ≡ or_else (refused_or test reason prefix) rest
+or_behind true reason prefix rest = refl
+or_behind false reason prefix rest = refl
 
 -- Both directories and the old name
 
@@ -84,13 +84,13 @@ module _ (limits : Limits) (state : State) (now : ℕ) (arguments : RenameArgume
       ∷ (without_rights state (need_then state.tree state.context (Argument.Rename arguments)), status.Access)
       ∷ late limits state (Argument.Rename arguments)
 
-  abbrev front : Option Status → Option Status
-  front o = refused_or (not (is_key (saved state) state.tree)) status.Stale
+  abbrev prefix : Option Status → Option Status
+  prefix o = refused_or (not (is_key (saved state) state.tree)) status.Stale
       (refused_or (not (is_directory_at state.tree (saved state))) status.NotDir
       (refused_or (not (is_directory_at state.tree (current state))) status.NotDir o))
 
-  front_behind : (o rest : Option Status) → front (or_else o rest) ≡ or_else (front o) rest
-  front_behind o rest =
+  prefix_behind : (o rest : Option Status) → prefix (or_else o rest) ≡ or_else (prefix o) rest
+  prefix_behind o rest =
       ap (λ (p : Option Status). refused_or (not (is_key (saved state) state.tree)) status.Stale (refused_or (not (is_directory_at state.tree (saved state))) status.NotDir p))
       (or_behind (not (is_directory_at state.tree (current state))) status.NotDir o rest)
       ∙ ap (λ (p : Option Status). refused_or (not (is_key (saved state) state.tree)) status.Stale p)
@@ -103,11 +103,11 @@ module _ (limits : Limits) (state : State) (now : ℕ) (arguments : RenameArgume
   all_first =
       let stale = not (is_key (current state) state.tree) in
       ap (λ (b : Bool). refused_or (not b) status.NoFileHandle (refused_or stale status.Stale
-      (refused_or (not (has_saved state.context)) status.NoFileHandle (front (first_refusal (names ++ last)))))) has
-      ∙ ap (λ (b : Bool). refused_or stale status.Stale (refused_or (not b) status.NoFileHandle (front (first_refusal (names ++ last))))) saves
-      ∙ ap (λ (o : Option Status). refused_or stale status.Stale (front o)) (first-append names last)
-      ∙ ap (refused_or stale status.Stale) (front_behind (first_refusal names) (first_refusal last))
-      ∙ or_behind stale status.Stale (front (first_refusal names)) (first_refusal last)
+      (refused_or (not (has_saved state.context)) status.NoFileHandle (prefix (first_refusal (names ++ last)))))) has
+      ∙ ap (λ (b : Bool). refused_or stale status.Stale (refused_or (not b) status.NoFileHandle (prefix (first_refusal (names ++ last))))) saves
+      ∙ ap (λ (o : Option Status). refused_or stale status.Stale (prefix o)) (first-append names last)
+      ∙ ap (refused_or stale status.Stale) (prefix_behind (first_refusal names) (first_refusal last))
+      ∙ or_behind stale status.Stale (prefix (first_refusal names)) (first_refusal last)
 
   -- after them comes nothing if a name is renamed to itself
   abbrev behind : Bool → Option Status

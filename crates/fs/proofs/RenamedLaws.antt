@@ -16,7 +16,7 @@ use Rattle.model_tree.specs.Trees.Changes.{touched, removal, moving, renamed_edi
 use Rattle.model_tree.specs.Trees.Charge.{fits}
 use Rattle.model.specs.Operations.Directory.{change_of}
 use Rattle.model_tree.specs.Trees.Tree.{is_named, number_of_entry, Tree, DirEntry, is_directory_at, names_at, entry_of}
-use Rattle.model_tree.specs.Trees.Edit.{Edit, Shown, DropName, DropNode, PutName, Show, done, edited}
+use Rattle.model_tree.specs.Trees.Edit.{Edit, Metadata, DropName, DropNode, PutName, Show, done, edited}
 use Rattle.model_tree.specs.Trees.Keyed.{at}
 use Rattle.model_tree.specs.Trees.Limits.{limits_of}
 use Rattle.model_tree.specs.Refusals.Name.{name_refusals}
@@ -31,7 +31,7 @@ use Rattle.model.specs.Sessions.StateIds.{without_number}
 use Rattle.model.specs.Operations.Step.{State, Stepped, does, answered, refused, current, saved, stamp_of}
 use Rattle.model_tree.specs.Trees.WellFormed.{IsWellFormed}
 use Rattle.model_tree.proofs.Facts.BooleanLaws.{second_of_neither, second_false}
-use Rattle.model.proofs.Operations.RefusalLaws.{none_in_front, none_in_both}
+use Rattle.model.proofs.Operations.RefusalLaws.{none_earlier, none_in_both}
 use Rattle.model.proofs.Operations.StepProofs.{other_way}
 use Rattle.volume.specs.Formed.{IsFormed}
 use Rattle.volume.proofs.EditLaws.{fits_alike}
@@ -40,7 +40,7 @@ use Rattle.fs.specs.FileSystem.{FileSystem}
 use Rattle.fs.specs.Ready.{MayStand}
 use Rattle.fs.specs.Renaming.{IsOnBoth, arguments_of, is_itself, opens_after, without_replaced, renamed}
 use Rattle.fs.specs.RenameTests.{moving_refusals, placing_refusals, target_in, record_under, IsTarget}
-use Rattle.fs.proofs.FlatLaws.{touched-without_data, flat_shown, flat_name_dropped, flat_name_put, flat_node_dropped}
+use Rattle.fs.proofs.FlatLaws.{touched-without_data, flat_metadata, flat_name_dropped, flat_name_put, flat_node_dropped}
 use Rattle.fs.proofs.KeptLaws.{formed_by}
 use Rattle.fs.proofs.PlacedLaws.{IsFree, free_there, free_then}
 use Rattle.fs.proofs.RemovedLaws.{no_names}
@@ -112,10 +112,10 @@ pub record HasPlaces (limits : Limits) (tree : Tree) (asked : Renaming) : Type 0
 
 pub places_by : (limits : Limits) (tree : Tree) (asked : Renaming) → first_refusal (moving_refusals limits tree asked.from asked.to (arguments_of asked)) ≡ None → HasPlaces limits tree asked
 places_by limits tree asked passed =
-    let to_there = none_in_front _ status.Stale _ passed in
-    let from_there = none_in_front _ status.Stale _ to_there.1 in
-    let from_place = none_in_front _ status.NotDir _ from_there.1 in
-    let to_place = none_in_front _ status.NotDir _ from_place.1 in
+    let to_there = none_earlier _ status.Stale _ passed in
+    let from_there = none_earlier _ status.Stale _ to_there.1 in
+    let from_place = none_earlier _ status.NotDir _ from_there.1 in
+    let to_place = none_earlier _ status.NotDir _ from_place.1 in
     let old_name = none_in_both (name_refusals limits asked.old_name.now) _ to_place.1 in
     let new_name = none_in_both (name_refusals limits asked.new_name.now) _ old_name.1 in
     record { from_directory = not-false _ from_place.0; to_directory = not-false _ to_place.0; allowed = new_name.0 }
@@ -123,9 +123,9 @@ places_by limits tree asked passed =
 pub empty_by : (tree : Tree) (cred : Cred) (asked : Renaming) (found : ℕ × ℕ) → IsTarget tree asked (Some found)
     → first_refusal (placing_refusals tree cred asked.from asked.to (arguments_of asked)) ≡ None → names_at tree found.1 ≡ []
 empty_by tree cred asked found under placed =
-    let rights = none_in_front _ status.Access _ placed in
-    let below = none_in_front _ status.Inval _ rights.1 in
-    let exists = none_in_front _ status.Exist None below.1 in
+    let rights = none_earlier _ status.Access _ placed in
+    let below = none_earlier _ status.Inval _ rights.1 in
+    let exists = none_earlier _ status.Exist None below.1 in
     no_names (names_at tree found.1) (sym (ap (λ (o : Option (ℕ × DirEntry)). has_names tree (number_of_entry o)) under)
     ∙ second_of_neither _ (has_names tree (target_in tree asked.to (arguments_of asked)))
     (second_false (is_named tree asked.to asked.new_name.now) _ exists.0 (ap is_some under)))
@@ -230,14 +230,14 @@ module _ (fs : FileSystem) (formed : MayStand fs.volume fs.changes) (counted : f
 
   flat_edits : renamed_edits flat asked.from asked.to asked.old_name.now asked.new_name.now own now ≡ wanted
   flat_edits =
-      let shows = λ (a b : Shown). Show asked.from a ∷ Show asked.to b ∷ [] in
+      let shows = λ (a b : Metadata). Show asked.from a ∷ Show asked.to b ∷ [] in
       ap (λ (o : Option (ℕ × DirEntry)). removal asked.to o ++ (moving asked.from asked.to (entry_of asked.old_name.now (names_at flat asked.from)) asked.new_name.now own
       ++ shows (touched (at asked.from flat) own now) (touched (at asked.to flat) own now))) (ap (entry_of asked.new_name.now) (names-without_data tree asked.to) ∙ under)
       ∙ ap (λ (l : List Edit). l ++ (moving asked.from asked.to (entry_of asked.old_name.now (names_at flat asked.from)) asked.new_name.now own
       ++ shows (touched (at asked.from flat) own now) (touched (at asked.to flat) own now))) (removal_is asked.to asked.new_name.now target)
       ∙ ap (λ (o : Option (ℕ × DirEntry)). dropping asked.to target ++ (moving asked.from asked.to o asked.new_name.now own
       ++ shows (touched (at asked.from flat) own now) (touched (at asked.to flat) own now))) (ap (entry_of asked.old_name.now) (names-without_data tree asked.from) ∙ found)
-      ∙ ap₂ (λ (a b : Shown). dropping asked.to target ++ (DropName asked.from old_stamp ∷ PutName asked.to own put ∷ shows a b)) (touched-without_data tree asked.from own now) (touched-without_data tree asked.to own now)
+      ∙ ap₂ (λ (a b : Metadata). dropping asked.to target ++ (DropName asked.from old_stamp ∷ PutName asked.to own put ∷ shows a b)) (touched-without_data tree asked.from own now) (touched-without_data tree asked.to own now)
 
   flat_after : without_data (edited wanted flat) ≡ edited wanted flat
   flat_after =
@@ -246,7 +246,7 @@ module _ (fs : FileSystem) (formed : MayStand fs.volume fs.changes) (counted : f
       let two = done (PutName asked.to own put) one in
       let three = done (Show asked.from (touched (at asked.from tree) own now)) two in
       ap without_data (cleared_is asked.to target behind_drops flat)
-      ∙ flat_shown three (flat_shown two (flat_name_put one (flat_name_dropped base (flat_cleared asked.to target flat (without_data-twice tree)) asked.from old_stamp) asked.to own put)
+      ∙ flat_metadata three (flat_metadata two (flat_name_put one (flat_name_dropped base (flat_cleared asked.to target flat (without_data-twice tree)) asked.from old_stamp) asked.to own put)
       asked.from (touched (at asked.from tree) own now)) asked.to (touched (at asked.to tree) own now)
       ∙ sym (cleared_is asked.to target behind_drops flat)
 

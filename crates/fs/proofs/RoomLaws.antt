@@ -7,7 +7,7 @@ use Rattle.tree_edits.specs.Outlines.{without_data}
 use Rattle.tree_edits.proofs.NamedLaws.{few-at}
 use Rattle.model_tree.specs.declared.limits.Limits.{Limits}
 use Rattle.model_tree.specs.Trees.Charge.{blocks, charge, charge_of_blocks, fits}
-use Rattle.model_tree.specs.Trees.Edit.{Shown, Show, DropName, DropNode, PutName, SetSize, done, name_dropped, name_put, showing, altered, altered_at, with_content, resized}
+use Rattle.model_tree.specs.Trees.Edit.{Metadata, Show, DropName, DropNode, PutName, SetSize, done, name_dropped, name_put, showing, altered, altered_at, with_content, resized}
 use Rattle.model_tree.specs.Trees.Keyed.{Keyed, at, with, without, kept_or_not, before_or_behind, in_place_of, total, worth_at, IsAbove}
 use Rattle.model_tree.specs.Trees.Tree.{Tree, Node, Content, DirEntry, File, Directory, bytes_of, names_of, is_directory, is_directory_at, is_directory_node}
 use Rattle.model_tree.proofs.Trees.KeyedLaws.{at-with_same, at-with_other, at-without_same, at-without_other, at-above, some≢none, IsAbove-with, IsAbove-without, total-with, total-without}
@@ -96,17 +96,17 @@ module _ (change : Node → Node) (tree : Tree) (number : ℕ) (above : IsAbove 
 
 -- Show
 
-pub above_shown : (tree : Tree) (number : ℕ) (shown : Shown) → IsAbove 0 tree → IsAbove 0 (done (Show number shown) tree)
-above_shown tree number shown above = above_altered (showing shown) tree number above
+pub above_metadata : (tree : Tree) (number : ℕ) (metadata : Metadata) → IsAbove 0 tree → IsAbove 0 (done (Show number metadata) tree)
+above_metadata tree number metadata above = above_altered (showing metadata) tree number above
 
-pub show_room : (limits : Limits) (tree : Tree) (number : ℕ) (shown : Shown) → IsAbove 0 tree → fits limits (done (Show number shown) tree) ≡ fits limits tree
-show_room limits tree number shown above = by_node (at number tree) refl
+pub show_room : (limits : Limits) (tree : Tree) (number : ℕ) (metadata : Metadata) → IsAbove 0 tree → fits limits (done (Show number metadata) tree) ≡ fits limits tree
+show_room limits tree number metadata above = by_node (at number tree) refl
   where
-    by_node : (found : Option Node) → at number tree ≡ found → fits limits (altered_at (showing shown) tree number found) ≡ fits limits tree
+    by_node : (found : Option Node) → at number tree ≡ found → fits limits (altered_at (showing metadata) tree number found) ≡ fits limits tree
     by_node None is = refl
-    by_node (Some old) is = both (fits limits tree) (fits limits (with tree number (showing shown old)))
-        (replaced_room tree number (showing shown old) old above is limits (omega arith) (omega arith))
-        (replaced_room_back tree number (showing shown old) old above is limits (omega arith) (omega arith))
+    by_node (Some old) is = both (fits limits tree) (fits limits (with tree number (showing metadata old)))
+        (replaced_room tree number (showing metadata old) old above is limits (omega arith) (omega arith))
+        (replaced_room_back tree number (showing metadata old) old above is limits (omega arith) (omega arith))
 
 -- Names that are dropped
 

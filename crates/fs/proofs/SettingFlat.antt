@@ -13,23 +13,23 @@ use Rattle.model_tree.specs.declared.status.Status.{Status}
 use Rattle.model_tree.specs.declared.status.Status.TheVariants as status
 use Rattle.model.specs.Attributes.Attribute.{attribute_refusals, attributes_of, settable_at_setattr, size_given}
 use Rattle.model_tree.specs.Trees.Charge.{fits}
-use Rattle.model_tree.specs.Trees.Edit.{Edit, SetSize, Show, Shown, edited, done, with_content, resized}
+use Rattle.model_tree.specs.Trees.Edit.{Edit, SetSize, Show, Metadata, edited, done, with_content, resized}
 use Rattle.model_tree.specs.Trees.Keyed.{at, is_key}
 use Rattle.model_tree.specs.Trees.Limits.{limits_of}
 use Rattle.model.specs.Operations.Need.{granted_on}
 use Rattle.model.specs.Operations.Operation.{Argument, Attributes, SetAttrArguments}
 use Rattle.model_tree.specs.Refusals.Refusal.{Refusals, first_refusal}
-use Rattle.model.specs.Operations.SetAttr.{kind_at, set_attributes, sets, sets_size, shown_set, size_edits}
+use Rattle.model.specs.Operations.SetAttr.{kind_at, set_attributes, sets, sets_size, metadata_set, size_edits}
 use Rattle.model_tree.specs.Trees.Stamp.{next_stamp, is_stamp_left}
 use Rattle.model.specs.Operations.Step.{State, does}
 use Rattle.model_tree.specs.Trees.Tree.{Tree, Node, File, bytes_of, is_directory_at}
-use Rattle.model.proofs.Operations.RefusalLaws.{none_in_front, none_in_both}
+use Rattle.model.proofs.Operations.RefusalLaws.{none_earlier, none_in_both}
 use Rattle.model_tree.proofs.Trees.NodeChangeLaws.{length-resized}
 use Rattle.fs.specs.FileSystem.{FileSystem}
 use Rattle.fs.specs.Files.{verdict_refusals}
 use Rattle.fs.specs.Ready.{MayStand}
 use Rattle.fs.specs.Setting.{may_set, setting_tests, sized_refusals}
-use Rattle.fs.proofs.FlatLaws.{flat_altered, flat_shown}
+use Rattle.fs.proofs.FlatLaws.{flat_altered, flat_metadata}
 use Rattle.fs.proofs.FlatWrites.{anonymous, anonymous_passes, bytes_blank, on_flat, resized_zeros}
 use Rattle.fs.proofs.KeptLaws.{formed_by}
 use Rattle.fs.proofs.SettingSteps as steps
@@ -52,10 +52,10 @@ sized_zeros size node same =
 flat_sized : (tree : Tree) → without_data tree ≡ tree → (number size : ℕ) → without_data (done (SetSize number size) tree) ≡ done (SetSize number size) tree
 flat_sized tree flat number size = flat_altered (sizing size) (sized_zeros size) tree flat number
 
-flat_set : (tree : Tree) → without_data tree ≡ tree → (number : ℕ) (size : Option ℕ) (shown : Shown)
-    → without_data (edited (size_edits number size ++ (Show number shown ∷ [])) tree) ≡ edited (size_edits number size ++ (Show number shown ∷ [])) tree
-flat_set tree flat number None shown = flat_shown tree flat number shown
-flat_set tree flat number (Some size) shown = flat_shown (done (SetSize number size) tree) (flat_sized tree flat number size) number shown
+flat_set : (tree : Tree) → without_data tree ≡ tree → (number : ℕ) (size : Option ℕ) (metadata : Metadata)
+    → without_data (edited (size_edits number size ++ (Show number metadata ∷ [])) tree) ≡ edited (size_edits number size ++ (Show number metadata ∷ [])) tree
+flat_set tree flat number None metadata = flat_metadata tree flat number metadata
+flat_set tree flat number (Some size) metadata = flat_metadata (done (SetSize number size) tree) (flat_sized tree flat number size) number metadata
 
 module _ (fs : FileSystem) (formed : MayStand fs.volume fs.changes) (counted : fs.changes < 2 ^ 32) (limited : fs.volume.limits ≡ limits_of fs.volume.sectors fs.volume.limits.nodes)
     (cred : Cred) (now number : ℕ) (verdict : Result (Unit {0}) Status) (given : Attributes) (node : Node) (there : at number fs.volume.tree ≡ Some node)
@@ -72,11 +72,11 @@ module _ (fs : FileSystem) (formed : MayStand fs.volume fs.changes) (counted : f
   abbrev pub own : ℕ
   own = next_stamp fs.volume.run fs.changes
 
-  abbrev pub shown : Shown
-  shown = shown_set (Some node) given own now
+  abbrev pub metadata : Metadata
+  metadata = metadata_set (Some node) given own now
 
   abbrev pub wanted : List Edit
-  wanted = size_edits number (size_given given) ++ (Show number shown ∷ [])
+  wanted = size_edits number (size_given given) ++ (Show number metadata ∷ [])
 
   abbrev pub after : Tree
   after = edited wanted tree
@@ -88,7 +88,7 @@ module _ (fs : FileSystem) (formed : MayStand fs.volume fs.changes) (counted : f
 
   without_verdict : (b d : Bool) → first_refusal (sized_refusals b d verdict) ≡ None → first_refusal (sized_refusals b d (Ok tt)) ≡ None
   without_verdict false d none = refl
-  without_verdict true d none = (let here = none_in_front d status.IsDir (first_refusal (verdict_refusals verdict)) none in rw here.0 refl)
+  without_verdict true d none = (let here = none_earlier d status.IsDir (first_refusal (verdict_refusals verdict)) none in rw here.0 refl)
 
   abbrev may : Tree → Bool
   may t = may_set (granted_on (at number t) cred) (attributes_of given.bitmap)
@@ -105,10 +105,10 @@ module _ (fs : FileSystem) (formed : MayStand fs.volume fs.changes) (counted : f
 
   passed_flat : first_refusal (setting_tests limits flat cred number (Ok tt) given) ≡ None
   passed_flat =
-      let stale = none_in_front (not (is_key number tree)) status.Stale _ passed in
+      let stale = none_earlier (not (is_key number tree)) status.Stale _ passed in
       let values = none_in_both (attributes (kind_at tree number)) _ stale.1 in
       let sized = none_in_both (sized_refusals (sets_size given) (is_directory_at tree number) verdict) ((not (may tree), status.Access) ∷ []) values.1 in
-      let right = none_in_front (not (may tree)) status.Access None sized.1 in
+      let right = none_earlier (not (may tree)) status.Access None sized.1 in
       let size_there : first_refusal (sized_refusals (sets_size given) (is_directory_at flat number) (Ok tt)) ≡ None =
       ap (λ (d : Bool). first_refusal (sized_refusals (sets_size given) d (Ok tt))) (directory-without_data tree number) ∙ without_verdict (sets_size given) (is_directory_at tree number) sized.0 in
       tests_are limits flat cred number (Ok tt) given false None None false
@@ -117,13 +117,13 @@ module _ (fs : FileSystem) (formed : MayStand fs.volume fs.changes) (counted : f
   -- The trees after the edits
 
   seen : edited wanted flat ≡ without_data after
-  seen = sym (flat_set flat (without_data-twice tree) number (size_given given) shown) ∙ edits_blanked wanted tree
+  seen = sym (flat_set flat (without_data-twice tree) number (size_given given) metadata) ∙ edits_blanked wanted tree
 
   fits_flat : fits limits (edited wanted flat) ≡ fits limits after
   fits_flat = ap (fits limits) seen ∙ fits-without_data limits after
 
-  shown_flat : shown_set (at number flat) given own now ≡ shown
-  shown_flat = ap (λ (o : Option Node). shown_set o given own now) flat_there ∙ rw (kind_blank node.content) refl
+  metadata_flat : metadata_set (at number flat) given own now ≡ metadata
+  metadata_flat = ap (λ (o : Option Node). metadata_set o given own now) flat_there ∙ rw (kind_blank node.content) refl
 
   abbrev flat_arguments : SetAttrArguments
   flat_arguments = record { state = anonymous; attributes = given }
@@ -132,7 +132,7 @@ module _ (fs : FileSystem) (formed : MayStand fs.volume fs.changes) (counted : f
   on = on_flat flat fs.changes fs.volume.run cred number
 
   step_tree : (set_attributes true on now flat_arguments).state.tree ≡ edited wanted flat
-  step_tree = ap (λ (s : Shown). edited (size_edits number (size_given given) ++ (Show number s ∷ [])) flat) shown_flat
+  step_tree = ap (λ (s : Metadata). edited (size_edits number (size_given given) ++ (Show number s ∷ [])) flat) metadata_flat
 
   module _ (some : sets flat_arguments ≡ true) (fit : fits limits after ≡ true) (left : is_stamp_left fs.changes ≡ true) where
     goes : does limits on now (Argument.SetAttr flat_arguments) ≡ set_attributes true on now flat_arguments

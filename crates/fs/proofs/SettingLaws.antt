@@ -13,7 +13,7 @@ use Rattle.model_tree.specs.Trees.Edit.{Show, edited}
 use Rattle.model_tree.specs.Trees.Keyed.{at}
 use Rattle.model.specs.Operations.Operation.{Argument, Attributes, SetAttrArguments}
 use Rattle.model_tree.specs.Refusals.Refusal.{first_refusal}
-use Rattle.model.specs.Operations.SetAttr.{set_attributes, sets, shown_set, size_edits}
+use Rattle.model.specs.Operations.SetAttr.{set_attributes, sets, metadata_set, size_edits}
 use Rattle.model_tree.specs.Trees.Stamp.{next_stamp, is_stamp_left}
 use Rattle.model.specs.Operations.Step.{State, Stepped, current, refused}
 use Rattle.model_tree.specs.Trees.Tree.{Tree, Node}
@@ -35,7 +35,7 @@ use Rattle.volume.specs.VolumeState.{with_tree}
 -- the tree that it leaves
 abbrev pub tree_set : FileSystem → (now : ℕ) → Setting → Node → Tree
 tree_set fs now asked node =
-    edited (size_edits asked.number (size_given (given_of asked.attributes)) ++ (Show asked.number (shown_set (Some node) (given_of asked.attributes) (next_stamp fs.volume.run fs.changes) now) ∷ []))
+    edited (size_edits asked.number (size_given (given_of asked.attributes)) ++ (Show asked.number (metadata_set (Some node) (given_of asked.attributes) (next_stamp fs.volume.run fs.changes) now) ∷ []))
     fs.volume.tree
 
 module _ (fs : FileSystem) (cred : Cred) (now : ℕ) (asked : Setting) (state : State) (arguments : SetAttrArguments) (on : IsOn fs cred asked.number state) (is : IsSetting state asked arguments) where

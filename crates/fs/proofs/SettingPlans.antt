@@ -6,8 +6,8 @@ use Rattle.std.proofs.Props.{props}
 use Rattle.std.proofs.lemmas.Bool.{ltb-true}
 use Rattle.std.specs.Option.{ForSome}
 use Rattle.std.specs.Prelude.{Result, option_map}
-use Rattle.tree_transaction.specs.declared.nodes.Shown.{Shown}
-use Rattle.tree_transaction.specs.Nodes.{shown_of}
+use Rattle.tree_transaction.specs.declared.nodes.Metadata.{Metadata}
+use Rattle.tree_transaction.specs.Nodes.{metadata_of}
 use Rattle.tree_edits.specs.declared.edit.Edit.{Edit}
 use Rattle.tree_edits.specs.declared.edit.Edit.TheVariants as edit
 use Rattle.tree_edits.specs.Edits.{AreEntries, AreDoable, edits_of, size_of}
@@ -31,14 +31,14 @@ use Rattle.model_tree.specs.Trees.Limits.{limits_of}
 use Rattle.model.specs.Operations.Need.{granted_on}
 use Rattle.model.specs.Operations.Operation.{Attributes, SetAttrArguments}
 use Rattle.model_tree.specs.Refusals.Refusal.{first_refusal}
-use Rattle.model.specs.Operations.SetAttr.{kind_at, sets_size, shown_set, size_edits}
+use Rattle.model.specs.Operations.SetAttr.{kind_at, sets_size, metadata_set, size_edits}
 use Rattle.model_tree.specs.Trees.Stamp.{next_stamp}
 use Rattle.model.specs.Operations.Step.{State}
 use Rattle.model_tree.specs.Trees.Tree.{Tree, Node, Content, File, Directory, bytes_of, kind_of, is_directory_at}
 use Rattle.model_tree.specs.Trees.WellFormed.{IsContent}
 use Rattle.model_tree.proofs.Trees.KeyedLaws.{at-with_same}
 use Rattle.model_tree.proofs.Trees.NodeChangeLaws.{altered-once}
-use Rattle.model.proofs.Operations.RefusalLaws.{none_in_front, none_in_both}
+use Rattle.model.proofs.Operations.RefusalLaws.{none_earlier, none_in_both}
 use Rattle.wire_attributes.specs.declared.settings.Settings.{Settings}
 use Rattle.wire_attributes.specs.Given.{AreSettings, WithinLimits, given_of}
 use Rattle.fs.specs.declared.setting.Setting.{Setting}
@@ -48,7 +48,7 @@ use Rattle.fs.specs.Making.{AsRoomy}
 use Rattle.fs.specs.Operations.{IsOn}
 use Rattle.fs.specs.Planned.{IsList, IsPlanned}
 use Rattle.fs.specs.Ready.{MayStand}
-use Rattle.fs.specs.Setting.{IsSet, IsSetting, after_setting, may_set, setting_tests, shown_with, sized_refusals}
+use Rattle.fs.specs.Setting.{IsSet, IsSetting, after_setting, may_set, setting_tests, metadata_with, sized_refusals}
 use Rattle.fs.proofs.KeptLaws.{planned_by}
 use Rattle.fs.proofs.RoomTests.{HasRoom, resized_room}
 use Rattle.fs.proofs.SettingFlat as flat
@@ -62,28 +62,28 @@ use Rattle.volume.proofs.SoundLaws.{kind_blank}
 
 -- What a node shows, by its fields and by what is given
 
-same_shown : (settings : Settings) (given : Attributes) → AreSettings settings given → (stamp now : ℕ) (fields : Fields) (node : Node)
+same_metadata : (settings : Settings) (given : Attributes) → AreSettings settings given → (stamp now : ℕ) (fields : Fields) (node : Node)
     → node.owner ≡ fields.owner → node.group ≡ fields.group → node.acl ≡ fields.acl → node.time_modify ≡ fields.time_modify → kind_of node.content ≡ fields.kind
-    → shown_with fields settings stamp now ≡ shown_set (Some node) given stamp now
-same_shown settings given are stamp now fields node owner group acl time of =
+    → metadata_with fields settings stamp now ≡ metadata_set (Some node) given stamp now
+same_metadata settings given are stamp now fields node owner group acl time of =
     rw (are.size, are.acl, are.mode, are.owner, are.group, owner, group, acl, time, of) refl
 
 -- The list of a node is one that it may have
 
-kind_shown : (of : NodeKind) (card : CachedNode) (content : Content) → ShowsContent of card content → kind_of content ≡ of
-kind_shown kind.File card content shows = ap kind_of shows.file
-kind_shown kind.Directory card content shows = ap kind_of shows
+kind_metadata : (of : NodeKind) (cached : CachedNode) (content : Content) → ShowsContent of cached content → kind_of content ≡ of
+kind_metadata kind.File cached content shows = ap kind_of shows.file
+kind_metadata kind.Directory cached content shows = ap kind_of shows
 
-pub listed : (fs : FileSystem) (formed : MayStand fs.volume fs.changes) (number : ℕ) (card : CachedNode) → IsNodeOf fs.volume.tree number card → IsList fs.volume.limits card.fields.kind card.fields.acl
-listed fs formed number card is = ∥∥₁_elim formed.well_formed (Prim.hlevel props) (λ well.
+pub listed : (fs : FileSystem) (formed : MayStand fs.volume fs.changes) (number : ℕ) (cached : CachedNode) → IsNodeOf fs.volume.tree number cached → IsList fs.volume.limits cached.fields.kind cached.fields.acl
+listed fs formed number cached is = ∥∥₁_elim formed.well_formed (Prim.hlevel props) (λ well.
     let own = (well.nodes number (blank_node is.node) (at-without_data fs.volume.tree number ∙ ap (option_map blank_node) is.there)).entries in
-    subst (λ (acl : List Ace). IsList fs.volume.limits card.fields.kind acl) is.acl
-    (subst (λ (of : NodeKind). IsList fs.volume.limits of is.node.acl) (kind_blank is.node.content ∙ kind_shown card.fields.kind card is.node.content is.content) own))
+    subst (λ (acl : List Ace). IsList fs.volume.limits cached.fields.kind acl) is.acl
+    (subst (λ (of : NodeKind). IsList fs.volume.limits of is.node.acl) (kind_blank is.node.content ∙ kind_metadata cached.fields.kind cached is.node.content is.content) own))
 
 -- A size is set of a file
 
 sized_file : (is_sized is_directory : Bool) (verdict : Result (Unit {0}) Status) → is_sized ≡ true → first_refusal (sized_refusals is_sized is_directory verdict) ≡ None → is_directory ≡ false
-sized_file true is_directory verdict told none = (none_in_front is_directory status.IsDir (first_refusal (verdict_refusals verdict)) none).0
+sized_file true is_directory verdict told none = (none_earlier is_directory status.IsDir (first_refusal (verdict_refusals verdict)) none).0
 sized_file false is_directory verdict told none = absurd (cc)
 
 pub no_directory_at : (fs : FileSystem) (cred : Cred) (asked : Setting) → first_refusal (setting_tests fs.volume.limits fs.volume.tree cred asked.number asked.verdict (given_of asked.attributes)) ≡ None
@@ -91,7 +91,7 @@ pub no_directory_at : (fs : FileSystem) (cred : Cred) (asked : Setting) → firs
 no_directory_at fs cred asked passed sized =
     let tree = fs.volume.tree in
     let given = given_of asked.attributes in
-    let stale = none_in_front (not (is_key asked.number tree)) status.Stale _ passed in
+    let stale = none_earlier (not (is_key asked.number tree)) status.Stale _ passed in
     let values = none_in_both (attribute_refusals fs.volume.limits (kind_at tree asked.number) settable_at_setattr given) _ stale.1 in
     let both = none_in_both (sized_refusals (sets_size given) (is_directory_at tree asked.number) asked.verdict)
     ((not (may_set (granted_on (at asked.number tree) cred) (attributes_of given.bitmap)), status.Access) ∷ []) values.1 in
@@ -106,16 +106,16 @@ pub room_asked : (fs : FileSystem) → MayStand fs.volume fs.changes → (now : 
     → AsRoomy fs (laws.tree_set fs now asked node) (edited_by fs.volume (resizing asked.number settings.size))
 room_asked fs formed now asked node settings are =
     let given = given_of asked.attributes in
-    resized_room fs formed asked.number (size_given given) (shown_set (Some node) given (next_stamp fs.volume.run fs.changes) now)
+    resized_room fs formed asked.number (size_given given) (metadata_set (Some node) given (next_stamp fs.volume.run fs.changes) now)
     ∙ ap (λ (size : Option ℕ). fits fs.volume.limits (edited_by fs.volume (resizing asked.number size))) (sym are.size)
 
 module _ (fs : FileSystem) (formed : MayStand fs.volume fs.changes) (counted : fs.changes < 2 ^ 32) (limited : fs.volume.limits ≡ limits_of fs.volume.sectors fs.volume.limits.nodes)
-    (cred : Cred) (now : ℕ) (asked : Setting) (card : CachedNode) (is_node : IsNodeOf fs.volume.tree asked.number card)
+    (cred : Cred) (now : ℕ) (asked : Setting) (cached : CachedNode) (is_node : IsNodeOf fs.volume.tree asked.number cached)
     (passed : first_refusal (setting_tests fs.volume.limits fs.volume.tree cred asked.number asked.verdict (given_of asked.attributes)) ≡ None)
-    (settings : Settings) (are : AreSettings settings (given_of asked.attributes)) (within : WithinLimits fs.volume.limits card.fields.kind settings) (some : settings.is_empty ≡ false)
-    (stamp : ℕ) (shown : Shown) (edits : List Edit) (stamp_is : stamp ≡ next_stamp fs.volume.run fs.changes)
-    (shown_is : shown_of shown ≡ shown_with card.fields settings stamp now) (entries : AreEntries (shown_of shown).acl)
-    (edits_are : edits ≡ resizing asked.number settings.size ++ (edit.Show asked.number shown ∷ [])) where
+    (settings : Settings) (are : AreSettings settings (given_of asked.attributes)) (within : WithinLimits fs.volume.limits cached.fields.kind settings) (some : settings.is_empty ≡ false)
+    (stamp : ℕ) (metadata : Metadata) (edits : List Edit) (stamp_is : stamp ≡ next_stamp fs.volume.run fs.changes)
+    (metadata_is : metadata_of metadata ≡ metadata_with cached.fields settings stamp now) (entries : AreEntries (metadata_of metadata).acl)
+    (edits_are : edits ≡ resizing asked.number settings.size ++ (edit.Show asked.number metadata ∷ [])) where
   abbrev limits : Limits
   limits = fs.volume.limits
 
@@ -134,27 +134,27 @@ module _ (fs : FileSystem) (formed : MayStand fs.volume fs.changes) (counted : f
   abbrev node : Node
   node = is_node.node
 
-  abbrev wanted_shown : model.Shown
-  wanted_shown = shown_set (Some node) given own now
+  abbrev wanted_metadata : model.Metadata
+  wanted_metadata = metadata_set (Some node) given own now
 
   not_empty : is_empty given.bitmap ≡ false
   not_empty = sym are.empty ∙ some
 
-  new_shown : shown_of shown ≡ wanted_shown
-  new_shown = shown_is ∙ ap (λ (n : ℕ). shown_with card.fields settings n now) stamp_is
-      ∙ same_shown settings given are own now card.fields node is_node.owner is_node.group is_node.acl is_node.time_modify (kind_shown card.fields.kind card node.content is_node.content)
+  new_metadata : metadata_of metadata ≡ wanted_metadata
+  new_metadata = metadata_is ∙ ap (λ (n : ℕ). metadata_with cached.fields settings n now) stamp_is
+      ∙ same_metadata settings given are own now cached.fields node is_node.owner is_node.group is_node.acl is_node.time_modify (kind_metadata cached.fields.kind cached node.content is_node.content)
 
   -- The edits, of each size
 
   abbrev list : Option ℕ → List Edit
-  list size = resizing number size ++ (edit.Show number shown ∷ [])
+  list size = resizing number size ++ (edit.Show number metadata ∷ [])
 
   abbrev wanted : Option ℕ → List model.Edit
-  wanted size = size_edits number size ++ (Show number wanted_shown ∷ [])
+  wanted size = size_edits number size ++ (Show number wanted_metadata ∷ [])
 
   same_edits : (size : Option ℕ) → edits_of (list size) ≡ wanted size
-  same_edits None = ap (λ (s : model.Shown). Show number s ∷ []) new_shown
-  same_edits (Some size) = ap (λ (s : model.Shown). SetSize number size ∷ Show number s ∷ []) new_shown
+  same_edits None = ap (λ (s : model.Metadata). Show number s ∷ []) new_metadata
+  same_edits (Some size) = ap (λ (s : model.Metadata). SetSize number size ∷ Show number s ∷ []) new_metadata
 
   edits_is : edits ≡ list (size_given given)
   edits_is = edits_are ∙ ap list are.size
@@ -187,7 +187,7 @@ module _ (fs : FileSystem) (formed : MayStand fs.volume fs.changes) (counted : f
       omega (arith, few, same))
 
   low : (size : ℕ) → size_given given ≡ Some size → size ≤ limits.file_bytes
-  low size said = low_size limits card.fields.kind settings within size (are.size ∙ said)
+  low size said = low_size limits cached.fields.kind settings within size (are.size ∙ said)
 
   key_sized : (size : ℕ) → is_key number (done (SetSize number size) tree) ≡ true
   key_sized size =
@@ -213,7 +213,7 @@ module _ (fs : FileSystem) (formed : MayStand fs.volume fs.changes) (counted : f
     pub planned_where : IsPlanned fs edits
     planned_where =
         let whole = subst stands (sym after_is) (flat.formed_after fs formed counted limited cred now number asked.verdict given node is_node.there passed (ap not not_empty) room.fit room.left) in
-        subst (IsPlanned fs) (sym edits_is) (planned_by fs formed counted limited (form.Setting number (size_given given) shown) tt (doable_with (size_given given) refl)
+        subst (IsPlanned fs) (sym edits_is) (planned_by fs formed counted limited (form.Setting number (size_given given) metadata) tt (doable_with (size_given given) refl)
         (ap (λ (l : List Edit). fits fs.volume.limits (edited_by fs.volume l)) (sym edits_is) ∙ ap (fits limits) after_is ∙ room.fit) (ltb-true (fs.changes + 1) (2 ^ 32) room.left)
         (subst (λ (l : List Edit). stands (edited_by fs.volume l)) edits_is whole))
 

@@ -92,9 +92,9 @@ module _ (limits : Limits) (state : State) (now : ℕ) (has : IsTrue (has_curren
   unfolding refusals
   set_first =
       let sized = sized_refusals (sets_size given) (is_directory_at state.tree number) verdict in
-      let front : Option Status → Option Status = λ o. refused_or (not (is_key number state.tree)) status.Stale o in
-      ap (λ (b : Bool). refused_or (not b) status.NoFileHandle (front (first_refusal ((attributes ++ size_refusals state arguments) ++ behind_attributes)))) has
-      ∙ ap front (first-append (attributes ++ size_refusals state arguments) behind_attributes
+      let prefix : Option Status → Option Status = λ o. refused_or (not (is_key number state.tree)) status.Stale o in
+      ap (λ (b : Bool). refused_or (not b) status.NoFileHandle (prefix (first_refusal ((attributes ++ size_refusals state arguments) ++ behind_attributes)))) has
+      ∙ ap prefix (first-append (attributes ++ size_refusals state arguments) behind_attributes
       ∙ ap₂ or_else (first-append attributes (size_refusals state arguments) ∙ ap (or_else (first_refusal attributes)) sized_first)
       (ap (λ (b : Bool). refused_or b status.Access None) rights_are)
       ∙ sym (grouped (first_refusal attributes) (first_refusal sized) (first_refusal right))

@@ -37,13 +37,13 @@ tests_are limits tree cred number verdict given stale values sized denied stale_
     ∙ ap₂ or_else values_are (first-append size right ∙ ap₂ or_else sized_is (ap (λ (b : Bool). refused_or b status.Access None) denied_is)))
 
 -- the kind that the cached node of a node shows
-pub kind_is : (tree : Tree) (number : ℕ) (card : CachedNode) → IsNodeOf tree number card → card.fields.kind ≡ kind_at tree number
-kind_is tree number card is = by_kind card.fields.kind is.content
+pub kind_is : (tree : Tree) (number : ℕ) (cached : CachedNode) → IsNodeOf tree number cached → cached.fields.kind ≡ kind_at tree number
+kind_is tree number cached is = by_kind cached.fields.kind is.content
   where
     there : is_directory_at tree number ≡ is_directory is.node.content
     there = ap is_directory_node is.there
 
-    by_kind : (of : NodeKind) → ShowsContent of card is.node.content → of ≡ kind_at tree number
+    by_kind : (of : NodeKind) → ShowsContent of cached is.node.content → of ≡ kind_at tree number
     by_kind kind.File file = sym (ap (λ (b : Bool). if b then kind.Directory else kind.File) (there ∙ ap is_directory file.file))
     by_kind kind.Directory names = sym (ap (λ (b : Bool). if b then kind.Directory else kind.File) (there ∙ ap is_directory names))
 
@@ -57,7 +57,7 @@ may_by numbers f g same =
     ∙ ap (λ (b : Bool). (size || g write_data) && ((list || b) && (owner || f write_owner))) (same write_acl)
     ∙ ap (λ (b : Bool). (size || g write_data) && ((list || g write_acl) && (owner || b))) (same write_owner)
 
-pub may_told : (tree : Tree) (number : ℕ) (card : CachedNode) → IsNodeOf tree number card → (cred : Cred) (numbers : List ℕ)
-    → may_set (granted_on (at number tree) cred) numbers ≡ may_set (granted card.fields.acl card.fields.owner card.fields.group cred) numbers
-may_told tree number card is cred numbers = may_by numbers (granted_on (at number tree) cred) (granted card.fields.acl card.fields.owner card.fields.group cred)
-    (λ mask. ap (λ (o : Option Node). granted_on o cred mask) is.there ∙ sym (granted_by tree number card is cred mask))
+pub may_told : (tree : Tree) (number : ℕ) (cached : CachedNode) → IsNodeOf tree number cached → (cred : Cred) (numbers : List ℕ)
+    → may_set (granted_on (at number tree) cred) numbers ≡ may_set (granted cached.fields.acl cached.fields.owner cached.fields.group cred) numbers
+may_told tree number cached is cred numbers = may_by numbers (granted_on (at number tree) cred) (granted cached.fields.acl cached.fields.owner cached.fields.group cred)
+    (λ mask. ap (λ (o : Option Node). granted_on o cred mask) is.there ∙ sym (granted_by tree number cached is cred mask))

@@ -1,15 +1,15 @@
 -- The edits of a file whose size is set, as they are in memory: they are a change that may be kept.
 use Rattle.std.proofs.Common.{◌≡◌, ◌≤◌, ◌<◌, ◌+◌, ◌^◌, ℕ, true, false, List, [], ◌∷◌, Some, length, sym, ap, ◌∙◌, arith, subst, is_some}
 use Rattle.std.specs.Prelude.{IsTrue, option_map}
-use Rattle.tree_transaction.specs.declared.nodes.Shown.{Shown}
-use Rattle.tree_transaction.specs.Nodes.{shown_of}
+use Rattle.tree_transaction.specs.declared.nodes.Metadata.{Metadata}
+use Rattle.tree_transaction.specs.Nodes.{metadata_of}
 use Rattle.tree_edits.specs.declared.edit.Edit.{Edit}
 use Rattle.tree_edits.specs.declared.edit.Edit.TheVariants as edit
 use Rattle.tree_edits.specs.Edits.{AreDoable, size_of}
 use Rattle.tree_edits.specs.Outlines.{blank, blank_node, without_data}
 use Rattle.tree_edits.proofs.BlankLaws.{at-without_data}
 use Rattle.layout.specs.CachedNodes.{CachedNode}
-use Rattle.layout.specs.Known.{IsCard}
+use Rattle.layout.specs.Known.{IsCached}
 use Rattle.model_tree.specs.declared.acl.Ace.{Ace}
 use Rattle.model_tree.specs.declared.limits.Limits.{Limits}
 use Rattle.model_tree.specs.declared.node.NodeKind.{NodeKind}
@@ -27,48 +27,48 @@ use Rattle.model_tree.specs.Trees.WellFormed.{IsWellFormed}
 use Rattle.model_tree.proofs.Trees.KeyedLaws.{at-with_same}
 use Rattle.model_tree.proofs.Trees.NodeChangeLaws.{altered-once}
 use Rattle.fs.specs.FileSystem.{FileSystem}
-use Rattle.fs.specs.Planned.{IsList, IsPlanned, shown_by}
+use Rattle.fs.specs.Planned.{IsList, IsPlanned, metadata_by}
 use Rattle.fs.specs.Ready.{MayStand}
 use Rattle.fs.proofs.FlatSizes as flat
 use Rattle.fs.proofs.KeptLaws.{planned_by}
-use Rattle.fs.proofs.RemovalPlans.{shown_touched, entries_shown}
+use Rattle.fs.proofs.RemovalPlans.{metadata_touched, entries_metadata}
 use Rattle.volume.specs.Edits.{edited_by}
 use Rattle.fs.specs.Forms as form
 use Rattle.volume.specs.Nodes.{IsNodeOf, IsFile, ShowsContent}
 
 module _ (fs : FileSystem) (formed : MayStand fs.volume fs.changes) (counted : fs.changes < 2 ^ 32) (limited : fs.volume.limits ≡ limits_of fs.volume.sectors fs.volume.limits.nodes)
-    (now number : ℕ) (card : CachedNode) (node : IsNodeOf fs.volume.tree number card) (file : card.fields.kind ≡ kind.File) (fit_card : IsCard card) (size : ℕ) (low : size ≤ fs.volume.limits.file_bytes)
-    (stamp : ℕ) (shown : Shown) (edits : List Edit) (stamp_is : stamp ≡ next_stamp fs.volume.run fs.changes) (shown_is : shown_of shown ≡ shown_by card.fields stamp now)
-    (edits_are : edits ≡ edit.SetSize number size ∷ edit.Show number shown ∷ []) where
+    (now number : ℕ) (cached : CachedNode) (node : IsNodeOf fs.volume.tree number cached) (file : cached.fields.kind ≡ kind.File) (fit_cached : IsCached cached) (size : ℕ) (low : size ≤ fs.volume.limits.file_bytes)
+    (stamp : ℕ) (metadata : Metadata) (edits : List Edit) (stamp_is : stamp ≡ next_stamp fs.volume.run fs.changes) (metadata_is : metadata_of metadata ≡ metadata_by cached.fields stamp now)
+    (edits_are : edits ≡ edit.SetSize number size ∷ edit.Show number metadata ∷ []) where
   abbrev tree : Tree
   tree = fs.volume.tree
 
   abbrev own : ℕ
   own = next_stamp fs.volume.run fs.changes
 
-  is_file : IsFile card.fields.size node.node.content
-  is_file = subst (λ (of : NodeKind). ShowsContent of card node.node.content) file node.content
+  is_file : IsFile cached.fields.size node.node.content
+  is_file = subst (λ (of : NodeKind). ShowsContent of cached node.node.content) file node.content
 
   no_directory : is_directory node.node.content ≡ false
   no_directory = ap is_directory is_file.file
 
-  shown_then : shown_of shown ≡ touched (at number tree) own now
-  shown_then = shown_is ∙ ap (λ (s : ℕ). shown_by card.fields s now) stamp_is ∙ shown_touched tree number card node own now
+  metadata_then : metadata_of metadata ≡ touched (at number tree) own now
+  metadata_then = metadata_is ∙ ap (λ (s : ℕ). metadata_by cached.fields s now) stamp_is ∙ metadata_touched tree number cached node own now
 
-  stamped : (shown_of shown).change ≡ own
-  stamped = ap (λ (s : model.Shown). s.change) shown_then
+  stamped : (metadata_of metadata).change ≡ own
+  stamped = ap (λ (s : model.Metadata). s.change) metadata_then
 
-  list_is : (shown_of shown).acl ≡ node.node.acl
-  list_is = ap (λ (s : model.Shown). s.acl) shown_is ∙ sym node.acl
+  list_is : (metadata_of metadata).acl ≡ node.node.acl
+  list_is = ap (λ (s : model.Metadata). s.acl) metadata_is ∙ sym node.acl
 
-  listed : IsWellFormed fs.volume.limits (without_data tree) → IsList fs.volume.limits kind.File (shown_of shown).acl
+  listed : IsWellFormed fs.volume.limits (without_data tree) → IsList fs.volume.limits kind.File (metadata_of metadata).acl
   listed well =
       let is = well.nodes number (blank_node node.node) (at-without_data tree number ∙ ap (option_map blank_node) node.there) in
       subst (λ (acl : List Ace). IsList fs.volume.limits kind.File acl) (sym list_is)
       (subst (λ (c : Content). is_list_for fs.volume.limits.aces_set fs.volume.limits.aces (kind_of (blank c)) node.node.acl ≡ true) is_file.file is.entries)
 
   abbrev list : List Edit
-  list = edit.SetSize number size ∷ edit.Show number shown ∷ []
+  list = edit.SetSize number size ∷ edit.Show number metadata ∷ []
 
   most : fs.volume.limits.file_bytes ≡ 16777216
   most = ap (λ (l : Limits). l.file_bytes) limited
@@ -76,7 +76,7 @@ module _ (fs : FileSystem) (formed : MayStand fs.volume fs.changes) (counted : f
   few_now : size_of (at number tree) ≤ 16777216
   few_now =
       let count : size_of (at number tree) ≡ length (bytes_of node.node.content) = ap size_of node.there in
-      let small = flat.small fs formed number node.node node.there no_directory size low (shown_of shown) stamped listed in
+      let small = flat.small fs formed number node.node node.there no_directory size low (metadata_of metadata) stamped listed in
       omega (arith, count, small, most)
 
   sized_there : is_key number (done (SetSize number size) tree) ≡ true
@@ -93,17 +93,17 @@ module _ (fs : FileSystem) (formed : MayStand fs.volume fs.changes) (counted : f
       low = omega (arith, low, most);
     },
     (
-      record { there = sized_there; entries = entries_shown fs formed limited number card node fit_card shown stamp now shown_is },
+      record { there = sized_there; entries = entries_metadata fs formed limited number cached node fit_cached metadata stamp now metadata_is },
       tt,
     ),
   )
 
   pub after : edited_by fs.volume edits ≡ edited (SetSize number size ∷ Show number (touched (at number tree) own now) ∷ []) tree
-  after = ap (edited_by fs.volume) edits_are ∙ ap (λ (s : model.Shown). edited (SetSize number size ∷ Show number s ∷ []) tree) shown_then
+  after = ap (edited_by fs.volume) edits_are ∙ ap (λ (s : model.Metadata). edited (SetSize number size ∷ Show number s ∷ []) tree) metadata_then
 
   list_planned : IsTrue (fits fs.volume.limits (edited_by fs.volume list)) → fs.changes + 1 < 2 ^ 32 → IsPlanned fs list
-  list_planned fit left = planned_by fs formed counted limited (form.Setting number (Some size) shown) tt list_doable
-      fit left (flat.formed_after fs formed number node.node node.there no_directory size low (shown_of shown) stamped listed fit)
+  list_planned fit left = planned_by fs formed counted limited (form.Setting number (Some size) metadata) tt list_doable
+      fit left (flat.formed_after fs formed number node.node node.there no_directory size low (metadata_of metadata) stamped listed fit)
 
   pub planned_where : IsTrue (fits fs.volume.limits (edited (SetSize number size ∷ Show number (touched (at number tree) own now) ∷ []) tree)) → fs.changes + 1 < 2 ^ 32 → IsPlanned fs edits
   planned_where fit left = subst (IsPlanned fs) (sym edits_are)

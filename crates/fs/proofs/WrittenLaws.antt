@@ -5,13 +5,13 @@ use Rattle.std.proofs.Common.{◌≡◌, ◌≤◌, ◌<◌, ◌+◌, ◌^◌, �
 use Rattle.std.proofs.lemmas.Bool.{lt-ltb, le-ltb, ltb-true}
 use Rattle.std.proofs.lemmas.List.{length-take}
 use Rattle.std.specs.Prelude.{IsTrue, Result, nat_lt, ◌==◌}
-use Rattle.tree_transaction.specs.declared.nodes.Shown.{Shown}
-use Rattle.tree_transaction.specs.Nodes.{shown_of}
+use Rattle.tree_transaction.specs.declared.nodes.Metadata.{Metadata}
+use Rattle.tree_transaction.specs.Nodes.{metadata_of}
 use Rattle.tree_edits.specs.declared.edit.Edit.{Edit}
 use Rattle.tree_edits.specs.declared.edit.Edit.TheVariants as edit
 use Rattle.tree_edits.specs.Edits.{AreEntries, AreDoable, edits_of, size_of}
 use Rattle.layout.specs.CachedNodes.{CachedNode}
-use Rattle.layout.specs.Known.{IsCard}
+use Rattle.layout.specs.Known.{IsCached}
 use Rattle.layout.specs.Stands.{Kept}
 use Rattle.model_tree.specs.declared.acl.Ace.{Ace}
 use Rattle.model_tree.specs.declared.acl.Cred.{Cred}
@@ -41,7 +41,7 @@ use Rattle.fs.specs.FileSystem.{FileSystem}
 use Rattle.fs.specs.Files.{permit_refusals}
 use Rattle.fs.specs.Making.{AsRoomy, room_tests}
 use Rattle.fs.specs.Operations.{IsOn, does_on}
-use Rattle.fs.specs.Planned.{IsPlanned, shown_by}
+use Rattle.fs.specs.Planned.{IsPlanned, metadata_by}
 use Rattle.fs.specs.Ready.{MayStand}
 use Rattle.fs.specs.Writing.{IsWrittenTree, IsWriting, WritesTree, after_write, bytes_taken}
 use Rattle.fs.proofs.FileSteps as steps
@@ -62,11 +62,11 @@ tree_written fs now number asked node =
     edited (PutBytes number asked.offset (bytes_taken fs asked) ∷ Show number (touched (Some node) (next_stamp fs.volume.run fs.changes) now) ∷ []) fs.volume.tree
 
 -- has room exactly if the tree with the bytes has
-pub room_asked : (fs : FileSystem) → MayStand fs.volume fs.changes → (now number : ℕ) (asked : Writing) (node : Node) (place : ℕ) (spelled : Bor (List ℕ)) → place ≡ asked.offset → spelled.now ≡ bytes_taken fs asked
-    → AsRoomy fs (tree_written fs now number asked node) (edited_by fs.volume (edit.PutBytes number place spelled ∷ []))
-room_asked fs formed now number asked node place spelled place_is spelled_is =
+pub room_asked : (fs : FileSystem) → MayStand fs.volume fs.changes → (now number : ℕ) (asked : Writing) (node : Node) (place : ℕ) (encoded : Bor (List ℕ)) → place ≡ asked.offset → encoded.now ≡ bytes_taken fs asked
+    → AsRoomy fs (tree_written fs now number asked node) (edited_by fs.volume (edit.PutBytes number place encoded ∷ []))
+room_asked fs formed now number asked node place encoded place_is encoded_is =
     put_room fs formed number asked.offset (bytes_taken fs asked) (touched (Some node) (next_stamp fs.volume.run fs.changes) now)
-    ∙ ap₂ (λ (offset : ℕ) (l : List ℕ). fits fs.volume.limits (done (PutBytes number offset l) fs.volume.tree)) (sym place_is) (sym spelled_is)
+    ∙ ap₂ (λ (offset : ℕ) (l : List ℕ). fits fs.volume.limits (done (PutBytes number offset l) fs.volume.tree)) (sym place_is) (sym encoded_is)
 
 -- In each state of the operation
 
@@ -164,31 +164,31 @@ puts_tree fs cred now number verdict asked edits step then lasts made = (
 -- The edits, as they are in memory
 
 module _ (fs : FileSystem) (formed : MayStand fs.volume fs.changes) (counted : fs.changes < 2 ^ 32) (limited : fs.volume.limits ≡ limits_of fs.volume.sectors fs.volume.limits.nodes)
-    (cred : Cred) (now number : ℕ) (verdict : Result (Unit {0}) Status) (asked : Writing) (card : CachedNode) (node : IsNodeOf fs.volume.tree number card) (file : card.fields.kind ≡ kind.File) (fit_card : IsCard card)
+    (cred : Cred) (now number : ℕ) (verdict : Result (Unit {0}) Status) (asked : Writing) (cached : CachedNode) (node : IsNodeOf fs.volume.tree number cached) (file : cached.fields.kind ≡ kind.File) (fit_cached : IsCached cached)
     (passed : first_refusal (permit_refusals fs.volume.tree cred number write_data verdict) ≡ None) (some : 0 < length asked.bytes.now)
     (low : asked.offset + length (bytes_taken fs asked) ≤ fs.volume.limits.file_bytes)
-    (stamp place : ℕ) (spelled : Bor (List ℕ)) (shown : Shown) (edits : List Edit) (stamp_is : stamp ≡ next_stamp fs.volume.run fs.changes) (place_is : place ≡ asked.offset)
-    (spelled_is : spelled.now ≡ bytes_taken fs asked) (shown_is : shown_of shown ≡ shown_by card.fields stamp now)
-    (edits_are : edits ≡ edit.PutBytes number place spelled ∷ edit.Show number shown ∷ []) where
+    (stamp place : ℕ) (encoded : Bor (List ℕ)) (metadata : Metadata) (edits : List Edit) (stamp_is : stamp ≡ next_stamp fs.volume.run fs.changes) (place_is : place ≡ asked.offset)
+    (encoded_is : encoded.now ≡ bytes_taken fs asked) (metadata_is : metadata_of metadata ≡ metadata_by cached.fields stamp now)
+    (edits_are : edits ≡ edit.PutBytes number place encoded ∷ edit.Show number metadata ∷ []) where
   abbrev part : List ℕ
   part = bytes_taken fs asked
 
   abbrev own : ℕ
   own = next_stamp fs.volume.run fs.changes
 
-  is_file : IsFile card.fields.size node.node.content
-  is_file = subst (λ (of : NodeKind). ShowsContent of card node.node.content) file node.content
+  is_file : IsFile cached.fields.size node.node.content
+  is_file = subst (λ (of : NodeKind). ShowsContent of cached node.node.content) file node.content
 
-  abbrev shown_with : (at_stamp owner group : ℕ) → List Ace → model.Shown
-  shown_with at_stamp owner group acl = record { owner = owner; group = group; acl = acl; change = at_stamp; time_modify = now }
+  abbrev metadata_with : (at_stamp owner group : ℕ) → List Ace → model.Metadata
+  metadata_with at_stamp owner group acl = record { owner = owner; group = group; acl = acl; change = at_stamp; time_modify = now }
 
-  new_shown : shown_of shown ≡ touched (Some node.node) own now
-  new_shown =
-      shown_is
-      ∙ ap (λ (s : ℕ). shown_with s card.fields.owner card.fields.group card.fields.acl) stamp_is
-      ∙ ap (λ (n : ℕ). shown_with own n card.fields.group card.fields.acl) (sym node.owner)
-      ∙ ap (λ (n : ℕ). shown_with own node.node.owner n card.fields.acl) (sym node.group)
-      ∙ ap (shown_with own node.node.owner node.node.group) (sym node.acl)
+  new_metadata : metadata_of metadata ≡ touched (Some node.node) own now
+  new_metadata =
+      metadata_is
+      ∙ ap (λ (s : ℕ). metadata_with s cached.fields.owner cached.fields.group cached.fields.acl) stamp_is
+      ∙ ap (λ (n : ℕ). metadata_with own n cached.fields.group cached.fields.acl) (sym node.owner)
+      ∙ ap (λ (n : ℕ). metadata_with own node.node.owner n cached.fields.acl) (sym node.group)
+      ∙ ap (metadata_with own node.node.owner node.node.group) (sym node.acl)
 
   abbrev wanted : List model.Edit
   wanted = PutBytes number asked.offset part ∷ Show number (touched (Some node.node) own now) ∷ []
@@ -196,8 +196,8 @@ module _ (fs : FileSystem) (formed : MayStand fs.volume fs.changes) (counted : f
   wanted_is : edits_of edits ≡ wanted
   wanted_is =
       ap edits_of edits_are
-      ∙ ap₂ (λ (offset : ℕ) (bytes : List ℕ). PutBytes number offset bytes ∷ Show number (shown_of shown) ∷ []) place_is spelled_is
-      ∙ ap (λ (s : model.Shown). PutBytes number asked.offset part ∷ Show number s ∷ []) new_shown
+      ∙ ap₂ (λ (offset : ℕ) (bytes : List ℕ). PutBytes number offset bytes ∷ Show number (metadata_of metadata) ∷ []) place_is encoded_is
+      ∙ ap (λ (s : model.Metadata). PutBytes number asked.offset part ∷ Show number s ∷ []) new_metadata
 
   after_is : edited_by fs.volume edits ≡ edited wanted fs.volume.tree
   after_is = ap (λ (l : List model.Edit). edited l fs.volume.tree) wanted_is
@@ -223,9 +223,9 @@ module _ (fs : FileSystem) (formed : MayStand fs.volume fs.changes) (counted : f
   no_directory : is_directory_at fs.volume.tree number ≡ false
   no_directory = ap is_directory_node node.there ∙ ap is_directory is_file.file
 
-  put_there : at number (done (PutBytes number place spelled.now) fs.volume.tree) ≡ Some (with_content node.node (File (overwritten (bytes_of node.node.content) place spelled.now)))
+  put_there : at number (done (PutBytes number place encoded.now) fs.volume.tree) ≡ Some (with_content node.node (File (overwritten (bytes_of node.node.content) place encoded.now)))
   put_there =
-      let put : Node → Node = λ old. with_content old (File (overwritten (bytes_of old.content) place spelled.now)) in
+      let put : Node → Node = λ old. with_content old (File (overwritten (bytes_of old.content) place encoded.now)) in
       ap (at number) (altered-once put fs.volume.tree number node.node node.there) ∙ at-with_same fs.volume.tree number (put node.node)
 
   doable : AreDoable fs.volume.tree edits
@@ -235,25 +235,25 @@ module _ (fs : FileSystem) (formed : MayStand fs.volume fs.changes) (counted : f
       is_file = no_directory;
       small =
           (let size : size_of (at number fs.volume.tree) ≡ length is_file.bytes = ap size_of node.there ∙ ap (λ (c : Content). length (bytes_of c)) is_file.file in omega (arith, size, small, most));
-      low = (let count : length spelled.now ≡ length part = ap (λ (l : List ℕ). length l) spelled_is in omega (arith, low, count, place_is, most));
+      low = (let count : length encoded.now ≡ length part = ap (λ (l : List ℕ). length l) encoded_is in omega (arith, low, count, place_is, most));
     },
     (
       record {
         there = ap is_some put_there;
-        entries = subst (λ (s : model.Shown). AreEntries s.acl) (sym shown_is) (record { few = few_listed fs formed limited number card node; each = fit_card.fits.each_ace });
+        entries = subst (λ (s : model.Metadata). AreEntries s.acl) (sym metadata_is) (record { few = few_listed fs formed limited number cached node; each = fit_cached.fits.each_ace });
       },
       tt,
     ),
   )
 
-  few_bytes : length spelled.now ≤ 8192
+  few_bytes : length encoded.now ≤ 8192
   few_bytes =
-      let count : length spelled.now ≡ length part = ap (λ (l : List ℕ). length l) spelled_is in
+      let count : length encoded.now ≡ length part = ap (λ (l : List ℕ). length l) encoded_is in
       let few = part_few in
       omega (arith, few, count, transfer)
 
   abbrev list : List Edit
-  list = edit.PutBytes number place spelled ∷ edit.Show number shown ∷ []
+  list = edit.PutBytes number place encoded ∷ edit.Show number metadata ∷ []
 
   abbrev stands : Tree → Type 0
   stands t = IsFormed fs.volume.limits (next_stamp fs.volume.run (fs.changes + 1)) t
@@ -261,7 +261,7 @@ module _ (fs : FileSystem) (formed : MayStand fs.volume fs.changes) (counted : f
   planned_list : AreDoable fs.volume.tree list → edits_of list ≡ wanted → IsTrue (fits fs.volume.limits (edited_by fs.volume list)) → fs.changes + 1 < 2 ^ 32 → IsPlanned fs list
   planned_list can same fit left =
       let tree_is : edited_by fs.volume list ≡ edited wanted fs.volume.tree = ap (λ (l : List model.Edit). edited l fs.volume.tree) same in
-      planned_by fs formed counted limited (form.Writing number place spelled shown) few_bytes can
+      planned_by fs formed counted limited (form.Writing number place encoded metadata) few_bytes can
       fit left
       (subst stands (sym tree_is)
       (flat.formed_after fs formed counted limited cred now number verdict node.node node.there passed asked.offset part part_some part_few low

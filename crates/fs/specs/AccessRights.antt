@@ -10,16 +10,16 @@ use Rattle.fs.specs.declared.access.Access.{Access}
 use Rattle.fs.specs.declared.fault.FsFault.{FsFault}
 use Rattle.fs.specs.FileSystem.{FileSystem}
 use Rattle.fs.specs.Operations.{does_on, IsRefused}
-use Rattle.fs.specs.Outline.{node_shown}
+use Rattle.fs.specs.Outline.{node_metadata}
 
 abbrev pub access_answer : Access → AccessAnswer
 access_answer access = record { supported = access.supported; access = access.granted }
 
 -- what a cached node supports and grants, of the bits that are asked for
 abbrev pub access_on : CachedNode → Cred → (asked : ℕ) → AccessAnswer
-access_on card cred asked = record {
-  supported = asked_bits asked (access_masks card.fields.kind);
-  access = granted_bits (node_shown card) cred asked (access_masks card.fields.kind);
+access_on cached cred asked = record {
+  supported = asked_bits asked (access_masks cached.fields.kind);
+  access = granted_bits (node_metadata cached) cred asked (access_masks cached.fields.kind);
 }
 
 abbrev pub TellsAccess : FileSystem → State → (now asked : ℕ) → Result Access FsFault → Type 0

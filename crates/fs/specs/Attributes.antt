@@ -13,30 +13,30 @@ use Rattle.fs.specs.OnTree.{IsState}
 use Rattle.fs.specs.declared.fault.FsFault.{FsFault}
 use Rattle.fs.specs.FileSystem.{FileSystem}
 use Rattle.fs.specs.Operations.{does_on, IsRefused}
-use Rattle.fs.specs.Outline.{node_shown}
+use Rattle.fs.specs.Outline.{node_metadata}
 use Rattle.wire_attributes.specs.NodeValues.{answer_view, attributes_answered}
 use Rattle.wire_attributes.specs.declared.answer.AttributesAnswer.{AttributesAnswer}
 use Rattle.wire_attributes.specs.declared.node.NodeAttributes.{NodeAttributes}
 
 -- what a cached node shows, whichever attributes are asked for
-abbrev pub ShowsCard : Limits → CachedNode → NodeAttributes → Type 0
-ShowsCard limits card node = (bitmap : List ℕ) → attributes_answered node bitmap
-    ≡ node_attributes limits bitmap card.fields.number (node_shown card)
+abbrev pub ShowsCached : Limits → CachedNode → NodeAttributes → Type 0
+ShowsCached limits cached node = (bitmap : List ℕ) → attributes_answered node bitmap
+    ≡ node_attributes limits bitmap cached.fields.number (node_metadata cached)
 
-abbrev pub attributes_told : State → (bitmap : List ℕ) → Result AttributesAnswer Status → Stepped
-attributes_told state bitmap (Ok answer) = answered state (Answer.GetAttr (answer_view answer))
-attributes_told state bitmap (Err reason) = refused state (Argument.GetAttr bitmap) reason
+abbrev pub attributes_result : State → (bitmap : List ℕ) → Result AttributesAnswer Status → Stepped
+attributes_result state bitmap (Ok answer) = answered state (Answer.GetAttr (answer_view answer))
+attributes_result state bitmap (Err reason) = refused state (Argument.GetAttr bitmap) reason
 
 -- the result is GETATTR's, in each such state
 abbrev pub AreAttributes : Limits → Tree → Cred → (number : ℕ) → (bitmap : List ℕ)
     → Result AttributesAnswer Status → Type 0
 AreAttributes limits tree cred number bitmap result = (state : State) (now : ℕ)
     → IsState tree cred number state
-    → does limits state now (Argument.GetAttr bitmap) ≡ attributes_told state bitmap result
+    → does limits state now (Argument.GetAttr bitmap) ≡ attributes_result state bitmap result
 
 abbrev pub GetsAttributes : FileSystem → State → (now : ℕ) → (bitmap : List ℕ)
     → Result AttributesAnswer FsFault → Type 0
 GetsAttributes fs state now bitmap (Ok answer) =
-    does_on fs state now (Argument.GetAttr bitmap) ≡ attributes_told state bitmap (Ok answer)
+    does_on fs state now (Argument.GetAttr bitmap) ≡ attributes_result state bitmap (Ok answer)
 GetsAttributes fs state now bitmap (Err reason) =
     IsRefused fs state now (Argument.GetAttr bitmap) reason

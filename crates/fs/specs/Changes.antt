@@ -29,7 +29,7 @@ pub record LetsWait (keeps_word : Type 0) (given : Given) (old new : FileSystem)
   pub mode : new.defers ≡ old.defers
   pub waits_on : old.waits ≡ true → new.waits ≡ true
   pub at_once : old.defers ≡ false → new.waits ≡ old.waits
-  pub undone : (ending ≡ Done → ⊥) → new.waits ≡ old.waits
+  pub failed : (ending ≡ Done → ⊥) → new.waits ≡ old.waits
   pub waits : keeps_word → ending ≡ Done → old.defers ≡ true → (after : Kept) → given after true
       → new.waits ≡ true
 

@@ -1,7 +1,7 @@
 -- The changes that operations make to a volume's tree, and the edits that each consists of.
 use Rattle.std.specs.Prelude.{◌≤◌, ℕ, zero, suc, List, [], ◌∷◌, ◌++◌, Option, Some, None, length}
 use denote.Ref.{Bor}
-use Rattle.tree_transaction.specs.declared.nodes.Shown.{Shown}
+use Rattle.tree_transaction.specs.declared.nodes.Metadata.{Metadata}
 use Rattle.tree_edits.specs.declared.edit.Edit.{Edit}
 use Rattle.tree_edits.specs.declared.edit.Edit.TheVariants as edit
 use Rattle.model_tree.specs.declared.node.NodeKind.{NodeKind}
@@ -18,18 +18,18 @@ pub record Place : Type 0 where
 pub data Change : Type 0 where
   -- a node, and for a file its size if it has one; its name, whose entry has its number as the
   -- stamp; and what its directory then shows
-  Making : (number : ℕ) → NodeKind → (size : ℕ) → Shown
-      → (directory : ℕ) → (name : Bor (List ℕ)) → (directory_shown : Shown) → Change
+  Making : (number : ℕ) → NodeKind → (size : ℕ) → Metadata
+      → (directory : ℕ) → (name : Bor (List ℕ)) → (directory_metadata : Metadata) → Change
   -- a name and the node of this number are gone, and what the directory then shows
-  Removing : Place → (number : ℕ) → (directory_shown : Shown) → Change
+  Removing : Place → (number : ℕ) → (directory_metadata : Metadata) → Change
   -- what has the new name is gone, if something has it (its entry's stamp and number); the old name
   -- of the node is gone, the new one is there; and what both directories then show
   Moving : (number : ℕ) → (old new : Place) → (target : Option (ℕ × ℕ))
-      → (old_shown new_shown : Shown) → Change
+      → (old_metadata new_metadata : Metadata) → Change
   -- bytes of a file from `offset` on, and what it then shows
-  Writing : (file offset : ℕ) → (bytes : Bor (List ℕ)) → Shown → Change
+  Writing : (file offset : ℕ) → (bytes : Bor (List ℕ)) → Metadata → Change
   -- the size of a file, if one is set, and what the node then shows
-  Setting : (number : ℕ) → (size : Option ℕ) → Shown → Change
+  Setting : (number : ℕ) → (size : Option ℕ) → Metadata → Change
 
 -- Their edits
 
@@ -47,37 +47,37 @@ replacing directory name None = []
 replacing directory name (Some target) =
     edit.DropName directory target.0 name ∷ edit.DropNode target.1 ∷ []
 
-abbrev pub moving : (number : ℕ) → (old new : Place) → (old_shown new_shown : Shown) → List Edit
-moving number old new old_shown new_shown =
+abbrev pub moving : (number : ℕ) → (old new : Place) → (old_metadata new_metadata : Metadata) → List Edit
+moving number old new old_metadata new_metadata =
     edit.DropName old.directory old.stamp old.name
     ∷ edit.PutName new.directory new.stamp new.name number
-    ∷ edit.Show old.directory old_shown
-    ∷ edit.Show new.directory new_shown
+    ∷ edit.Show old.directory old_metadata
+    ∷ edit.Show new.directory new_metadata
     ∷ []
 
 -- in their order
 abbrev pub edits_by : Change → List Edit
-edits_by (Making number of size shown directory name directory_shown) =
-    edit.PutNode number of shown
+edits_by (Making number of size metadata directory name directory_metadata) =
+    edit.PutNode number of metadata
     ∷ (sizing number size
-    ++ (edit.PutName directory number name number ∷ edit.Show directory directory_shown ∷ []))
-edits_by (Removing place number directory_shown) =
+    ++ (edit.PutName directory number name number ∷ edit.Show directory directory_metadata ∷ []))
+edits_by (Removing place number directory_metadata) =
     edit.DropName place.directory place.stamp place.name
     ∷ edit.DropNode number
-    ∷ edit.Show place.directory directory_shown
+    ∷ edit.Show place.directory directory_metadata
     ∷ []
-edits_by (Moving number old new target old_shown new_shown) =
-    replacing new.directory new.name target ++ moving number old new old_shown new_shown
-edits_by (Writing file offset bytes shown) =
-    edit.PutBytes file offset bytes ∷ edit.Show file shown ∷ []
-edits_by (Setting number size shown) = resizing number size ++ (edit.Show number shown ∷ [])
+edits_by (Moving number old new target old_metadata new_metadata) =
+    replacing new.directory new.name target ++ moving number old new old_metadata new_metadata
+edits_by (Writing file offset bytes metadata) =
+    edit.PutBytes file offset bytes ∷ edit.Show file metadata ∷ []
+edits_by (Setting number size metadata) = resizing number size ++ (edit.Show number metadata ∷ [])
 
 -- What a form requires besides its edits: a new node has a number above all others, and few bytes
 -- are written
 abbrev pub IsAllowed : VolumeState → Change → Type 0
-IsAllowed held (Making number of size shown directory name directory_shown) =
+IsAllowed held (Making number of size metadata directory name directory_metadata) =
     IsAboveAll held number
-IsAllowed held (Removing place number directory_shown) = Unit {0}
-IsAllowed held (Moving number old new target old_shown new_shown) = Unit {0}
-IsAllowed held (Writing file offset bytes shown) = length bytes.now ≤ 8192
-IsAllowed held (Setting number size shown) = Unit {0}
+IsAllowed held (Removing place number directory_metadata) = Unit {0}
+IsAllowed held (Moving number old new target old_metadata new_metadata) = Unit {0}
+IsAllowed held (Writing file offset bytes metadata) = length bytes.now ≤ 8192
+IsAllowed held (Setting number size metadata) = Unit {0}

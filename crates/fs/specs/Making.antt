@@ -2,13 +2,13 @@
 use Rattle.std.specs.Prelude.{◌≡◌, ◌≤◌, ◌∷◌, [], ℕ, not, List, None}
 use Rattle.tree_edits.specs.Outlines.{zeros}
 use Rattle.layout.specs.CachedNodes.{CachedNode}
-use Rattle.layout.specs.Known.{IsCard}
+use Rattle.layout.specs.Known.{IsCached}
 use Rattle.model_tree.specs.declared.node.NodeKind.{NodeKind}
 use Rattle.model_tree.specs.declared.node.NodeKind.TheVariants as kind
 use Rattle.model_tree.specs.declared.status.Status.TheVariants as status
 use Rattle.model_tree.specs.Trees.Changes.{made_edits}
 use Rattle.model_tree.specs.Trees.Charge.{fits}
-use Rattle.model_tree.specs.Trees.Edit.{Shown, edited}
+use Rattle.model_tree.specs.Trees.Edit.{Metadata, edited}
 use Rattle.model_tree.specs.Refusals.Name.{name_refusals}
 use Rattle.model_tree.specs.Refusals.Refusal.{Refusals, first_refusal}
 use Rattle.model_tree.specs.Trees.Stamp.{next_stamp, is_stamp_left}
@@ -22,13 +22,13 @@ abbrev pub first_content : NodeKind → (size : ℕ) → Content
 first_content kind.File size = File (zeros size)
 first_content kind.Directory size = Directory []
 
-abbrev pub first_node : NodeKind → (size : ℕ) → Shown → Node
-first_node of size shown = record {
-  owner = shown.owner;
-  group = shown.group;
-  acl = shown.acl;
-  change = shown.change;
-  time_modify = shown.time_modify;
+abbrev pub first_node : NodeKind → (size : ℕ) → Metadata → Node
+first_node of size metadata = record {
+  owner = metadata.owner;
+  group = metadata.group;
+  acl = metadata.acl;
+  change = metadata.change;
+  time_modify = metadata.time_modify;
   content = first_content of size;
 }
 
@@ -61,7 +61,7 @@ pub record IsSizeOf (of : NodeKind) (size : ℕ) : Type 0 where
   pub low : size ≤ 16777216
 
 -- the directory of this number, as its cached node shows it
-pub record IsDirectoryOf (tree : Tree) (number : ℕ) (card : CachedNode) : Type 0 where
-  pub node : IsNodeOf tree number card
-  pub fit : IsCard card
-  pub directory : card.fields.kind ≡ kind.Directory
+pub record IsDirectoryOf (tree : Tree) (number : ℕ) (cached : CachedNode) : Type 0 where
+  pub node : IsNodeOf tree number cached
+  pub fit : IsCached cached
+  pub directory : cached.fields.kind ≡ kind.Directory

@@ -6,9 +6,9 @@ use Rattle.model_tree.specs.declared.node.NodeKind.{NodeKind}
 use Rattle.model_tree.specs.declared.node.NodeKind.TheVariants as kind
 use Rattle.model_tree.specs.Trees.Tree.{Node, Content, File, Directory}
 
-abbrev pub content_shown : NodeKind → CachedNode → Content
-content_shown kind.File card = File (zeros card.fields.size)
-content_shown kind.Directory card = Directory (by_stamp card.names)
+abbrev pub content_metadata : NodeKind → CachedNode → Content
+content_metadata kind.File cached = File (zeros cached.fields.size)
+content_metadata kind.Directory cached = Directory (by_stamp cached.names)
 
-abbrev pub node_shown : CachedNode → Node
-node_shown card = node_with card.fields (content_shown card.fields.kind card)
+abbrev pub node_metadata : CachedNode → Node
+node_metadata cached = node_with cached.fields (content_metadata cached.fields.kind cached)

@@ -8,7 +8,7 @@ use Rattle.model_tree.specs.declared.limits.Limits.{Limits}
 use Rattle.model_tree.specs.declared.node.NodeKind.{NodeKind}
 use Rattle.model_tree.specs.Rights.Acl.{is_list_for}
 use Rattle.model_tree.specs.Trees.Charge.{fits}
-use Rattle.model_tree.specs.Trees.Edit.{Shown}
+use Rattle.model_tree.specs.Trees.Edit.{Metadata}
 use Rattle.model_tree.specs.Rights.Inherit.{created_list}
 use Rattle.model_tree.specs.Trees.Stamp.{next_stamp}
 use Rattle.wire_attributes.specs.declared.settings.Settings.{Settings}
@@ -25,8 +25,8 @@ pub record IsPlanned (fs : FileSystem) (edits : List Edit) : Type 0 where
       (edited_by fs.volume edits)
 
 -- what a node shows after a change alters its content
-abbrev pub shown_by : Fields → (stamp now : ℕ) → Shown
-shown_by fields stamp now = record {
+abbrev pub metadata_by : Fields → (stamp now : ℕ) → Metadata
+metadata_by fields stamp now = record {
   owner = fields.owner;
   group = fields.group;
   acl = fields.acl;
@@ -39,8 +39,8 @@ abbrev pub list_by : NodeKind → (parent : List Ace) → Settings → List Ace
 list_by of parent settings = created_list parent of settings.is_empty settings.mode settings.acl
 
 -- what a new node of this caller with such a list shows
-abbrev pub child_shown : Cred → (acl : List Ace) → (stamp now : ℕ) → Shown
-child_shown cred acl stamp now = record {
+abbrev pub child_metadata : Cred → (acl : List Ace) → (stamp now : ℕ) → Metadata
+child_metadata cred acl stamp now = record {
   owner = cred.uid;
   group = cred.gid;
   acl = acl;

@@ -4,7 +4,7 @@ use Rattle.std.specs.Prelude.{not, ◌&&◌, ◌||◌, ◌≡◌}
 use Rattle.std.specs.List.{list_any, list_all}
 use Rattle.directory.specs.Records.{record_from}
 use Rattle.layout.specs.CachedNodes.{CachedNode}
-use Rattle.layout.specs.Known.{IsCard}
+use Rattle.layout.specs.Known.{IsCached}
 use Rattle.model_tree.specs.declared.acl.Cred.{Cred}
 use Rattle.model_tree.specs.declared.limits.Limits.{Limits}
 use Rattle.model_tree.specs.declared.status.Status.TheVariants as status
@@ -79,8 +79,8 @@ placing_refusals tree cred from to arguments =
 pub record FindsMoving (tree : Tree) (asked : Renaming) (moving : Moving) : Type 0 where
   pub from : IsNodeOf tree asked.from moving.from.now
   pub to : IsNodeOf tree asked.to moving.to.now
-  pub from_fits : IsCard moving.from.now
-  pub to_fits : IsCard moving.to.now
+  pub from_fits : IsCached moving.from.now
+  pub to_fits : IsCached moving.to.now
   pub entry : entry_of asked.old_name.now (names_at tree asked.from)
       ≡ Some (record_from moving.stamp asked.old_name.now moving.number)
 

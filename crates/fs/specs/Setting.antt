@@ -11,7 +11,7 @@ use Rattle.model_tree.specs.declared.status.Status.{Status}
 use Rattle.model_tree.specs.declared.status.Status.TheVariants as status
 use Rattle.model_tree.specs.Rights.Acl.{write_acl, write_data, write_owner}
 use Rattle.model.specs.Attributes.Attribute.{acl_number, attribute_refusals, attributes_of, is_among, mode_number, owner_group_number, owner_number, settable_at_setattr, size_number}
-use Rattle.model_tree.specs.Trees.Edit.{Shown}
+use Rattle.model_tree.specs.Trees.Edit.{Metadata}
 use Rattle.model_tree.specs.Trees.Keyed.{at, is_key}
 use Rattle.model.specs.Operations.Need.{granted_on}
 use Rattle.model.specs.Operations.Operation.{Argument, Attributes, SetAttrArguments}
@@ -111,8 +111,8 @@ setting_tests limits tree cred number verdict given =
     ) ∷ [])))
 
 -- what a node then shows
-abbrev pub shown_with : Fields → Settings → (stamp now : ℕ) → Shown
-shown_with fields settings stamp now = record {
+abbrev pub metadata_with : Fields → Settings → (stamp now : ℕ) → Metadata
+metadata_with fields settings stamp now = record {
   owner = unwrap_or settings.owner fields.owner;
   group = unwrap_or settings.group fields.group;
   acl = list_set fields.kind fields.acl settings.mode settings.acl;

@@ -2,7 +2,7 @@
 
 ghost use Rattle.std.specs.Prelude.{◌≡◌, ◌≤◌, ◌&&◌, if◌then◌else◌};
 ghost use Rattle.fs.specs.AccessRights.{access_answer, access_on};
-ghost use Rattle.fs.specs.Outline.{node_shown};
+ghost use Rattle.fs.specs.Outline.{node_metadata};
 ghost use Rattle.model.specs.Operations.Access.{access_masks, asked_bits, granted_bits};
 ghost use Rattle.model_tree.specs.Rights.Acl.{granted, meets};
 
@@ -77,7 +77,7 @@ fn granted_bit(cached: &CachedNode, cred: &Cred, asked: u32, bit: u32, mask: Mas
 
 /// The bits that are asked for and granted.
 fn granted_bits(cached: &CachedNode, cred: &Cred, asked: u32) -> u32
-    ensures { result ≡ granted_bits (node_shown cached.now) cred.now asked
+    ensures { result ≡ granted_bits (node_metadata cached.now) cred.now asked
         (access_masks cached.now.fields.kind) }
 {
     let add = Mask::WRITE_DATA.union(Mask::APPEND_DATA);

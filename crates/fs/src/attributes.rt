@@ -12,9 +12,9 @@ use wire_attributes::{Attribute, AttributesAnswer, NodeAttributes, is_asked};
 #[tactic(auto, unfolding(crate::specs::Views::fs_of))]
 impl<D: Device> Fs<D> {
     ghost use Rattle.std.specs.Prelude.{◌≡◌, ◌≤◌, true, ℕ, length, IfOk, IsErrOf};
-    ghost use Rattle.layout.specs.Known.{IsCard};
+    ghost use Rattle.layout.specs.Known.{IsCached};
     ghost use Rattle.model.specs.Operations.Step.{State};
-    ghost use Rattle.fs.specs.Attributes.{AreAttributes, GetsAttributes, ShowsCard};
+    ghost use Rattle.fs.specs.Attributes.{AreAttributes, GetsAttributes, ShowsCached};
     ghost use Rattle.fs.specs.Views.{fs_of};
     ghost use Rattle.fs.specs.Operations.{IsOn};
     ghost use Rattle.model_tree.specs.declared.acl.TheConstants.Acl.{MAX_STORED};
@@ -64,16 +64,16 @@ impl<D: Device> Fs<D> {
             return Err(Status::Access);
         }
         Ok(AttributesAnswer {
-            node: self.shown(cached),
+            node: self.metadata(cached),
             asked,
         })
     }
 
     /// What a cached node shows.
-    pub(crate) fn shown<'a>(&self, cached: &'a CachedNode) -> NodeAttributes<'a>
-        requires fits { IsCard cached.now }
+    pub(crate) fn metadata<'a>(&self, cached: &'a CachedNode) -> NodeAttributes<'a>
+        requires fits { IsCached cached.now }
         requires few { length cached.now.fields.acl ≤ MAX_STORED }
-        ensures shows { ShowsCard (fs_of self.now).volume.limits cached.entry.now result }
+        ensures shows { ShowsCached (fs_of self.now).volume.limits cached.entry.now result }
         ensures few { HasFewEntries result }
     {
         let inode = &cached.inode;

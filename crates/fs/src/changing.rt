@@ -1,8 +1,8 @@
 //! Changes of the tree: the edits that they consist of, and keeping them.
 
 ghost use Rattle.std.specs.Prelude.{◌≡◌, ◌⊎◌, ◌+◌, ◌<◌, true, false, IfOk, IfErr, OnOk, MatchOption, ◌^◌};
-ghost use Rattle.tree_transaction.specs.Nodes.{shown_of};
-ghost use Rattle.fs.specs.Planned.{shown_by};
+ghost use Rattle.tree_transaction.specs.Nodes.{metadata_of};
+ghost use Rattle.fs.specs.Planned.{metadata_by};
 ghost use Rattle.fs.specs.Forms.{edits_by, resizing};
 ghost use Rattle.fs.specs.Forms as form;
 
@@ -15,18 +15,18 @@ use model_tree::status::Status;
 use node_table::CachedNode;
 use std::alloc::{AllocError, Global};
 use tree_edits::Edit;
-use tree_transaction::Shown;
+use tree_transaction::Metadata;
 
 /// What a node shows after a change alters its content.
 pub(crate) fn metadata_with_change(
     cached: &CachedNode,
     stamp: u64,
     now: u64,
-) -> Result<Shown, AllocError>
-    ensures { IfOk result (λ shown. shown_of shown ≡ shown_by cached.now.fields stamp now) }
+) -> Result<Metadata, AllocError>
+    ensures { IfOk result (λ metadata. metadata_of metadata ≡ metadata_by cached.now.fields stamp now) }
 {
     let inode = &cached.inode;
-    Ok(Shown {
+    Ok(Metadata {
         owner: inode.owner,
         group: inode.group,
         acl: inode.acl.try_clone()?,
@@ -51,17 +51,17 @@ pub(crate) fn made_edits<'a>(
     alloc: Global,
     new: NewNode<'a>,
     stamp: u64,
-    shown: Shown,
-    directory_shown: Shown,
+    metadata: Metadata,
+    directory_metadata: Metadata,
 ) -> Result<Vec<Edit<'a>>, AllocError>
     ensures { IfOk result (λ edits. edits.items
-        ≡ edits_by (form.Making stamp new.entry.kind new.entry.size shown new.entry.directory
-        new.entry.name directory_shown)) }
+        ≡ edits_by (form.Making stamp new.entry.kind new.entry.size metadata new.entry.directory
+        new.entry.name directory_metadata)) }
 {
     let node = Edit::PutNode {
         number: stamp,
         kind: new.kind,
-        shown,
+        metadata,
     };
     let name = Edit::PutName {
         directory: new.directory,
@@ -71,7 +71,7 @@ pub(crate) fn made_edits<'a>(
     };
     let shows = Edit::Show {
         number: new.directory,
-        shown: directory_shown,
+        metadata: directory_metadata,
     };
     if new.size == 0 {
         return Ok(vec![in alloc; node, name, shows]?);
@@ -91,11 +91,11 @@ pub(crate) fn removed_edits<'a>(
     stamp: u64,
     name: &'a [u8],
     number: u64,
-    directory_shown: Shown,
+    directory_metadata: Metadata,
 ) -> Result<Vec<Edit<'a>>, AllocError>
     ensures { IfOk result (λ edits. edits.items ≡ edits_by (form.Removing
         (record { directory = directory; stamp = stamp; name = name.entry }) number
-        directory_shown)) }
+        directory_metadata)) }
 {
     let name_gone = Edit::DropName {
         directory,
@@ -104,7 +104,7 @@ pub(crate) fn removed_edits<'a>(
     };
     let shows = Edit::Show {
         number: directory,
-        shown: directory_shown,
+        metadata: directory_metadata,
     };
     Ok(vec![in alloc; name_gone, Edit::DropNode { number }, shows]?)
 }
@@ -115,9 +115,9 @@ pub(crate) fn written_edits<'a>(
     file: u64,
     offset: usize,
     bytes: &'a [u8],
-    shown: Shown,
+    metadata: Metadata,
 ) -> [Edit<'a>; 2]
-    ensures { result ≡ edits_by (form.Writing file offset bytes.entry shown) }
+    ensures { result ≡ edits_by (form.Writing file offset bytes.entry metadata) }
 {
     let put = Edit::PutBytes {
         file,
@@ -126,7 +126,7 @@ pub(crate) fn written_edits<'a>(
     };
     let shows = Edit::Show {
         number: file,
-        shown,
+        metadata,
     };
     [put, shows]
 }
@@ -136,11 +136,11 @@ pub(crate) fn set_edits<'a>(
     alloc: Global,
     number: u64,
     size: Option<u64>,
-    shown: Shown,
+    metadata: Metadata,
 ) -> Result<Vec<Edit<'a>>, AllocError>
-    ensures { IfOk result (λ edits. edits.items ≡ edits_by (form.Setting number size shown)) }
+    ensures { IfOk result (λ edits. edits.items ≡ edits_by (form.Setting number size metadata)) }
 {
-    let shows = Edit::Show { number, shown };
+    let shows = Edit::Show { number, metadata };
     match size {
         None => Ok(vec![in alloc; shows]?),
         Some(size) => Ok(vec![in alloc; Edit::SetSize { file: number, size }, shows]?),

@@ -11,7 +11,7 @@ use node_table::CachedNode;
 #[tactic(auto, unfolding(crate::specs::Views::fs_of))]
 impl<D: Device> Fs<D> {
     ghost use Rattle.std.specs.Prelude.{◌≡◌, IfOk};
-    ghost use Rattle.layout.specs.Known.{IsCard};
+    ghost use Rattle.layout.specs.Known.{IsCached};
     ghost use Rattle.model_tree.specs.declared.node.NodeKind.TheVariants as kind;
     ghost use Rattle.wire_attributes.specs.Given.{IsChecked};
     ghost use Rattle.fs.specs.Files.{file_refusals, permit_refusals};
@@ -24,7 +24,7 @@ impl<D: Device> Fs<D> {
         ensures node { IfOk result (λ cached.
             IsNodeOf (fs_of self.entry.now).volume.tree number cached.now) }
         ensures file { IfOk result (λ cached. cached.now.fields.kind ≡ kind.File) }
-        ensures fit { IfOk result (λ cached. IsCard cached.now) }
+        ensures fit { IfOk result (λ cached. IsCached cached.now) }
     {
         let Some(cached) = self.volume.node(number) else {
             return Err(Status::Stale);
@@ -49,7 +49,7 @@ impl<D: Device> Fs<D> {
         ensures node { IfOk result (λ cached.
             IsNodeOf (fs_of self.entry.now).volume.tree number cached.now) }
         ensures file { IfOk result (λ cached. cached.now.fields.kind ≡ kind.File) }
-        ensures fit { IfOk result (λ cached. IsCard cached.now) }
+        ensures fit { IfOk result (λ cached. IsCached cached.now) }
     {
         let cached = self.file(number)?;
         verdict?;

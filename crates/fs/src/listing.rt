@@ -254,7 +254,7 @@ impl<D: Device> Fs<D> {
             return ListedAttributes::Unreadable;
         }
         match self.volume.node(number) {
-            Some(cached) => ListedAttributes::Shown(AttributesAnswer {
+            Some(cached) => ListedAttributes::Metadata(AttributesAnswer {
                 node: self.shown(cached),
                 asked,
             }),

@@ -16,7 +16,7 @@ use model_tree::status::Status;
 use node_table::CachedNode;
 use std::alloc::{AllocError, Global};
 use tree_edits::Edit;
-use tree_transaction::Shown;
+use tree_transaction::Metadata;
 use wire_attributes::{GivenAttributes, SETTABLE_AT_CREATION, Settings, check_attributes};
 
 /// The directory that a caller asks for.
@@ -38,8 +38,8 @@ struct Planned<'a> {
 }
 
 /// What a node shows if only its room matters. Needs no memory.
-fn blank_shown(alloc: Global) -> Shown {
-    Shown {
+fn blank_metadata(alloc: Global) -> Metadata {
+    Metadata {
         owner: 0,
         group: 0,
         acl: Acl::new(alloc),
@@ -51,9 +51,9 @@ fn blank_shown(alloc: Global) -> Shown {
 #[tactic(auto, unfolding(crate::specs::Views::fs_of, crate::specs::Views::fs_failures))]
 impl<D: Device> Fs<D> {
     ghost use Rattle.std.specs.Prelude.{◌≡◌, ◌≤◌, ◌<◌, ◌+◌, ◌^◌, ℕ, true, false, None, length, OnOk, IfOk, IfErr, IsErrOf};
-    ghost use Rattle.tree_transaction.specs.Nodes.{shown_of};
+    ghost use Rattle.tree_transaction.specs.Nodes.{metadata_of};
     ghost use Rattle.tree_edits.specs.Edits.{AreEntries};
-    ghost use Rattle.layout.specs.Known.{IsCard};
+    ghost use Rattle.layout.specs.Known.{IsCached};
     ghost use Rattle.model_tree.specs.Refusals.Refusal.{first_refusal};
     ghost use Rattle.model_tree.specs.Trees.Stamp.{next_stamp};
     ghost use Rattle.model.specs.Operations.Step.{State};
@@ -65,7 +65,7 @@ impl<D: Device> Fs<D> {
     ghost use Rattle.fs.specs.Operations.{IsOn, MakesDir, MakesDirBy, MakesTree, IsNotDone, new_directory};
     ghost use Rattle.fs.specs.Making.{IsDirectoryOf, IsSizeOf, MayBeMade, first_content, first_node, room_tests};
     ghost use Rattle.fs.specs.Making.{tree_with};
-    ghost use Rattle.fs.specs.Planned.{IsList, IsPlanned, child_shown, list_by};
+    ghost use Rattle.fs.specs.Planned.{IsList, IsPlanned, child_metadata, list_by};
     ghost use Rattle.fs.specs.Refusals.{MindsRoom, fault_of};
     ghost use Rattle.volume.specs.Edits.{edited_by};
     ghost use Rattle.volume.specs.Nodes.{IsNodeOf};
@@ -137,8 +137,8 @@ impl<D: Device> Fs<D> {
             size: 0,
         };
         let stamp = self.stamp_for_node(parent, new)?;
-        let shown = self.new_node(cred, parent, NodeKind::Directory, settings, stamp, now)?;
-        let edits = self.plan_node(parent, new, shown, stamp, now)?;
+        let metadata = self.new_node(cred, parent, NodeKind::Directory, settings, stamp, now)?;
+        let edits = self.plan_node(parent, new, metadata, stamp, now)?;
         Ok(Planned {
             edits,
             created: Created {
@@ -164,7 +164,7 @@ impl<D: Device> Fs<D> {
         // If none holds
         ensures parent { IfOk result (λ permitted.
             IsNodeOf (fs_of self.entry.now).volume.tree asked.entry.parent permitted.0.now) }
-        ensures fit { IfOk result (λ permitted. IsCard permitted.0.now) }
+        ensures fit { IfOk result (λ permitted. IsCached permitted.0.now) }
         ensures settings { IfOk result (λ permitted.
             AreSettings permitted.1 (given_of asked.entry.attributes)) }
         ensures within { IfOk result (λ permitted.
@@ -218,7 +218,7 @@ impl<D: Device> Fs<D> {
         let node = Edit::PutNode {
             number: 0,
             kind: new.kind,
-            shown: blank_shown(self.alloc),
+            metadata: blank_metadata(self.alloc),
         };
         let name = Edit::PutName {
             directory: new.directory,
@@ -243,7 +243,7 @@ impl<D: Device> Fs<D> {
         &self,
         parent: &CachedNode,
         new: NewNode<'a>,
-        shown: Shown,
+        metadata: Metadata,
         stamp: u64,
         now: u64,
     ) -> Result<Vec<Edit<'a>>, AllocError>
@@ -251,19 +251,19 @@ impl<D: Device> Fs<D> {
         requires parent { IsDirectoryOf (fs_of self.now).volume.tree new.directory parent.now }
         requires size { IsSizeOf new.kind new.size }
         requires made { MayBeMade (fs_of self.now) new.directory new.name.now
-            (first_node new.kind new.size (shown_of shown)) }
-        requires entries { AreEntries (shown_of shown).acl }
+            (first_node new.kind new.size (metadata_of metadata)) }
+        requires entries { AreEntries (metadata_of metadata).acl }
         requires stamp { stamp ≡ next_stamp (fs_of self.now).volume.run (fs_of self.now).changes }
         requires room { first_refusal (room_tests (fs_of self.now) (tree_with (fs_of self.now)
-            new.directory new.name.now (first_node new.kind new.size (shown_of shown)) now))
+            new.directory new.name.now (first_node new.kind new.size (metadata_of metadata)) now))
             ≡ None }
         ensures planned { IfOk result (λ edits. IsPlanned (fs_of self.now) edits.items) }
         ensures after { IfOk result (λ edits. edited_by (fs_of self.now).volume edits.items
             ≡ tree_with (fs_of self.now) new.entry.directory new.entry.name.now
-            (first_node new.entry.kind new.entry.size (shown_of shown)) now) }
+            (first_node new.entry.kind new.entry.size (metadata_of metadata)) now) }
     {
-        let directory_shown = metadata_with_change(parent, stamp, now)?;
-        let edits = made_edits(self.alloc, new, stamp, shown, directory_shown)?;
+        let directory_metadata = metadata_with_change(parent, stamp, now)?;
+        let edits = made_edits(self.alloc, new, stamp, metadata, directory_metadata)?;
         Ok(edits)
     }
 
@@ -276,17 +276,17 @@ impl<D: Device> Fs<D> {
         settings: Settings,
         stamp: u64,
         now: u64,
-    ) -> Result<Shown, AllocError>
+    ) -> Result<Metadata, AllocError>
         requires within { WithinLimits (fs_of self.now).volume.limits kind settings }
         requires listed { IsList (fs_of self.now).volume.limits NodeKind.Directory
             parent.now.fields.acl }
-        ensures shown { IfOk result (λ child. shown_of child
-            ≡ child_shown cred.now (list_by kind parent.now.fields.acl settings) stamp now) }
-        ensures entries { IfOk result (λ child. AreEntries (shown_of child).acl) }
+        ensures metadata { IfOk result (λ child. metadata_of child
+            ≡ child_metadata cred.now (list_by kind parent.now.fields.acl settings) stamp now) }
+        ensures entries { IfOk result (λ child. AreEntries (metadata_of child).acl) }
     {
         let (owner, group) = (cred.uid, cred.gid);
         let acl = list_created(self.alloc, parent.inode.acl.as_slice(), kind, settings)?;
-        Ok(Shown {
+        Ok(Metadata {
             owner,
             group,
             acl,

@@ -28,7 +28,7 @@ struct Planned<'a> {
 impl<D: Device> Fs<D> {
     ghost use Rattle.std.specs.Prelude.{◌≡◌, ◌≤◌, true, false, None, length, OnOk, IfOk, IfErr, IsErrOf};
     ghost use Rattle.std.specs.Prelude.{MatchOption, ⊤};
-    ghost use Rattle.layout.specs.Known.{IsCard};
+    ghost use Rattle.layout.specs.Known.{IsCached};
     ghost use Rattle.model_tree.specs.declared.node.NodeKind.TheVariants as kind;
     ghost use Rattle.model.specs.Attributes.Attribute.{attribute_refusals, settable_at_open};
     ghost use Rattle.model_tree.specs.Trees.Tree.{is_named};
@@ -244,7 +244,7 @@ impl<D: Device> Fs<D> {
         ensures node { IfOk result (λ found.
             IsNodeOf (fs_of self.entry.now).volume.tree number found.0.now) }
         ensures file { IfOk result (λ found. found.0.now.fields.kind ≡ kind.File) }
-        ensures fit { IfOk result (λ found. IsCard found.0.now) }
+        ensures fit { IfOk result (λ found. IsCached found.0.now) }
         ensures cut { IfOk result (λ found. found.1 ≡ cuts (type_of asked.entry.how)) }
     {
         // a name always leads to a node
@@ -318,7 +318,7 @@ impl<D: Device> Fs<D> {
         requires up { (fs_of self.now).volume.is_down ≡ false }
         requires node { IsNodeOf (fs_of self.now).volume.tree number cached.now }
         requires file { cached.now.fields.kind ≡ kind.File }
-        requires fit { IsCard cached.now }
+        requires fit { IsCached cached.now }
         // Its tests, in their order
         ensures tests { IsCheckedInMemory (room_tests (fs_of self.now)
             (tree_cut (fs_of self.now) number now)) result }
@@ -330,8 +330,8 @@ impl<D: Device> Fs<D> {
             ≡ tree_cut (fs_of self.now) number now) }
     {
         let stamp = self.stamp_to_resize(number, Some(0))?;
-        let shown = metadata_with_change(cached, stamp, now)?;
-        let edits = set_edits(self.alloc, number, Some(0), shown)?;
+        let metadata = metadata_with_change(cached, stamp, now)?;
+        let edits = set_edits(self.alloc, number, Some(0), metadata)?;
         Ok(edits)
     }
 
@@ -377,8 +377,8 @@ impl<D: Device> Fs<D> {
             size: settings.size.unwrap_or(0),
         };
         let stamp = self.stamp_for_node(directory, new)?;
-        let shown = self.new_node(cred, directory, NodeKind::File, settings, stamp, now)?;
-        let edits = self.plan_node(directory, new, shown, stamp, now)?;
+        let metadata = self.new_node(cred, directory, NodeKind::File, settings, stamp, now)?;
+        let edits = self.plan_node(directory, new, metadata, stamp, now)?;
         Ok(Planned {
             edits: Some(edits),
             opened: Opened {

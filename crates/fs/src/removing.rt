@@ -45,7 +45,7 @@ struct Planned<'a> {
 impl<D: Device> Fs<D> {
     ghost use Rattle.std.specs.Prelude.{◌≡◌, true, false, Some, OnOk, IfOk, IfErr, IsErrOf};
     ghost use Rattle.directory.specs.Records.{record_from};
-    ghost use Rattle.layout.specs.Known.{IsCard};
+    ghost use Rattle.layout.specs.Known.{IsCached};
     ghost use Rattle.model_tree.specs.Trees.Tree.{number_named};
     ghost use Rattle.model.specs.Operations.Operation.{Argument};
     ghost use Rattle.model_tree.specs.Trees.Stamp.{is_stamp_left};
@@ -130,14 +130,14 @@ impl<D: Device> Fs<D> {
         let Some(stamp) = self.stamp_left() else {
             return Err(NotDone::Status(Status::ServerFault));
         };
-        let shown = metadata_with_change(holder, stamp, now)?;
+        let metadata = metadata_with_change(holder, stamp, now)?;
         let edits = removed_edits(
             self.alloc,
             directory,
             removal.stamp,
             name,
             removal.number,
-            shown,
+            metadata,
         )?;
         Ok(Planned {
             edits,
@@ -161,7 +161,7 @@ impl<D: Device> Fs<D> {
             (fs_of self.entry.now).volume.tree cred.now directory name.now) result }
         ensures directory { IfOk result (λ removal.
             IsNodeOf (fs_of self.entry.now).volume.tree directory removal.directory.now) }
-        ensures fit { IfOk result (λ removal. IsCard removal.directory.now) }
+        ensures fit { IfOk result (λ removal. IsCached removal.directory.now) }
         ensures entry { IfOk result (λ removal.
             entry_of name.now (names_at (fs_of self.entry.now).volume.tree directory)
             ≡ Some (record_from removal.stamp name.now removal.number)) }

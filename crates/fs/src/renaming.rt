@@ -19,7 +19,7 @@ use model_tree::status::Status;
 use node_table::CachedNode;
 use std::alloc::{AllocError, Global};
 use tree_edits::Edit;
-use tree_transaction::Shown;
+use tree_transaction::Metadata;
 
 /// The rename that a caller asks for.
 #[derive(Clone, Copy)]
@@ -93,12 +93,12 @@ fn renamed_edits<'a>(
     moving: Moving<'_>,
     target: Option<(u64, u64)>,
     stamp: u64,
-    from_shown: Shown,
-    to_shown: Shown,
+    from_metadata: Metadata,
+    to_metadata: Metadata,
 ) -> Result<Vec<Edit<'a>>, AllocError>
     ensures { IfOk result (λ edits. edits.items ≡ edits_by (form.Moving moving.entry.number
         (old_place asked.entry moving.entry.stamp) (new_place asked.entry stamp) target
-        from_shown to_shown)) }
+        from_metadata to_metadata)) }
 {
     let old_gone = Edit::DropName {
         directory: asked.from,
@@ -113,11 +113,11 @@ fn renamed_edits<'a>(
     };
     let from_shows = Edit::Show {
         number: asked.from,
-        shown: from_shown,
+        metadata: from_metadata,
     };
     let to_shows = Edit::Show {
         number: asked.to,
-        shown: to_shown,
+        metadata: to_metadata,
     };
     let Some((target_stamp, number)) = target else {
         return Ok(vec![in alloc; old_gone, new, from_shows, to_shows]?);
@@ -324,10 +324,16 @@ impl<D: Device> Fs<D> {
         self.permit_rename(cred, asked, moving, target)?;
         // which stamp the new name gets does not matter to the room: 0 if none is left
         let stamp = self.stamp_left().unwrap_or(0);
-        let from_shown = metadata_with_change(from, stamp, now)?;
-        let to_shown = metadata_with_change(to, stamp, now)?;
+        let from_metadata = metadata_with_change(from, stamp, now)?;
+        let to_metadata = metadata_with_change(to, stamp, now)?;
         let edits = renamed_edits(
-            self.alloc, asked, moving, target, stamp, from_shown, to_shown,
+            self.alloc,
+            asked,
+            moving,
+            target,
+            stamp,
+            from_metadata,
+            to_metadata,
         )?;
         self.stamp_for(&edits)?;
         Ok(Planned {

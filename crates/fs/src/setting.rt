@@ -18,7 +18,7 @@ use model_tree::status::Status;
 use node_table::CachedNode;
 use std::alloc::AllocError;
 use tree_edits::Edit;
-use tree_transaction::Shown;
+use tree_transaction::Metadata;
 use wire_attributes::{
     Attribute, GivenAttributes, SETTABLE_AT_SETATTR, Settings, check_attributes, is_among,
     numbers_of,
@@ -69,9 +69,9 @@ fn check_sized(
 impl<D: Device> Fs<D> {
     ghost use Rattle.std.specs.Prelude.{◌≡◌, ◌≤◌, true, false, length, OnOk, IfOk, IfErr, IsErrOf};
     ghost use Rattle.std.specs.Prelude.{MatchOption};
-    ghost use Rattle.tree_transaction.specs.Nodes.{shown_of};
+    ghost use Rattle.tree_transaction.specs.Nodes.{metadata_of};
     ghost use Rattle.tree_edits.specs.Edits.{AreEntries};
-    ghost use Rattle.layout.specs.Known.{IsCard};
+    ghost use Rattle.layout.specs.Known.{IsCached};
     ghost use Rattle.model.specs.Attributes.Attribute.{is_empty};
     ghost use Rattle.model.specs.Operations.Operation.{Argument, SetAttrArguments};
     ghost use Rattle.model.specs.Operations.Step.{State};
@@ -83,7 +83,7 @@ impl<D: Device> Fs<D> {
     ghost use Rattle.fs.specs.Planned.{IsList, IsPlanned};
     ghost use Rattle.fs.specs.Refusals.{MindsRoom, fault_of};
     ghost use Rattle.fs.specs.Setting.{IsSetting, SetsAsPlanned, SetsAttributes, SetsTree};
-    ghost use Rattle.fs.specs.Setting.{setting_tests, shown_with};
+    ghost use Rattle.fs.specs.Setting.{setting_tests, metadata_with};
     ghost use Rattle.fs.specs.Verdicts.{IsPossible};
     ghost use Rattle.volume.specs.Nodes.{IsNodeOf};
 
@@ -162,8 +162,8 @@ impl<D: Device> Fs<D> {
         }
         let size = settings.size;
         let stamp = self.stamp_to_resize(asked.number, size)?;
-        let shown = self.shown_set(cached, settings, stamp, now)?;
-        let edits = set_edits(self.alloc, asked.number, size, shown)?;
+        let metadata = self.metadata_set(cached, settings, stamp, now)?;
+        let edits = set_edits(self.alloc, asked.number, size, metadata)?;
         Ok(Some(edits))
     }
 
@@ -181,7 +181,7 @@ impl<D: Device> Fs<D> {
         // If none holds
         ensures node { IfOk result (λ permitted.
             IsNodeOf (fs_of self.entry.now).volume.tree asked.entry.number permitted.0.now) }
-        ensures fit { IfOk result (λ permitted. IsCard permitted.0.now) }
+        ensures fit { IfOk result (λ permitted. IsCached permitted.0.now) }
         ensures settings { IfOk result (λ permitted.
             AreSettings permitted.1 (given_of asked.entry.attributes)) }
         ensures within { IfOk result (λ permitted. WithinLimits
@@ -206,20 +206,20 @@ impl<D: Device> Fs<D> {
     }
 
     /// What a node shows with these settings, which passed their tests.
-    fn shown_set(
+    fn metadata_set(
         &self,
         cached: &CachedNode,
         settings: Settings,
         stamp: u64,
         now: u64,
-    ) -> Result<Shown, AllocError>
+    ) -> Result<Metadata, AllocError>
         requires within { WithinLimits (fs_of self.now).volume.limits cached.now.fields.kind
             settings }
         requires listed { IsList (fs_of self.now).volume.limits cached.now.fields.kind
             cached.now.fields.acl }
-        ensures shown { IfOk result (λ shown.
-            shown_of shown ≡ shown_with cached.now.fields settings stamp now) }
-        ensures entries { IfOk result (λ shown. AreEntries (shown_of shown).acl) }
+        ensures metadata { IfOk result (λ metadata.
+            metadata_of metadata ≡ metadata_with cached.now.fields settings stamp now) }
+        ensures entries { IfOk result (λ metadata. AreEntries (metadata_of metadata).acl) }
     {
         let inode = &cached.inode;
         let owner = settings.owner.unwrap_or(inode.owner);
@@ -236,7 +236,7 @@ impl<D: Device> Fs<D> {
             settings.mode,
             settings.acl,
         )?;
-        Ok(Shown {
+        Ok(Metadata {
             owner,
             group,
             acl,

@@ -129,8 +129,8 @@ impl<D: Device> Fs<D> {
             bytes: part,
         };
         let stamp = self.stamp_for(&[put])?;
-        let shown = metadata_with_change(cached, stamp, now)?;
-        Ok(written_edits(number, offset, part, shown))
+        let metadata = metadata_with_change(cached, stamp, now)?;
+        Ok(written_edits(number, offset, part, metadata))
     }
 
     /// The bytes that one WRITE takes of these: the first of them.

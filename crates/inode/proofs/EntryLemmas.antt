@@ -9,7 +9,7 @@ use Rattle.inode.specs.declared.fault.InodeFault.{InodeFault}
 use Rattle.sector.specs.Placed.{IsNumberAt}
 use Rattle.sector.specs.Records.{AreWide}
 use Rattle.inode.specs.Fields.{IsAce, id_of}
-use Rattle.inode.specs.Spelling.{ace_bytes, ace_kind_byte, who_byte, number_bytes}
+use Rattle.inode.specs.Encoding.{ace_bytes, ace_kind_byte, who_byte, number_bytes}
 
 pub aces_wide : AreWide ace_bytes 16
 aces_wide ace = refl

@@ -11,7 +11,7 @@ use Rattle.sector.specs.Records.{length-records}
 use Rattle.inode.specs.declared.node.Form.{Form}
 use Rattle.inode.specs.declared.node.Form.TheVariants.{One, Two}
 use Rattle.inode.specs.Fields.{Fields, IsInode, most_entries}
-use Rattle.inode.specs.Spelling.{inode_sector, kind_byte, second_count, nine, number_bytes, ace_bytes, acl_bytes}
+use Rattle.inode.specs.Encoding.{inode_sector, kind_byte, second_count, nine, number_bytes, ace_bytes, acl_bytes}
 use Rattle.inode.specs.Reading.{count_in}
 use Rattle.inode.proofs.EntryLemmas.{numbers_wide}
 

@@ -9,11 +9,11 @@ use Rattle.model_tree.specs.declared.acl.AceKind.{AceKind}
 use Rattle.model_tree.specs.declared.acl.AceKind.TheVariants as ace_kind
 use Rattle.model_tree.specs.declared.acl.Who.{Who}
 use Rattle.model_tree.specs.declared.acl.Who.TheVariants as who
-use Rattle.sector.specs.Records.{records_at_front, records-back}
+use Rattle.sector.specs.Records.{records_at_prefix, records-back}
 use Rattle.inode.specs.declared.node.Form.{Form}
 use Rattle.inode.specs.declared.node.Form.TheVariants.{One, Two}
 use Rattle.inode.specs.Fields.{Fields, IsInode, IsAce, IsRunSector, id_of}
-use Rattle.inode.specs.Spelling.{inode_sector, kind_byte, ace_kind_byte, who_byte, number_bytes, ace_bytes}
+use Rattle.inode.specs.Encoding.{inode_sector, kind_byte, ace_kind_byte, who_byte, number_bytes, ace_bytes}
 use Rattle.inode.specs.Reading.{fields_in, form_in, count_in, kind_of_byte, ace_kind_of_byte, who_of_byte, ace_in, run_sector_in, FieldsReadBack, FormReadsBack, OneNode}
 use Rattle.inode.proofs.Parts.{run_sectors_there, count_there, acl_there, rest_of_numbers, rest_of_acl, same_fields}
 use Rattle.inode.proofs.EntryLemmas.{same_ace, aces_wide, numbers_wide}
@@ -53,17 +53,17 @@ runs_there One fields is = from_be_bytes-to_be_bytes_2 fields.runs (omega (arith
 runs_there Two fields is = from_be_bytes-to_be_bytes_2 fields.runs (omega (arith, is.runs))
 
 module _ (form : Form) (fields : Fields) (is : IsInode form fields) where
-  run_sectors-back : records_at_front run_sector_in 4 ((from_be_bytes w16 (drop 6 (inode_sector form fields)) + 499) / 500) (drop 48 (inode_sector form fields)) ≡ fields.run_sectors
+  run_sectors-back : records_at_prefix run_sector_in 4 ((from_be_bytes w16 (drop 6 (inode_sector form fields)) + 499) / 500) (drop 48 (inode_sector form fields)) ≡ fields.run_sectors
   run_sectors-back =
       let counted : (from_be_bytes w16 (drop 6 (inode_sector form fields)) + 499) / 500 ≡ length fields.run_sectors = ap (λ (n : ℕ). (n + 499) / 500) (runs_there form fields is) ∙ sym is.run_sectors in
-      ap₂ (records_at_front run_sector_in 4) counted (run_sectors_there form fields (inode_sector form fields) refl)
+      ap₂ (records_at_prefix run_sector_in 4) counted (run_sectors_there form fields (inode_sector form fields) refl)
       ∙ records-back number_bytes 4 numbers_wide run_sector_in IsRunSector number-back fields.run_sectors (rest_of_numbers form fields) is.each_run_sector
 
-  acl-back : records_at_front ace_in 16 (count_in (form_in (inode_sector form fields)) (inode_sector form fields)) (drop 128 (inode_sector form fields)) ≡ fields.acl
+  acl-back : records_at_prefix ace_in 16 (count_in (form_in (inode_sector form fields)) (inode_sector form fields)) (drop 128 (inode_sector form fields)) ≡ fields.acl
   acl-back =
       let counted : count_in (form_in (inode_sector form fields)) (inode_sector form fields) ≡ length fields.acl =
       ap (λ (one : Form). count_in one (inode_sector form fields)) (form-back form fields) ∙ count_there form fields (inode_sector form fields) refl is in
-      ap₂ (records_at_front ace_in 16) counted (acl_there form fields (inode_sector form fields) refl is)
+      ap₂ (records_at_prefix ace_in 16) counted (acl_there form fields (inode_sector form fields) refl is)
       ∙ records-back ace_bytes 16 aces_wide ace_in IsAce ace-back fields.acl (rest_of_acl fields) is.each_ace
 
 pub fields-back : FieldsReadBack

@@ -1,4 +1,4 @@
 pub mod Fields
 pub mod Ranges
 pub mod Reading
-pub mod Spelling
+pub mod Encoding

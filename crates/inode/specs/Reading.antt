@@ -10,11 +10,11 @@ use Rattle.model_tree.specs.declared.acl.AceKind.{AceKind}
 use Rattle.model_tree.specs.declared.acl.AceKind.TheVariants as ace_kind
 use Rattle.model_tree.specs.declared.acl.Who.{Who}
 use Rattle.model_tree.specs.declared.acl.Who.TheVariants as who
-use Rattle.sector.specs.Records.{records_at_front}
+use Rattle.sector.specs.Records.{records_at_prefix}
 use Rattle.inode.specs.declared.node.Form.{Form}
 use Rattle.inode.specs.declared.node.Form.TheVariants.{One, Two}
 use Rattle.inode.specs.Fields.{Fields, IsInode}
-use Rattle.inode.specs.Spelling.{inode_sector}
+use Rattle.inode.specs.Encoding.{inode_sector}
 
 abbrev pub kind_of_byte : ℕ → NodeKind
 kind_of_byte byte = if byte == 2 then node.Directory else node.File
@@ -62,9 +62,9 @@ fields_in sector = record {
   size = from_be_bytes w64 (drop 40 sector);
   runs = from_be_bytes w16 (drop 6 sector);
   run_sectors =
-      records_at_front run_sector_in 4 ((from_be_bytes w16 (drop 6 sector) + 499) / 500)
+      records_at_prefix run_sector_in 4 ((from_be_bytes w16 (drop 6 sector) + 499) / 500)
       (drop 48 sector);
-  acl = records_at_front ace_in 16 (count_in (form_in sector) sector) (drop 128 sector);
+  acl = records_at_prefix ace_in 16 (count_in (form_in sector) sector) (drop 128 sector);
 }
 
 abbrev pub FieldsReadBack : Type 0

@@ -5,7 +5,7 @@ ghost use Rattle.model_tree.specs.declared.acl.Ace.{Ace};
 ghost use Rattle.model_tree.specs.declared.acl.AceKind.{AceKind};
 ghost use Rattle.model_tree.specs.declared.acl.Who.{Who};
 ghost use Rattle.inode.specs.Fields.{IsAce, id_of};
-ghost use Rattle.inode.specs.Spelling.{ace_bytes, ace_kind_byte, who_byte};
+ghost use Rattle.inode.specs.Encoding.{ace_bytes, ace_kind_byte, who_byte};
 
 use bitflags::Flags;
 use model_tree::acl::{Ace, AceFlags, AceKind, Mask, Who};
@@ -68,7 +68,7 @@ fn who_from(byte: u8, id: u32) -> Option<Who>
 pub(crate) fn put_ace(sector: &mut [u8; SIZE], at: usize, ace: Ace)
     requires within { at + WIDTH ≤ SIZE }
     requires ace { IsAce ace }
-    ensures front { take (at + WIDTH) sector.new ≡ take at sector.old ++ ace_bytes ace }
+    ensures prefix { take (at + WIDTH) sector.new ≡ take at sector.old ++ ace_bytes ace }
     ensures len { length sector.new ≡ SIZE }
 {
     let (who, id) = who_bytes(ace.who);

@@ -5,7 +5,7 @@ ghost use Rattle.std.specs.List.{AllByRecursion, flat_map};
 ghost use Rattle.model_tree.specs.declared.acl.Ace.{Ace};
 ghost use Rattle.model_tree.specs.declared.node.NodeKind.{NodeKind};
 ghost use Rattle.inode.specs.Fields.{Fields, fields_of, IsAce, IsRunSector, IsInode};
-ghost use Rattle.inode.specs.Spelling.{inode_sector, ace_bytes, number_bytes, kind_byte};
+ghost use Rattle.inode.specs.Encoding.{inode_sector, ace_bytes, number_bytes, kind_byte};
 ghost use Rattle.inode.specs.Reading.{count_in};
 
 use crate::entries::{MOST, WIDTH, ace_at};
@@ -146,9 +146,9 @@ pub fn from_sector(alloc: Global, form: Form, sector: &[u8; SIZE]) -> Result<Ino
         → ¬ (sector.now ≡ inode_sector form fields) }
 {
     let inode = inode_in(alloc, form, sector)?;
-    let mut spelled = [0; SIZE];
-    to_sector(&inode, form, &mut spelled);
-    if spelled != *sector {
+    let mut encoded = [0; SIZE];
+    to_sector(&inode, form, &mut encoded);
+    if encoded != *sector {
         return Err(InodeFault::NotInode);
     }
     Ok(inode)

@@ -3,8 +3,8 @@
 ghost use Rattle.std.specs.Prelude.{◌≡◌, ◌≤◌, ◌+◌, ◌-◌, ◌*◌, ◌++◌, length, take};
 ghost use Rattle.std.specs.List.{AllByRecursion};
 ghost use Rattle.inode.specs.Fields.{fields_of, most_entries, IsAce, IsInode};
-ghost use Rattle.inode.specs.Spelling.{inode_sector, head, nine, magic, acl_bytes};
-ghost use Rattle.inode.specs.Spelling as spelled;
+ghost use Rattle.inode.specs.Encoding.{inode_sector, head, nine, magic, acl_bytes};
+ghost use Rattle.inode.specs.Encoding as encoded;
 
 use crate::entries::{MOST, WIDTH, put_ace};
 use crate::node::{Form, Inode};
@@ -23,7 +23,7 @@ const ZEROS: usize = 86;
 pub(crate) const ENTRIES: usize = 128;
 
 fn kind_byte(kind: NodeKind) -> u8
-    ensures { result ≡ spelled.kind_byte kind }
+    ensures { result ≡ encoded.kind_byte kind }
 {
     match kind {
         NodeKind::File => 1,
@@ -43,7 +43,7 @@ fn magic_of(form: Form) -> [u8; 4]
 /// The number of entries, as byte 5 encodes it.
 fn first_count(form: Form, count: usize) -> u8
     requires { count ≤ most_entries form }
-    ensures { result ≡ spelled.first_count form count }
+    ensures { result ≡ encoded.first_count form count }
 {
     match form {
         Form::One => count as u8,
@@ -54,7 +54,7 @@ fn first_count(form: Form, count: usize) -> u8
 /// The number of entries, as bytes 84 and 85 encode it.
 fn second_count(form: Form, count: usize) -> u16
     requires { count ≤ most_entries form }
-    ensures { result ≡ spelled.second_count form count }
+    ensures { result ≡ encoded.second_count form count }
 {
     match form {
         Form::One => 0,
@@ -64,7 +64,7 @@ fn second_count(form: Form, count: usize) -> u16
 
 fn put_head(inode: &Inode, form: Form, sector: &mut [u8; SIZE])
     requires { length inode.now.acl ≤ most_entries form }
-    ensures front { take RUN_NUMBERS sector.new ≡ head form (fields_of inode.now) }
+    ensures prefix { take RUN_NUMBERS sector.new ≡ head form (fields_of inode.now) }
     ensures len { length sector.new ≡ SIZE }
 {
     let count = first_count(form, inode.acl.as_slice().len());
@@ -81,7 +81,7 @@ fn put_head(inode: &Inode, form: Form, sector: &mut [u8; SIZE])
 
 fn put_run_sectors(numbers: &[u32], sector: &mut [u8; SIZE])
     requires { length numbers.now ≤ Inode.MAX_RUN_SECTORS }
-    ensures front { take SECOND_COUNT sector.new ≡ take RUN_NUMBERS sector.old ++ nine numbers.now }
+    ensures prefix { take SECOND_COUNT sector.new ≡ take RUN_NUMBERS sector.old ++ nine numbers.now }
     ensures len { length sector.new ≡ SIZE }
 {
     for (i, number) in numbers.iter().enumerate() {

@@ -9,7 +9,7 @@ use Rattle.journal.specs.Behind.{FitsGate, meets, goes_behind, way_for}
 use Rattle.journal.specs.Transactions.{has}
 use Rattle.journal.proofs.Images.{Out, Fit, Named-join, Out-join, are_named, named_of}
 use Rattle.journal.proofs.Lists.{Away, not_has-out, targets_of-Fit}
-use Rattle.journal.proofs.Stages.{fit_once, front_named}
+use Rattle.journal.proofs.Stages.{fit_once, prefix_named}
 
 neither : (a b : Bool) → (a || b) ≡ false → (a ≡ false) × (b ≡ false)
 neither true b e = absurd (let w : true ≡ false = e in cc)
@@ -54,10 +54,10 @@ fits_for area named to false e fits few fit = record { few = few; fit = fit }
 pub way_fits : (area : LogArea) (named to : List ℕ) → FitsGate area named → length to ≤ area.sectors → AreNamed area to → FitsGate area (way_for area named to ++ to)
 way_fits area named to fits few fit = fits_for area named to (goes_behind area named to) refl fits few fit
 
-pub front_fits : (area : LogArea) (named to : List ℕ) → FitsGate area (named ++ to) → FitsGate area named
-front_fits area named to fits = record {
+pub prefix_fits : (area : LogArea) (named to : List ℕ) → FitsGate area (named ++ to) → FitsGate area named
+prefix_fits area named to fits = record {
   few = omega (arith, length-append named to, fits.few);
-  fit = front_named area named to fits.fit;
+  fit = prefix_named area named to fits.fit;
 }
 
 -- looking for a target that is named, one after the other

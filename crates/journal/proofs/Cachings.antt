@@ -17,7 +17,7 @@ use Rattle.journal.specs.Layout.{targets, through}
 use Rattle.journal.specs.Settled.{AreSame}
 use Rattle.journal.specs.Transactions.{has}
 use Rattle.journal.proofs.Images.{Out-join, applied_out, put_other}
-use Rattle.journal.proofs.Fronts.{applied_keeps}
+use Rattle.journal.proofs.Prefixes.{applied_keeps}
 use Rattle.journal.proofs.Journals.{targets_more}
 use Rattle.journal.proofs.Lists.{no_update, applied_at, not_has-out, out-not_has}
 

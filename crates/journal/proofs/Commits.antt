@@ -10,7 +10,7 @@ use Rattle.journal.specs.Phase.{LeftWith, AddsUpdates, IsFixedAs, IsGated}
 use Rattle.journal.specs.Behind.{way_cost}
 use Rattle.journal.specs.Commit.{AddsEither, IsRecorded, KeepsShown, IsCopiedHome, MakesWay, IsCommitted}
 use Rattle.journal.proofs.Images.{Between, put_same, put_other}
-use Rattle.journal.proofs.Fronts.{settles_same, applied_keeps}
+use Rattle.journal.proofs.Prefixes.{settles_same, applied_keeps}
 use Rattle.journal.proofs.Phases.{length-placed, length-copies}
 use Rattle.journal.proofs.Stages.{gate_update, payload_behind, payload_stage, gate_stage, through_payload, homes_stage, homes_done, closing_stage, kept_not_1}
 use Rattle.journal.proofs.Moments.{between_of}

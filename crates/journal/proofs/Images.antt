@@ -49,9 +49,9 @@ are_named area to named apart = record { from_first = Named-far area.end to name
 pub of_targets : (area : LogArea) (to : List ℕ) → AreTargets area.end to → AreNamed area to
 of_targets area to a = record { from_first = a.from_first; on_device = a.on_device; apart = λ once. a.apart }
 
-pub Named-front : (size : ℕ) (a b : List ℕ) → Named size (a ++ b) → Named size a
-Named-front size [] b f = tt
-Named-front size (t ∷ a) b f = (f.0, f.1, Named-front size a b f.2)
+pub Named-prefix : (size : ℕ) (a b : List ℕ) → Named size (a ++ b) → Named size a
+Named-prefix size [] b f = tt
+Named-prefix size (t ∷ a) b f = (f.0, f.1, Named-prefix size a b f.2)
 
 pub Named-join : (size : ℕ) (a b : List ℕ) → Named size a → Named size b → Named size (a ++ b)
 Named-join size [] b f g = g
@@ -119,13 +119,13 @@ pub Out-join : (a b : List ℕ) (n : ℕ) → Out a n → Out b n → Out (a ++ 
 Out-join [] b n o p = p
 Out-join (t ∷ a) b n o p = (o.0, Out-join a b n o.1 p)
 
-Out-front : (a b : List ℕ) (n : ℕ) → Out (a ++ b) n → Out a n
-Out-front [] b n o = tt
-Out-front (t ∷ a) b n o = (o.0, Out-front a b n o.1)
+Out-prefix : (a b : List ℕ) (n : ℕ) → Out (a ++ b) n → Out a n
+Out-prefix [] b n o = tt
+Out-prefix (t ∷ a) b n o = (o.0, Out-prefix a b n o.1)
 
-pub Fit-front : (size : ℕ) (a b : List ℕ) → Fit size (a ++ b) → Fit size a
-Fit-front size [] b f = tt
-Fit-front size (t ∷ a) b f = (f.0, f.1, Out-front a b t f.2, Fit-front size a b f.3)
+pub Fit-prefix : (size : ℕ) (a b : List ℕ) → Fit size (a ++ b) → Fit size a
+Fit-prefix size [] b f = tt
+Fit-prefix size (t ∷ a) b f = (f.0, f.1, Out-prefix a b t f.2, Fit-prefix size a b f.3)
 
 -- the place of a sector behind a gate that names more targets after these
 pub home_behind : (found : ℕ) (to ts : List ℕ) (place n : ℕ)
@@ -151,14 +151,14 @@ high_named end (t ∷ ts) n f l = ((λ e. omega (arith, f.1, e)), high_named end
 -- a log is in front of what transactions write, or behind it
 pub sides : (area : LogArea) → IsArea area → (area.first + area.sectors ≤ 98) ⊎ (area.end ≤ area.first)
 sides area is = ⊎_elim
-    (λ (front : area.first < area.end). inl (is.beside front))
+    (λ (prefix : area.first < area.end). inl (is.beside prefix))
     (λ (behind : area.end ≤ area.first). inr behind)
     (cases_lt area.first area.end)
 
 -- no sector of the log is a target
 pub log_out : (area : LogArea) → IsArea area → (to : List ℕ) (n : ℕ) → Named area.end to → area.first ≤ n → n < area.first + area.sectors → Out to n
 log_out area is to n f from below = ⊎_elim
-    (λ (front : area.first + area.sectors ≤ 98). low_named area.end to n f (omega (arith, front)))
+    (λ (prefix : area.first + area.sectors ≤ 98). low_named area.end to n f (omega (arith, prefix)))
     (λ (behind : area.end ≤ area.first). high_named area.end to n f (omega (arith, behind)))
     (sides area is)
 

@@ -5,7 +5,7 @@ pub mod Ends
 pub mod Cachings
 pub mod Commits
 pub mod Formats
-pub mod Fronts
+pub mod Prefixes
 pub mod GateBytes
 pub mod GateWords
 pub mod Images

@@ -8,7 +8,7 @@ use Rattle.journal.specs.Calls.{IsPart, IsSafe}
 use Rattle.journal.specs.Journal.{log_of}
 use Rattle.journal.specs.Log.{Log, AnswersByDevice, IsSettled}
 use Rattle.journal.proofs.Answerings.{answers_fault}
-use Rattle.journal.proofs.Fronts.{settled_of}
+use Rattle.journal.proofs.Prefixes.{settled_of}
 use Rattle.journal.proofs.Journals.{gated_of}
 
 -- what a crash leaves of a journal that is up

@@ -8,25 +8,25 @@ use Rattle.journal.specs.Layout.{placed, copies}
 use Rattle.journal.specs.Phase.{LeftWith, AddsAtMost, AddsUpdates, IsFixedAs}
 use Rattle.journal.proofs.Moments.{wrote_all, AddsOnly-wrote_all, AddsOnly-synced, seen-wrote_all, moment-wrote_all, wrote_all-push}
 
-Among-front : (a b : List Update) (n : ℕ) (content : List ℕ) → Among a n content → Among (a ++ b) n content
-Among-front [] b n content w = absurd w
-Among-front (u ∷ a) b n content w = ⊎_elim
+Among-prefix : (a b : List Update) (n : ℕ) (content : List ℕ) → Among a n content → Among (a ++ b) n content
+Among-prefix [] b n content w = absurd w
+Among-prefix (u ∷ a) b n content w = ⊎_elim
     (λ (q : (u.target ≡ n) × (u.content ≡ content)). inl q)
-    (λ (q : Among a n content). inr (Among-front a b n content q)) w
+    (λ (q : Among a n content). inr (Among-prefix a b n content q)) w
 
 -- the first i of a phase's writes
-pub front_moments : (all : List Update) (i : ℕ) (h h1 : History) → h1 ≡ wrote_all (take i all) h → AddsUpdates all h h1
-front_moments all i h h1 e =
+pub prefix_moments : (all : List Update) (i : ℕ) (h h1 : History) → h1 ≡ wrote_all (take i all) h → AddsUpdates all h h1
+prefix_moments all i h h1 e =
     let P : History → Type 0 = λ k. AddsOnly (LeftWith all h.now) h k in
-    let front : List Update = take i all in
+    let prefix : List Update = take i all in
     let back : List Update = drop i all in
-    let widen : (image : Image) → LeftWith front h.now image → LeftWith all h.now image = λ image w n. ⊎_elim
+    let widen : (image : Image) → LeftWith prefix h.now image → LeftWith all h.now image = λ image w n. ⊎_elim
     (λ (q : SectorMayHold h.now n (image n)). inl q)
-    (λ (q : Among front n (image n)).
+    (λ (q : Among prefix n (image n)).
     let Q : List Update → Type 0 = λ us. Among us n (image n) in
-    inr (subst Q (take-append-drop i all) (Among-front front back n (image n) q)))
+    inr (subst Q (take-append-drop i all) (Among-prefix prefix back n (image n) q)))
     (w n) in
-    subst P (sym e) (AddsOnly-weaken (LeftWith front h.now) (LeftWith all h.now) h (wrote_all front h) widen (AddsOnly-wrote_all front h))
+    subst P (sym e) (AddsOnly-weaken (LeftWith prefix h.now) (LeftWith all h.now) h (wrote_all prefix h) widen (AddsOnly-wrote_all prefix h))
 
 -- one more write
 pub wrote_more : (all : List Update) (i : ℕ) (u : Update) (h h1 h2 : History) → i < length all → get_or all i u ≡ u
@@ -38,11 +38,11 @@ wrote_more all i u h h1 h2 l at e q =
 pub write_failed : (all : List Update) (i : ℕ) (u : Update) (h h1 h2 : History) → i < length all → get_or all i u ≡ u
     → h1 ≡ wrote_all (take i all) h → (h2 ≡ h1) ⊎ (h2 ≡ wrote u h1) → AddsUpdates all h h2
 write_failed all i u h h1 h2 l at e q = ⊎_elim
-    (λ (s : h2 ≡ h1). front_moments all i h h2 (s ∙ e))
-    (λ (s : h2 ≡ wrote u h1). front_moments all (i + 1) h h2 (wrote_more all i u h h1 h2 l at e s)) q
+    (λ (s : h2 ≡ h1). prefix_moments all i h h2 (s ∙ e))
+    (λ (s : h2 ≡ wrote u h1). prefix_moments all (i + 1) h h2 (wrote_more all i u h h1 h2 l at e s)) q
 
 pub left_alone : (all : List Update) (i : ℕ) (h h1 h2 : History) → h1 ≡ wrote_all (take i all) h → h2 ≡ h1 → AddsUpdates all h h2
-left_alone all i h h1 h2 e q = front_moments all i h h2 (q ∙ e)
+left_alone all i h h1 h2 e q = prefix_moments all i h h2 (q ∙ e)
 
 pub take_past : (i : ℕ) (all : List Update) → length all ≤ i → take i all ≡ all
 take_past zero [] l = refl
@@ -53,7 +53,7 @@ take_past (suc i) (u ∷ all) l = ap (λ us. u ∷ us) (take_past i all (omega a
 pub synced_moments : (all : List Update) (i : ℕ) (h h1 h2 : History) → h1 ≡ wrote_all (take i all) h → h2 ≡ synced h1 → AddsUpdates all h h2
 synced_moments all i h h1 h2 e q =
     let P : History → Type 0 = λ k. AddsOnly (LeftWith all h.now) h k in
-    subst P (sym q) (AddsOnly-join (LeftWith all h.now) h h1 (synced h1) (front_moments all i h h1 e) (AddsOnly-synced (LeftWith all h.now) h1))
+    subst P (sym q) (AddsOnly-join (LeftWith all h.now) h h1 (synced h1) (prefix_moments all i h h1 e) (AddsOnly-synced (LeftWith all h.now) h1))
 
 pub synced_fixes : (all : List Update) (i : ℕ) (h h1 h2 : History) → length all ≤ i → h1 ≡ wrote_all (take i all) h → h2 ≡ synced h1
     → IsFixedAs all h h2
@@ -71,20 +71,20 @@ take_few (suc i) [] = omega arith
 take_few (suc i) (u ∷ all) = omega (arith, take_few i all)
 
 -- the first i of a phase's writes add at most as many moments as the phase has writes
-front_brief : (all : List Update) (i : ℕ) (h h1 : History) → h1 ≡ wrote_all (take i all) h → AddsAtMost (length all) h h1
-front_brief all i h h1 e = omega (arith, ap (λ (k : History). moment k) e, moment-wrote_all (take i all) h, take_few i all)
+prefix_brief : (all : List Update) (i : ℕ) (h h1 : History) → h1 ≡ wrote_all (take i all) h → AddsAtMost (length all) h h1
+prefix_brief all i h h1 e = omega (arith, ap (λ (k : History). moment k) e, moment-wrote_all (take i all) h, take_few i all)
 
 module _ (all : List Update) (i count : ℕ) (h h1 h2 : History) (many : length all ≡ count) (e : h1 ≡ wrote_all (take i all) h) where
   pub alone_brief : h2 ≡ h1 → AddsAtMost (count + 1) h h2
-  alone_brief q = omega (arith, front_brief all i h h1 e, ap (λ (k : History). moment k) q, many)
+  alone_brief q = omega (arith, prefix_brief all i h h1 e, ap (λ (k : History). moment k) q, many)
 
   pub synced_brief : h2 ≡ synced h1 → AddsAtMost (count + 1) h h2
-  synced_brief q = omega (arith, front_brief all i h h1 e, ap (λ (k : History). moment k) q, many)
+  synced_brief q = omega (arith, prefix_brief all i h h1 e, ap (λ (k : History). moment k) q, many)
 
   pub failed_brief : (u : Update) → (h2 ≡ h1) ⊎ (h2 ≡ wrote u h1) → AddsAtMost (count + 1) h h2
   failed_brief u q = ⊎_elim
       (λ (s : h2 ≡ h1). alone_brief s)
-      (λ (s : h2 ≡ wrote u h1). omega (arith, front_brief all i h h1 e, ap (λ (k : History). moment k) s, many)) q
+      (λ (s : h2 ≡ wrote u h1). omega (arith, prefix_brief all i h h1 e, ap (λ (k : History). moment k) s, many)) q
 
 pub length-placed : (place : ℕ) (us : List Update) → length (placed place us) ≡ length us
 length-placed place [] = refl

@@ -18,7 +18,7 @@ use Rattle.journal.proofs.GateWords.{names_one}
 use Rattle.journal.proofs.Rewrites.{seen_again}
 use Rattle.journal.proofs.Stages.{gated_stage, no_targets}
 use Rattle.journal.proofs.Moments.{AddsOnly-synced}
-use Rattle.journal.proofs.Fronts.{settled_of, settles_same}
+use Rattle.journal.proofs.Prefixes.{settled_of, settles_same}
 
 -- an image settles to one image
 pub settles_once : (area : LogArea) → IsArea area → (image a b : Image) → area.end < 2 ^ 32 → Settles area image a → Settles area image b → AreSame area.end a b

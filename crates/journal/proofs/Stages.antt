@@ -6,7 +6,7 @@ use Rattle.disk.specs.Moments.{Image, applied}
 use Rattle.journal.specs.declared.layout.LogArea.{LogArea}
 use Rattle.journal.specs.Layout.{AreNamed, AreTargets, IsArea, home, home_from, through, gate, targets, placed, copies}
 use Rattle.journal.specs.Settled.{IsOfCaller, AreSame, Settles}
-use Rattle.journal.proofs.Images.{Out, Fit, Fit-front, sides, Named-front, named_of, are_named, Between, home_cases, home_behind, home_out, low_named, applied_out, between_out, applied_home, placed_out_below, placed_out_above, applied_placed, copies-append, copies_same, copies_held, targets_copies, holds_copies, length-targets}
+use Rattle.journal.proofs.Images.{Out, Fit, Fit-prefix, sides, Named-prefix, named_of, are_named, Between, home_cases, home_behind, home_out, low_named, applied_out, between_out, applied_home, placed_out_below, placed_out_above, applied_placed, copies-append, copies_same, copies_held, targets_copies, holds_copies, length-targets}
 use Rattle.journal.proofs.Lists.{Out-each, targets_of-Fit}
 
 AreTargets-rest : (size t : ℕ) (ts : List ℕ) → AreTargets size (t ∷ ts) → AreTargets size ts
@@ -29,9 +29,9 @@ Fit-of size (t ∷ ts) a = (
 pub fit_once : (area : LogArea) (to : List ℕ) → AreNamed area to → area.once ≡ true → Fit area.end to
 fit_once area to a once = Fit-of area.end to (record { from_first = a.from_first; on_device = a.on_device; apart = a.apart once })
 
-pub front_named : (area : LogArea) (a b : List ℕ) → AreNamed area (a ++ b) → AreNamed area a
-front_named area a b n = are_named area a (Named-front area.end a b (named_of area (a ++ b) n))
-    (λ once. (targets_of-Fit area.end a (Fit-front area.end a b (fit_once area (a ++ b) n once))).apart)
+pub prefix_named : (area : LogArea) (a b : List ℕ) → AreNamed area (a ++ b) → AreNamed area a
+prefix_named area a b n = are_named area a (Named-prefix area.end a b (named_of area (a ++ b) n))
+    (λ once. (targets_of-Fit area.end a (Fit-prefix area.end a b (fit_once area (a ++ b) n once))).apart)
 
 pub no_targets : (area : LogArea) → AreNamed area []
 no_targets area = record {
@@ -55,7 +55,7 @@ kept_out_of_payload : (area : LogArea) → IsArea area → (n : ℕ) (us : List 
 kept_out_of_payload area is n us behind few k = ⊎_elim
     (λ (l : n ≡ 0). placed_out_below us (area.first + behind) n (omega (arith, l, is.behind)))
     (λ (l : 98 ≤ n). ⊎_elim
-    (λ (front : area.first + area.sectors ≤ 98). placed_out_above us (area.first + behind) n (omega (arith, front, few, l)))
+    (λ (prefix : area.first + area.sectors ≤ 98). placed_out_above us (area.first + behind) n (omega (arith, prefix, few, l)))
     (λ (back : area.end ≤ area.first). placed_out_below us (area.first + behind) n (omega (arith, back, k.1)))
     (sides area is))
     k.0
@@ -93,7 +93,7 @@ module _ (area : LogArea) (is : IsArea area) (to : List ℕ) (us : List Update) 
   paid = applied (placed (area.first + length to) us) F
 
   named : AreNamed area to
-  named = front_named area to (targets us) fit
+  named = prefix_named area to (targets us) fit
 
   paid_1 : applied (placed (area.first + length to) us) F 1 ≡ F 1
   paid_1 = applied_out (placed (area.first + length to) us) F 1 (placed_out_below us (area.first + length to) 1 (omega (arith, is.behind)))

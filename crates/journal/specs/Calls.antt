@@ -5,7 +5,7 @@ use Rattle.disk.specs.Moments.{applied, put}
 use Rattle.journal.specs.Commit.{AddsEither}
 use Rattle.journal.specs.Behind.{way_cost, way_for}
 use Rattle.journal.specs.declared.layout.LogArea.{LogArea}
-use Rattle.journal.specs.Log.{Log, AddsFronts, Costs, IsJoined, IsSettled, MakesAtMost, Moved, ListTakes, contents}
+use Rattle.journal.specs.Log.{Log, AddsPrefixes, Costs, IsJoined, IsSettled, MakesAtMost, Moved, ListTakes, contents}
 use Rattle.journal.specs.Phase.{FailsCounted}
 use Rattle.journal.specs.Settled.{AreSame}
 use Rattle.journal.specs.Transactions.{FitTogether, sectors_of}
@@ -16,7 +16,7 @@ use Rattle.journal.specs.Transactions.{FitTogether, sectors_of}
 pub record IsSafe (keeps_word : Type 0) (old new : Log) : Type 0 where
   pub area : new.area ≡ old.area
   pub size : new.size ≡ old.size
-  pub moments : keeps_word → AddsFronts old new
+  pub moments : keeps_word → AddsPrefixes old new
   pub brief : keeps_word → MakesAtMost (2 * (old.area.sectors + 3)) old new
   pub settled : keeps_word → new.is_down ≡ false → IsSettled new
 
@@ -93,7 +93,7 @@ pub record HasWritten (keeps_word : Type 0) (content : List ℕ) (old new : Log)
 -- A part of a call on a journal that is up, which goes down exactly if the part fails.
 pub record IsPart {T E : Type 0} (keeps_word : Type 0) (old new : Log) (before after : ℕ)
     (result : Result T E) : Type 0 where
-  pub moments : keeps_word → AddsFronts old new
+  pub moments : keeps_word → AddsPrefixes old new
   pub brief : keeps_word → MakesAtMost (2 * (old.area.sectors + 3)) old new
   pub area : new.area ≡ old.area
   pub size : new.size ≡ old.size

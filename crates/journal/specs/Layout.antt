@@ -21,8 +21,8 @@ abbrev pub max_updates : ℕ
 max_updates = 48
 
 -- the log between the gate and the sectors that transactions write, up to the device's end
-abbrev pub in_front : ℕ → LogArea
-in_front size = record { first = 2; sectors = 96; end = size; once = true }
+abbrev pub log_at_start : ℕ → LogArea
+log_at_start size = record { first = 2; sectors = 96; end = size; once = true }
 
 -- A log is behind the gate, and has no sector that a transaction may write: it is behind their end,
 -- or in front of the first of them. Its sectors have numbers, one gate can name them all, and they

@@ -27,7 +27,7 @@ abbrev pub contents : Log → Image
 contents log = applied_all log.list log.base
 
 -- an image settles to a base with a prefix of a list of transactions
-pub record StandsForFront (area : LogArea) (base : Image) (list : List (List Update))
+pub record StandsForPrefix (area : LogArea) (base : Image) (list : List (List Update))
     (image : Image) : Type 0 where
   pub count : ℕ
   pub within : count ≤ length list
@@ -35,8 +35,8 @@ pub record StandsForFront (area : LogArea) (base : Image) (list : List (List Upd
 
 -- at every moment since, an image left is one left before, or the old base with a prefix of the old
 -- list
-abbrev pub AddsFronts : Log → Log → Type 0
-AddsFronts old new = AddsOnly (StandsForFront old.area old.base old.list) old.history new.history
+abbrev pub AddsPrefixes : Log → Log → Type 0
+AddsPrefixes old new = AddsOnly (StandsForPrefix old.area old.base old.list) old.history new.history
 
 -- what a crash leaves now settles to the base: none of the list is lost that ever went into it
 abbrev pub IsSettled : Log → Type 0

@@ -8,7 +8,7 @@ ghost use Rattle.journal.specs.Calls.{AddsFirst, GoesThrough, GoesThroughFirst, 
 ghost use Rattle.journal.specs.Format.{AddsFormats, IsFormatted};
 ghost use Rattle.journal.specs.Cached.{AreCopies};
 ghost use Rattle.journal.specs.Commit.{rewritten};
-ghost use Rattle.journal.specs.Layout.{AreTargets, IsArea, area_end, copies, gate, in_front, max_updates, targets, through};
+ghost use Rattle.journal.specs.Layout.{AreTargets, IsArea, area_end, copies, gate, log_at_start, max_updates, targets, through};
 ghost use Rattle.journal.specs.Log.{AnswersByDevice, MakesAtMost, Moved, contents};
 ghost use Rattle.journal.specs.MountAnswers.{JournalComesBack, HasRecovered, IsNewJournal, IsRecoveryRefused};
 ghost use Rattle.journal.specs.Phase.{FailsCounted};
@@ -108,9 +108,9 @@ impl<D: Device> Journal<D> {
     ) -> Result<(), JournalFault>
         requires large { MIN_SECTORS ≤ D.size device.old }
         requires fit { AreTargets (D.size device.old) (targets updates.now) }
-        ensures moments { D.keeps_word → AddsFormats (in_front (D.size device.old)) sector0.now
+        ensures moments { D.keeps_word → AddsFormats (log_at_start (D.size device.old)) sector0.now
             updates.now (D.history device.old) (D.history device.new) }
-        ensures ok { D.keeps_word → OnOk result (IsFormatted (in_front (D.size device.old))
+        ensures ok { D.keeps_word → OnOk result (IsFormatted (log_at_start (D.size device.old))
             sector0.now updates.now (D.history device.new)) }
         ensures cost { D.keeps_word → OnOk result (moment (D.history device.new)
             ≡ moment (D.history device.old) + (D.size device.old + 4)) }
@@ -119,7 +119,7 @@ impl<D: Device> Journal<D> {
         ensures failures { FailsCounted (D.failed device.old) (D.failed device.new) result }
         ensures refuses { IfErr result (λ fault. fault ≡ JournalFault.Fault) }
     {
-        let area = LogArea::in_front(device.sectors());
+        let area = LogArea::log_at_start(device.sectors());
         Journal::format_in(device, area, sector0, updates)
     }
 
@@ -163,15 +163,15 @@ impl<D: Device> Journal<D> {
     pub fn mount(alloc: Global, device: D) -> Result<Journal<D>, Unmounted<D>>
         requires { MIN_SECTORS ≤ D.size device }
         ensures new { IfOk result (λ journal.
-            IsNewJournal (in_front (D.size device)) (D.size device) (D.failed device)
+            IsNewJournal (log_at_start (D.size device)) (D.size device) (D.failed device)
             (log_of journal) (journal_failures journal)) }
         ensures mounted { D.keeps_word → IfOk result (λ journal.
-            HasRecovered (in_front (D.size device)) (D.history device) (log_of journal)) }
+            HasRecovered (log_at_start (D.size device)) (D.history device) (log_of journal)) }
         ensures closed { IfOk result (λ journal. recorded_sectors journal ≡ []) }
         // If it fails
         ensures back { IfErr result (JournalComesBack D.size D.failed device) }
         ensures refused { D.keeps_word → IfErr result (λ refused.
-            IsRecoveryRefused (in_front (D.size device)) (D.history device)
+            IsRecoveryRefused (log_at_start (D.size device)) (D.history device)
             (D.history refused.device) refused.fault) }
     {
         let cached = NonZeroUsize::new(CACHED_SECTORS).unwrap_or(NonZeroUsize::MIN);
@@ -190,18 +190,18 @@ impl<D: Device> Journal<D> {
     ) -> Result<Journal<D>, Unmounted<D>>
         requires { MIN_SECTORS ≤ D.size device }
         ensures new { IfOk result (λ journal.
-            IsNewJournal (in_front (D.size device)) (D.size device) (D.failed device)
+            IsNewJournal (log_at_start (D.size device)) (D.size device) (D.failed device)
             (log_of journal) (journal_failures journal)) }
         ensures mounted { D.keeps_word → IfOk result (λ journal.
-            HasRecovered (in_front (D.size device)) (D.history device) (log_of journal)) }
+            HasRecovered (log_at_start (D.size device)) (D.history device) (log_of journal)) }
         ensures closed { IfOk result (λ journal. recorded_sectors journal ≡ []) }
         // If it fails
         ensures back { IfErr result (JournalComesBack D.size D.failed device) }
         ensures refused { D.keeps_word → IfErr result (λ refused.
-            IsRecoveryRefused (in_front (D.size device)) (D.history device)
+            IsRecoveryRefused (log_at_start (D.size device)) (D.history device)
             (D.history refused.device) refused.fault) }
     {
-        let area = LogArea::in_front(device.sectors());
+        let area = LogArea::log_at_start(device.sectors());
         Journal::mount_in(alloc, device, area, cached)
     }
 
@@ -263,10 +263,10 @@ impl<D: Device> Journal<D> {
     /// if the device failed, and `Memory`.
     pub fn view(alloc: Global, device: &mut D) -> Result<View<'_, D>, Unmounted<&mut D>>
         requires { MIN_SECTORS ≤ D.size device.old }
-        ensures new { IfOk result (λ view. IsNewJournal (in_front (D.size device.old))
+        ensures new { IfOk result (λ view. IsNewJournal (log_at_start (D.size device.old))
             (D.size device.old) (D.failed device.old) (view_of view) (view_failures view)) }
         ensures viewed { D.keeps_word → IfOk result (λ view.
-            HasViewed (in_front (D.size device.old)) (D.history device.old) (view_of view)) }
+            HasViewed (log_at_start (D.size device.old)) (D.history device.old) (view_of view)) }
         // Nothing is written, on any device
         ensures untouched { IfOk result (λ view. (view_of view).history ≡ D.history device.old) }
         ensures same_device { IfOk result (λ view. name_of view ≡ device.entry.ghost_name) }
@@ -277,9 +277,9 @@ impl<D: Device> Journal<D> {
             refused.device.ghost_name ≡ device.entry.ghost_name) }
         ensures damaged { D.keeps_word → IfErr result (λ refused.
             refused.fault ≡ JournalFault.Damaged
-            → HasNoForm (in_front (D.size device.old)) (D.history device.old)) }
+            → HasNoForm (log_at_start (D.size device.old)) (D.history device.old)) }
     {
-        let area = LogArea::in_front(device.sectors());
+        let area = LogArea::log_at_start(device.sectors());
         Journal::view_in(alloc, device, area)
     }
 

@@ -2,7 +2,7 @@
 
 ghost use Rattle.std.specs.Prelude.{◌≡◌};
 ghost use Rattle.disk.specs.Calls.{zero_sector};
-ghost use Rattle.journal.specs.Layout.{in_front};
+ghost use Rattle.journal.specs.Layout.{log_at_start};
 
 use disk::SECTOR;
 
@@ -40,8 +40,8 @@ pub struct LogArea {
 
 impl LogArea {
     /// The log in front of what transactions write, on a device of `sectors` sectors.
-    pub fn in_front(sectors: u32) -> LogArea
-        ensures { result ≡ in_front sectors }
+    pub fn log_at_start(sectors: u32) -> LogArea
+        ensures { result ≡ log_at_start sectors }
     {
         LogArea {
             first: 2,

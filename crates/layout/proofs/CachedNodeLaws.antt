@@ -11,18 +11,18 @@ use Rattle.model_tree.specs.Trees.Charge.{divided_up, blocks_of}
 use Rattle.inode.specs.declared.node.Form.{Form}
 use Rattle.inode.specs.declared.node.Form.TheVariants.{One, Two}
 use Rattle.inode.specs.Fields.{Fields}
-use Rattle.inode.specs.Spelling.{inode_sector}
+use Rattle.inode.specs.Encoding.{inode_sector}
 use Rattle.extents.specs.declared.run.Run.{Run}
 use Rattle.extents.specs.Runs.{sector_by, AreRunsOf}
 use Rattle.extents.specs.Sector.{run_sector, IsRun}
 use Rattle.directory.specs.Records.{Record, IsRecord}
-use Rattle.directory.specs.Spelling.{directory_sector}
+use Rattle.directory.specs.Encoding.{directory_sector}
 use Rattle.directory.specs.Reading.{records_in}
 use Rattle.extents.specs.Reading.{runs_in}
 use Rattle.inode.specs.Reading.{fields_in, form_in}
-use Rattle.layout.specs.CachedNodeLaws.{CardReadsBack, CardsReadBack, OnlyCard, OnlyCards}
-use Rattle.layout.specs.CachedNodes.{CachedNode, node_sector, content_at, runs_through, names_through, names_from, blocks_by, block_count, card_by, card_with, card_from, card_in, cards_in}
-use Rattle.layout.specs.Laid.{AreRunSectors, runs_of_sector, names_of_block, HoldsContent, HoldsCard, HoldsPlace}
+use Rattle.layout.specs.CachedNodeLaws.{CachedReadsBack, CachedNodesReadBack, OnlyCached, OnlyCachedNodes}
+use Rattle.layout.specs.CachedNodes.{CachedNode, node_sector, content_at, runs_through, names_through, names_from, blocks_by, block_count, cached_by, cached_with, cached_from, cached_in, cached_nodes_in}
+use Rattle.layout.specs.Laid.{AreRunSectors, runs_of_sector, names_of_block, HoldsContent, HoldsCached, HoldsPlace}
 use Rattle.layout.specs.Stands.{IsLaid}
 use Rattle.inode.proofs.ReadBack.{fields-back, form-back}
 use Rattle.extents.proofs.ReadBack.{runs-back}
@@ -55,17 +55,17 @@ runs_through-back image (sector ∷ sectors) runs all few are =
 
 names_through-back : (image : Image) (blocks : List (Option ℕ)) (names : List Record) → AllByRecursion IsRecord names → length names ≤ 15 * length blocks
     → ((i : ℕ) → i < length blocks → content_at image (get_or blocks i None) ≡ directory_sector (names_of_block i names)) → names_through image (length names) blocks ≡ names
-names_through-back image [] [] all few spelled = refl
-names_through-back image [] (x ∷ names) all few spelled = absurd (omega arith)
-names_through-back image (block ∷ blocks) names all few spelled =
+names_through-back image [] [] all few encoded = refl
+names_through-back image [] (x ∷ names) all few encoded = absurd (omega arith)
+names_through-back image (block ∷ blocks) names all few encoded =
     let first : records_in (min 15 (length names)) (content_at image block) ≡ take 15 names =
-    ap₂ records_in (sym (length-take 15 names)) (spelled 0 (omega arith)) ∙ records-back (take 15 names) (all-take IsRecord 15 names all) in
+    ap₂ records_in (sym (length-take 15 names)) (encoded 0 (omega arith)) ∙ records-back (take 15 names) (all-take IsRecord 15 names all) in
     let moved : (i : ℕ) → names_of_block (suc i) names ≡ names_of_block i (drop 15 names) =
     λ i. let e : 15 * suc i ≡ 15 + 15 * i = omega arith in ap (λ (k : ℕ). take 15 (drop k names)) e ∙ ap (take 15) (sym (drop-drop (15 * i) 15 names)) in
     let others : names_through image (length names - 15) blocks ≡ drop 15 names =
     ap (λ (n : ℕ). names_through image n blocks) (sym (length-drop 15 names))
     ∙ names_through-back image blocks (drop 15 names) (all-drop IsRecord 15 names all) (omega (arith, length-drop 15 names))
-    (λ i h. spelled (suc i) (omega arith) ∙ ap directory_sector (moved i)) in
+    (λ i h. encoded (suc i) (omega arith) ∙ ap directory_sector (moved i)) in
     ap₂ (λ (a b : List Record). a ++ b) first others ∙ take-append-drop 15 names
 
 blocks-back : (runs : List Run) (blocks : List (Option ℕ)) (count : ℕ) → AreRunsOf runs blocks → length blocks ≡ count → blocks_by runs count ≡ blocks
@@ -74,55 +74,55 @@ blocks-back runs blocks count are many = sym (fill_by_all (sector_by runs) block
 enough : (n count : ℕ) → count ≡ divided_up n 15 → n ≤ 15 * count
 enough n count is = omega arith
 
-names_from-back : (image : Image) (kind : NodeKind) (card : CachedNode) → kind ≡ card.fields.kind → length card.blocks ≡ block_count card.fields → HoldsContent image kind card → names_from image kind card.fields.size card.blocks ≡ card.names
-names_from-back image kind.File card is many holds = sym holds.unnamed
-names_from-back image kind.Directory card is many holds =
-    let counted : block_count card.fields ≡ divided_up card.fields.size 15 = ap (λ (k : NodeKind). blocks_of k card.fields.size) (sym is) in
-    let few : length card.names ≤ 15 * length card.blocks = enough (length card.names) (length card.blocks) (many ∙ counted ∙ ap (λ (n : ℕ). divided_up n 15) (sym holds.count)) in
-    ap (λ (n : ℕ). names_through image n card.blocks) (sym holds.count) ∙ names_through-back image card.blocks card.names holds.names.each few holds.spelled
+names_from-back : (image : Image) (kind : NodeKind) (cached_node : CachedNode) → kind ≡ cached_node.fields.kind → length cached_node.blocks ≡ block_count cached_node.fields → HoldsContent image kind cached_node → names_from image kind cached_node.fields.size cached_node.blocks ≡ cached_node.names
+names_from-back image kind.File cached_node is many holds = sym holds.unnamed
+names_from-back image kind.Directory cached_node is many holds =
+    let counted : block_count cached_node.fields ≡ divided_up cached_node.fields.size 15 = ap (λ (k : NodeKind). blocks_of k cached_node.fields.size) (sym is) in
+    let few : length cached_node.names ≤ 15 * length cached_node.blocks = enough (length cached_node.names) (length cached_node.blocks) (many ∙ counted ∙ ap (λ (n : ℕ). divided_up n 15) (sym holds.count)) in
+    ap (λ (n : ℕ). names_through image n cached_node.blocks) (sym holds.count) ∙ names_through-back image cached_node.blocks cached_node.names holds.names.each few holds.encoded
 
-same_card : (image : Image) (card : CachedNode) (runs : List Run) (blocks : List (Option ℕ)) → runs ≡ card.runs → blocks ≡ card.blocks → names_from image card.fields.kind card.fields.size card.blocks ≡ card.names → card_by image card.form card.fields runs blocks ≡ card
-same_card image card runs blocks a b c = rw (a, b, c) refl
+same_cached : (image : Image) (cached_node : CachedNode) (runs : List Run) (blocks : List (Option ℕ)) → runs ≡ cached_node.runs → blocks ≡ cached_node.blocks → names_from image cached_node.fields.kind cached_node.fields.size cached_node.blocks ≡ cached_node.names → cached_by image cached_node.form cached_node.fields runs blocks ≡ cached_node
+same_cached image cached_node runs blocks a b c = rw (a, b, c) refl
 
 pub starts : (form : Form) (fields : Fields) → get_or (inode_sector form fields) 0 0 ≡ 78
 unfolding inode_sector
 starts One fields = refl
 starts Two fields = refl
 
-module _ (image : Image) (place : ℕ) (card : CachedNode) (holds : HoldsCard image place card) where
-  from-back : card_from image card.form card.fields ≡ card
+module _ (image : Image) (place : ℕ) (cached_node : CachedNode) (holds : HoldsCached image place cached_node) where
+  from-back : cached_from image cached_node.form cached_node.fields ≡ cached_node
   from-back =
-      let runs : runs_through image card.fields.runs card.fields.run_sectors ≡ card.runs =
-      ap (λ (n : ℕ). runs_through image n card.fields.run_sectors) (sym holds.node.run_count) ∙ runs_through-back image card.fields.run_sectors card.runs holds.node.each_run (omega (arith, holds.node.run_count, holds.node.fits.run_sectors)) holds.node.run_sectors in
-      let blocks : blocks_by card.runs (block_count card.fields) ≡ card.blocks = blocks-back card.runs card.blocks (block_count card.fields) holds.node.runs holds.node.blocks in
-      ap (card_with image card.form card.fields) runs ∙ same_card image card card.runs _ refl blocks (names_from-back image card.fields.kind card refl holds.node.blocks holds.content)
+      let runs : runs_through image cached_node.fields.runs cached_node.fields.run_sectors ≡ cached_node.runs =
+      ap (λ (n : ℕ). runs_through image n cached_node.fields.run_sectors) (sym holds.node.run_count) ∙ runs_through-back image cached_node.fields.run_sectors cached_node.runs holds.node.each_run (omega (arith, holds.node.run_count, holds.node.fits.run_sectors)) holds.node.run_sectors in
+      let blocks : blocks_by cached_node.runs (block_count cached_node.fields) ≡ cached_node.blocks = blocks-back cached_node.runs cached_node.blocks (block_count cached_node.fields) holds.node.runs holds.node.blocks in
+      ap (cached_with image cached_node.form cached_node.fields) runs ∙ same_cached image cached_node cached_node.runs _ refl blocks (names_from-back image cached_node.fields.kind cached_node refl holds.node.blocks holds.content)
 
-  fields_there : fields_in (image (node_sector place)) ≡ card.fields
-  fields_there = ap fields_in holds.node.sector ∙ fields-back card.form card.fields holds.node.fits
+  fields_there : fields_in (image (node_sector place)) ≡ cached_node.fields
+  fields_there = ap fields_in holds.node.sector ∙ fields-back cached_node.form cached_node.fields holds.node.fits
 
-  form_there : form_in (image (node_sector place)) ≡ card.form
-  form_there = ap form_in holds.node.sector ∙ form-back card.form card.fields
+  form_there : form_in (image (node_sector place)) ≡ cached_node.form
+  form_there = ap form_in holds.node.sector ∙ form-back cached_node.form cached_node.fields
 
   first_there : get_or (image (node_sector place)) 0 0 ≡ 78
-  first_there = ap (λ (s : List ℕ). get_or s 0 0) holds.node.sector ∙ starts card.form card.fields
+  first_there = ap (λ (s : List ℕ). get_or s 0 0) holds.node.sector ∙ starts cached_node.form cached_node.fields
 
 pub zero_first : get_or zero_sector 0 0 ≡ 0
 unfolding zero_sector
 zero_first = refl
 
-pub cached-back : CardReadsBack
-unfolding card_in
+pub cached-back : CachedReadsBack
+unfolding cached_in
 cached-back image place None holds = rw (ap (λ (s : List ℕ). get_or s 0 0) holds ∙ zero_first) refl
-cached-back image place (Some card) holds = rw (first_there image place card holds, form_there image place card holds, fields_there image place card holds, from-back image place card holds) refl
+cached-back image place (Some cached_node) holds = rw (first_there image place cached_node holds, form_there image place cached_node holds, fields_there image place cached_node holds, from-back image place cached_node holds) refl
 
-pub cards-back : CardsReadBack
-unfolding cards_in
-cards-back image nodes cards many held = sym (fill_by_all (card_in image) cards nodes None many (λ place h. sym (cached-back image place (get_or cards place None) (held place h))))
+pub cached_nodes-back : CachedNodesReadBack
+unfolding cached_nodes_in
+cached_nodes-back image nodes cached_nodes many held = sym (fill_by_all (cached_in image) cached_nodes nodes None many (λ place h. sym (cached-back image place (get_or cached_nodes place None) (held place h))))
 
 -- what holds some cached node holds the one that is read
-pub only_card : OnlyCard
-only_card image place card holds = subst (HoldsPlace image place) (sym (cached-back image place card holds)) holds
+pub only_cached : OnlyCached
+only_cached image place cached_node holds = subst (HoldsPlace image place) (sym (cached-back image place cached_node holds)) holds
 
-pub only_cards : OnlyCards
-only_cards version size nodes image cards laid =
-    subst (IsLaid version size nodes image) (sym (cards-back image nodes cards laid.laid.count laid.laid.held)) laid
+pub only_cached_nodes : OnlyCachedNodes
+only_cached_nodes version size nodes image cached_nodes laid =
+    subst (IsLaid version size nodes image) (sym (cached_nodes-back image nodes cached_nodes laid.laid.count laid.laid.held)) laid

@@ -15,12 +15,12 @@ use Rattle.extents.specs.Runs.{AreRising}
 use Rattle.directory.specs.Records.{Record, NamesStamped}
 use Rattle.directory.specs.Listing.{by_stamp}
 use Rattle.layout.specs.CachedNodes.{CachedNode, tree_of, node_of, content_of, bytes_in, byte_at}
-use Rattle.layout.specs.Known.{HasContent, IsCard}
+use Rattle.layout.specs.Known.{HasContent, IsCached}
 use Rattle.layout.specs.Laid.{AreNumbered}
 use Rattle.layout.specs.MarkLaws.{FullIsCharged}
 use Rattle.layout.specs.Marks.{once_if, times, times_set, namings_of, named}
 use Rattle.layout.proofs.Changing.{tree-lacks, tree-above}
-use Rattle.layout.proofs.Knowing.{AreEach, each_above, each_card, laid_are_cards}
+use Rattle.layout.proofs.Knowing.{AreEach, each_above, each_cached, laid_are_cached_nodes}
 use Rattle.layout.proofs.NumberLaws.{once-off}
 
 -- f 0 + f 1 + .. + f (n - 1)
@@ -72,10 +72,10 @@ sum_times_set a n [] = omega (arith, sum_to-zero (λ i. 0) n (λ i. refl))
 sum_times_set a n (None ∷ blocks) = omega (arith, sum_times_set a n blocks)
 sum_times_set a n (Some s ∷ blocks) = omega (arith, sum_to-plus (λ i. once_if (eqb (a + i) s)) (λ i. times_set (a + i) blocks) n, (sum_once a s n).0, sum_times_set a n blocks)
 
-sum_card : (a n : ℕ) (card : CachedNode) → sum_to (λ i. namings_of (a + i) (Some card)) n ≤ length card.fields.run_sectors + length card.blocks
+sum_cached : (a n : ℕ) (cached : CachedNode) → sum_to (λ i. namings_of (a + i) (Some cached)) n ≤ length cached.fields.run_sectors + length cached.blocks
 unfolding namings_of
-sum_card a n card =
-    omega (arith, sum_to-plus (λ i. times (a + i) card.fields.run_sectors) (λ i. times_set (a + i) card.blocks) n, sum_times a n card.fields.run_sectors, sum_times_set a n card.blocks)
+sum_cached a n cached =
+    omega (arith, sum_to-plus (λ i. times (a + i) cached.fields.run_sectors) (λ i. times_set (a + i) cached.blocks) n, sum_times a n cached.fields.run_sectors, sum_times_set a n cached.blocks)
 
 -- there are no more runs than blocks
 pub few_runs : (from count : ℕ) (runs : List Run) → AreRising from count runs → from ≤ count → length runs + from ≤ count
@@ -117,45 +117,45 @@ length-by_stamp (entry ∷ names) stamped =
     let fresh : at entry.0 (by_stamp names) ≡ None = at-by_stamp entry.0 names ∙ at-absent names entry.0 (λ i d h e. stamped.apart 0 (suc i) d (omega arith) (omega arith) (sym e)) in
     omega (arith, length-with (by_stamp names) entry.0 0 entry.1 (above_by_stamp names rest) fresh, length-by_stamp names rest)
 
-content_blocks : (image : Image) (kind : NodeKind) (card : CachedNode) → HasContent kind card → blocks (content_of image kind card) ≡ blocks_of kind card.fields.size
+content_blocks : (image : Image) (kind : NodeKind) (cached : CachedNode) → HasContent kind cached → blocks (content_of image kind cached) ≡ blocks_of kind cached.fields.size
 unfolding bytes_in
-content_blocks image kind.File card has = ap (λ (n : ℕ). divided_up n 4096) (length-map-range_with_len (byte_at image card.blocks) 0 card.fields.size)
-content_blocks image kind.Directory card has = ap (λ (n : ℕ). divided_up n 15) (length-by_stamp card.names has.stamped ∙ has.count)
+content_blocks image kind.File cached has = ap (λ (n : ℕ). divided_up n 4096) (length-map-range_with_len (byte_at image cached.blocks) 0 cached.fields.size)
+content_blocks image kind.Directory cached has = ap (λ (n : ℕ). divided_up n 15) (length-by_stamp cached.names has.stamped ∙ has.count)
 
-pub charge_is : (image : Image) (card : CachedNode) → IsCard card → charge (node_of image card) ≡ charge_of_blocks (length card.blocks)
+pub charge_is : (image : Image) (cached : CachedNode) → IsCached cached → charge (node_of image cached) ≡ charge_of_blocks (length cached.blocks)
 unfolding node_of
-charge_is image card is = ap charge_of_blocks (content_blocks image card.fields.kind card is.content ∙ sym is.blocks)
+charge_is image cached is = ap charge_of_blocks (content_blocks image cached.fields.kind cached is.content ∙ sym is.blocks)
 
-card_charged : (image : Image) (card : CachedNode) (a n : ℕ) → IsCard card → sum_to (λ i. namings_of (a + i) (Some card)) n ≤ charge (node_of image card)
-card_charged image card a n is =
-    let charged = charge_is image card is in
-    let runs = few_runs 0 (length card.blocks) card.runs is.runs.rising (omega arith) in
-    omega (arith, sum_card a n card, is.fits.run_sectors, is.run_count)
+cached_charged : (image : Image) (cached : CachedNode) (a n : ℕ) → IsCached cached → sum_to (λ i. namings_of (a + i) (Some cached)) n ≤ charge (node_of image cached)
+cached_charged image cached a n is =
+    let charged = charge_is image cached is in
+    let runs = few_runs 0 (length cached.blocks) cached.runs is.runs.rising (omega arith) in
+    omega (arith, sum_cached a n cached, is.fits.run_sectors, is.run_count)
 
 pub named-none : (n : ℕ) → namings_of n None ≡ 0
 unfolding namings_of
 named-none n = refl
 
-cards_charged : (image : Image) (a n : ℕ) (cards : List (Option CachedNode)) → AreEach cards → AreNumbered cards
-    → sum_to (λ i. named (a + i) cards) n ≤ total charge (tree_of image cards)
-cards_charged image a n [] each apart = omega (arith, sum_to-zero (λ i. 0) n (λ i. refl))
-cards_charged image a n (None ∷ cards) each apart =
-    let rest = cards_charged image a n cards (λ i card e. each (suc i) card e) (λ i j x y off. apart (suc i) (suc j) x y (omega arith)) in
+cached_nodes_charged : (image : Image) (a n : ℕ) (cached_nodes : List (Option CachedNode)) → AreEach cached_nodes → AreNumbered cached_nodes
+    → sum_to (λ i. named (a + i) cached_nodes) n ≤ total charge (tree_of image cached_nodes)
+cached_nodes_charged image a n [] each apart = omega (arith, sum_to-zero (λ i. 0) n (λ i. refl))
+cached_nodes_charged image a n (None ∷ cached_nodes) each apart =
+    let rest = cached_nodes_charged image a n cached_nodes (λ i cached e. each (suc i) cached e) (λ i j x y off. apart (suc i) (suc j) x y (omega arith)) in
     let here = sum_to-zero (λ i. namings_of (a + i) None) n (λ i. named-none (a + i)) in
-    omega (arith, sum_to-plus (λ i. namings_of (a + i) None) (λ i. named (a + i) cards) n)
-cards_charged image a n (Some one ∷ cards) each apart =
-    let rest = cards_charged image a n cards (λ i card e. each (suc i) card e) (λ i j x y off. apart (suc i) (suc j) x y (omega arith)) in
-    let here = card_charged image one a n (each 0 one refl) in
-    let above = tree-above image cards (each_above cards (λ i card e. each (suc i) card e)) in
-    let fresh : at one.fields.number (tree_of image cards) ≡ None = tree-lacks image cards one.fields.number (λ i card e. apart (suc i) 0 card one (omega arith) e refl) in
+    omega (arith, sum_to-plus (λ i. namings_of (a + i) None) (λ i. named (a + i) cached_nodes) n)
+cached_nodes_charged image a n (Some one ∷ cached_nodes) each apart =
+    let rest = cached_nodes_charged image a n cached_nodes (λ i cached e. each (suc i) cached e) (λ i j x y off. apart (suc i) (suc j) x y (omega arith)) in
+    let here = cached_charged image one a n (each 0 one refl) in
+    let above = tree-above image cached_nodes (each_above cached_nodes (λ i cached e. each (suc i) cached e)) in
+    let fresh : at one.fields.number (tree_of image cached_nodes) ≡ None = tree-lacks image cached_nodes one.fields.number (λ i cached e. apart (suc i) 0 cached one (omega arith) e refl) in
     omega (
       arith,
-      sum_to-plus (λ i. namings_of (a + i) (Some one)) (λ i. named (a + i) cards) n,
-      total-with charge (tree_of image cards) one.fields.number 0 (node_of image one) above,
-      none_worth charge (at one.fields.number (tree_of image cards)) fresh,
+      sum_to-plus (λ i. namings_of (a + i) (Some one)) (λ i. named (a + i) cached_nodes) n,
+      total-with charge (tree_of image cached_nodes) one.fields.number 0 (node_of image one) above,
+      none_worth charge (at one.fields.number (tree_of image cached_nodes)) fresh,
     )
 
 pub full_is_charged : FullIsCharged
-full_is_charged nodes image mark cards count laid full =
-    let sum = sum_to-same (λ i. named (148 + nodes + i) cards) (λ i. 1) count (λ i h. laid.marks (148 + nodes + i) ∙ full i h) in
-    omega (arith, sum, sum_to-ones count, cards_charged image (148 + nodes) count cards (each_card nodes mark cards (laid_are_cards nodes image mark cards laid)) laid.apart)
+full_is_charged nodes image mark cached_nodes count laid full =
+    let sum = sum_to-same (λ i. named (148 + nodes + i) cached_nodes) (λ i. 1) count (λ i h. laid.marks (148 + nodes + i) ∙ full i h) in
+    omega (arith, sum, sum_to-ones count, cached_nodes_charged image (148 + nodes) count cached_nodes (each_cached nodes mark cached_nodes (laid_are_cached_nodes nodes image mark cached_nodes laid)) laid.apart)

@@ -3,12 +3,12 @@ use Rattle.std.proofs.Common.{◌≡◌, ◌≢◌, ◌≤◌, ◌<◌, ◌+◌,
 use Rattle.std.specs.List.{AllByRecursion, flat_map}
 use Rattle.std.proofs.lemmas.List.{length-replicate}
 use Rattle.sector.specs.Records.{length-records}
-use Rattle.directory.specs.Spelling.{record_bytes}
+use Rattle.directory.specs.Encoding.{record_bytes}
 use Rattle.directory.proofs.Sector.{records_wide}
 use Rattle.std.proofs.lemmas.Bool.{cases_eq, cases_lt}
 use Rattle.std.proofs.lemmas.List.{length-append, length-take, length-drop, length-set, get_or_append_left, get_or_at, get_or-take, get_or-drop, get_or-set_same, get_or-set_other, get_or_default, ext_get_or}
 use Rattle.directory.specs.Records.{Record, record_from, without_place, place_of, name_of, NamesStamped}
-use Rattle.directory.specs.Spelling.{directory_sector}
+use Rattle.directory.specs.Encoding.{directory_sector}
 use Rattle.directory.proofs.Places.{with_record-set, with_record-push, place_of-le}
 use Rattle.layout.specs.CachedNodes.{content_at}
 use Rattle.layout.specs.Directories.{block_of, PutsInOne, RemovesInTwo, Rewriting, NoHoles, StaysStamped, PutsStamped}
@@ -72,13 +72,13 @@ removes_in_two names place within i apart far =
     (λ k low high h. at-without names place k none (omega arith) (omega (arith, length-without names place)))
 
 pub rewriting : Rewriting
-rewriting old new was is before after one other spelled changes rewrites i h = elim (cases_eq i one) [
+rewriting old new was is before after one other encoded changes rewrites i h = elim (cases_eq i one) [
   | inl e ↦ ap (λ (k : ℕ). content_at new (get_or is k None)) e ∙ rewrites.one_is (omega arith) ∙ ap (λ (k : ℕ). directory_sector (names_of_block k after)) (sym e)
   | inr apart ↦ elim (cases_eq i other) [
     | inl e ↦ ap (λ (k : ℕ). content_at new (get_or is k None)) e ∙ rewrites.other_is (omega arith) ∙ ap (λ (k : ℕ). directory_sector (names_of_block k after)) (sym e)
     | inr far ↦
         let same = rewrites.kept i apart far h in
-        same.1 ∙ spelled i same.0 ∙ ap directory_sector (sym (changes i apart far))
+        same.1 ∙ encoded i same.0 ∙ ap directory_sector (sym (changes i apart far))
   ]
 ]
 
@@ -88,8 +88,8 @@ length-sector names few =
     omega (arith, length-append (flat_map record_bytes names) (replicate (4096 - 272 * length names) 0), length-records record_bytes 272 records_wide names, length-replicate {A = ℕ} (4096 - 272 * length names) 0)
 
 pub no_holes : NoHoles
-no_holes image blocks names spelled i h hole =
-    let some : length (content_at image (get_or blocks i None)) ≡ 4096 = ap length (spelled i h) ∙ length-sector (names_of_block i names) (omega (arith, length-block i names)) in
+no_holes image blocks names encoded i h hole =
+    let some : length (content_at image (get_or blocks i None)) ≡ 4096 = ap length (encoded i h) ∙ length-sector (names_of_block i names) (omega (arith, length-block i names)) in
     let none : length (content_at image (get_or blocks i None)) ≡ 0 = ap (λ (b : Option ℕ). length (content_at image b)) hole in
     omega arith
 
@@ -166,7 +166,7 @@ puts_stamped names new stamped some fresh =
         | inr high ↦ rw (get_or_at names new [] none k (omega arith)) some
       ]);
       apart = λ i j d low h same. elim (cases_lt j (length names)) [
-        | inl front ↦ stamped.apart i j d low front (ap (λ (r : Record). r.0) (sym (get_or_append_left names (new ∷ []) d i (omega arith))) ∙ same ∙ ap (λ (r : Record). r.0) (get_or_append_left names (new ∷ []) d j front))
+        | inl prefix ↦ stamped.apart i j d low prefix (ap (λ (r : Record). r.0) (sym (get_or_append_left names (new ∷ []) d i (omega arith))) ∙ same ∙ ap (λ (r : Record). r.0) (get_or_append_left names (new ∷ []) d j prefix))
         | inr back ↦ fresh i d (omega arith) (ap (λ (r : Record). r.0) (sym (get_or_append_left names (new ∷ []) d i (omega arith))) ∙ same ∙ ap (λ (r : Record). r.0) (get_or_at names new [] d j (omega arith)))
       ];
     }

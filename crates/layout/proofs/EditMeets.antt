@@ -23,9 +23,9 @@ sizing size node = with_content node (File (resized (bytes_of node.content) size
 
 pub each_write_meets : EachWriteMeets
 each_write_meets tree number offset = record {
-  on = λ front part.
-      one_edit (writing offset front) (writing (offset + length front) part) (writing offset (front ++ part)) tree number (at number tree) refl
-      (λ node is. ap (λ (bytes : List ℕ). with_content node (File bytes)) (written_on (bytes_of node.content) offset front part));
+  on = λ prefix part.
+      one_edit (writing offset prefix) (writing (offset + length prefix) part) (writing offset (prefix ++ part)) tree number (at number tree) refl
+      (λ node is. ap (λ (bytes : List ℕ). with_content node (File bytes)) (written_on (bytes_of node.content) offset prefix part));
   grown = λ node size part is longer within.
       altered-twice (sizing size) (writing offset part) tree number node is
       ∙ ap (λ (bytes : List ℕ). with tree number (with_content node (File bytes))) (written_grown (bytes_of node.content) offset part size longer within)

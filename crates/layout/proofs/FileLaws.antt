@@ -15,9 +15,9 @@ use Rattle.model_tree.proofs.Trees.NodeChangeLaws.{length-resized}
 -- ---- bytes by their places
 
 module _ (byte : ℕ → ℕ) (offset : ℕ) (part : List ℕ) (k : ℕ) where
-  pub over-front : k < offset → over byte offset part k ≡ byte k
+  pub over-prefix : k < offset → over byte offset part k ≡ byte k
   unfolding over
-  over-front h = rw (lt-ltb k offset h) refl
+  over-prefix h = rw (lt-ltb k offset h) refl
 
   over-back : offset ≤ k → over byte offset part k ≡ get_or part (k - offset) (byte k)
   unfolding over
@@ -30,9 +30,9 @@ module _ (byte : ℕ → ℕ) (offset : ℕ) (part : List ℕ) (k : ℕ) where
   over-past h = over-back (omega arith) ∙ get_or_past part (k - offset) (byte k) (omega arith)
 
 module _ (byte : ℕ → ℕ) (size k : ℕ) where
-  pub below-front : k < size → below byte size k ≡ byte k
+  pub below-prefix : k < size → below byte size k ≡ byte k
   unfolding below
-  below-front h = rw (lt-ltb k size h) refl
+  below-prefix h = rw (lt-ltb k size h) refl
 
   pub below-past : size ≤ k → below byte size k ≡ 0
   unfolding below
@@ -40,14 +40,14 @@ module _ (byte : ℕ → ℕ) (size k : ℕ) where
 
 below-moved : (f g : ℕ → ℕ) (size c j k : ℕ) → k ≡ c + j → f j ≡ g k → below f (size - c) j ≡ below g size k
 below-moved f g size c j k is same = elim (cases_lt k size) [
-  | inl low ↦ below-front f (size - c) j (omega arith) ∙ same ∙ sym (below-front g size k low)
+  | inl low ↦ below-prefix f (size - c) j (omega arith) ∙ same ∙ sym (below-prefix g size k low)
   | inr high ↦ below-past f (size - c) j (omega arith) ∙ sym (below-past g size k high)
 ]
 
 -- the same bytes after `c` others
 over-moved : (f g : ℕ → ℕ) (offset from c : ℕ) (part : List ℕ) (k j : ℕ) → offset ≡ c + from → k ≡ c + j → f k ≡ g j → over f offset part k ≡ over g from part j
 over-moved f g offset from c part k j at is same = elim (cases_lt j from) [
-  | inl low ↦ over-front f offset part k (omega arith) ∙ same ∙ sym (over-front g from part j low)
+  | inl low ↦ over-prefix f offset part k (omega arith) ∙ same ∙ sym (over-prefix g from part j low)
   | inr high ↦
       let e : k - offset ≡ j - from = omega arith in
       over-back f offset part k (omega arith) ∙ ap₂ (get_or part) e same ∙ sym (over-back g from part j high)
@@ -71,10 +71,10 @@ resized-at bytes size k =
     elim (cases_lt k size) [
       | inl low ↦ elim (cases_lt k (length bytes)) [
         | inl there ↦ get_or_append_left (take size bytes) zeros 0 k (omega (arith, length-take size bytes))
-            ∙ get_or-take size bytes k 0 low ∙ sym (below-front (λ j. get_or bytes j 0) size k low)
+            ∙ get_or-take size bytes k 0 low ∙ sym (below-prefix (λ j. get_or bytes j 0) size k low)
         | inr past ↦ get_or-append_right (take size bytes) zeros (length bytes) k 0 (omega (arith, length-take size bytes)) past
             ∙ zeros-at (size - length bytes) (k - length bytes)
-            ∙ sym (below-front (λ j. get_or bytes j 0) size k low ∙ get_or_past bytes k 0 past)
+            ∙ sym (below-prefix (λ j. get_or bytes j 0) size k low ∙ get_or_past bytes k 0 past)
       ]
       | inr high ↦ get_or_past (resized bytes size) k 0 (omega (arith, length-resized bytes size))
           ∙ sym (below-past (λ j. get_or bytes j 0) size k high)
@@ -92,7 +92,7 @@ overwritten-at bytes offset part k =
     let long : length (resized bytes offset) ≡ offset = length-resized bytes offset in
     elim (cases_lt k offset) [
       | inl first ↦ get_or_append_left (resized bytes offset) (part ++ rest) 0 k (omega arith) ∙ resized-at bytes offset k
-          ∙ below-front byte offset k first ∙ sym (over-front byte offset part k first)
+          ∙ below-prefix byte offset k first ∙ sym (over-prefix byte offset part k first)
       | inr second ↦ get_or-append_right (resized bytes offset) (part ++ rest) offset k 0 long second
           ∙ elim (cases_lt (k - offset) (length part)) [
             | inl low ↦ get_or_append_left part rest 0 (k - offset) low ∙ sym (over-part byte offset part k second (omega arith))
@@ -107,7 +107,7 @@ overwritten-at bytes offset part k =
 -- a list that grows keeps its bytes
 pub grown-at : (bytes : List ℕ) (size k : ℕ) → length bytes ≤ size → get_or (resized bytes size) k 0 ≡ get_or bytes k 0
 grown-at bytes size k h = resized-at bytes size k ∙ elim (cases_lt k size) [
-  | inl low ↦ below-front (λ j. get_or bytes j 0) size k low
+  | inl low ↦ below-prefix (λ j. get_or bytes j 0) size k low
   | inr high ↦ below-past (λ j. get_or bytes j 0) size k high ∙ sym (get_or_past bytes k 0 (omega arith))
 ]
 
@@ -164,7 +164,7 @@ resized-bytes old new was is bytes size hold same =
 pub grown-bytes : GrownBytes
 grown-bytes old new was is bytes size hold fits same =
     resized-bytes old new was is bytes size hold (λ k. same k ∙ elim (cases_lt k size) [
-      | inl low ↦ sym (below-front (byte_at old was) size k low)
+      | inl low ↦ sym (below-prefix (byte_at old was) size k low)
       | inr high ↦ hold.tail k (omega arith) ∙ sym (below-past (byte_at old was) size k high)
     ])
 
@@ -191,7 +191,7 @@ filling old new blocks block sector fills k = elim (cases_eq (k / 4096) block) [
 -- what is written within one block changes no byte of another
 elsewhere : (byte : ℕ → ℕ) (offset : ℕ) (part : List ℕ) (k block from : ℕ) → offset ≡ 4096 * block + from → from + length part ≤ 4096 → k / 4096 ≢ block → over byte offset part k ≡ byte k
 elsewhere byte offset part k block from is within apart = elim (cases_lt k offset) [
-  | inl low ↦ over-front byte offset part k low
+  | inl low ↦ over-prefix byte offset part k low
   | inr high ↦ over-past byte offset part k (omega arith)
 ]
 
@@ -208,16 +208,16 @@ writing old new blocks block sector from part writes k = elim (cases_eq (k / 409
 ]
 
 pub writing_on : WritingOn
-writing_on byte offset front part k = elim (cases_lt k (offset + length front)) [
-  | inl low ↦ over-front (over byte offset front) (offset + length front) part k low ∙ elim (cases_lt k offset) [
-    | inl first ↦ over-front byte offset front k first ∙ sym (over-front byte offset (front ++ part) k first)
-    | inr second ↦ over-part byte offset front k second low ∙ sym (over-part byte offset (front ++ part) k second (omega (arith, length-append front part)) ∙ get_or_append_left front part 0 (k - offset) (omega arith))
+writing_on byte offset prefix part k = elim (cases_lt k (offset + length prefix)) [
+  | inl low ↦ over-prefix (over byte offset prefix) (offset + length prefix) part k low ∙ elim (cases_lt k offset) [
+    | inl first ↦ over-prefix byte offset prefix k first ∙ sym (over-prefix byte offset (prefix ++ part) k first)
+    | inr second ↦ over-part byte offset prefix k second low ∙ sym (over-part byte offset (prefix ++ part) k second (omega (arith, length-append prefix part)) ∙ get_or_append_left prefix part 0 (k - offset) (omega arith))
   ]
   | inr high ↦
-      let e : k - offset - length front ≡ k - (offset + length front) = omega arith in
-      over-back (over byte offset front) (offset + length front) part k high
-      ∙ ap (get_or part (k - (offset + length front))) (over-past byte offset front k high)
-      ∙ sym (over-back byte offset (front ++ part) k (omega arith) ∙ get_or-append_right front part (length front) (k - offset) (byte k) refl (omega arith) ∙ ap (λ (i : ℕ). get_or part i (byte k)) e)
+      let e : k - offset - length prefix ≡ k - (offset + length prefix) = omega arith in
+      over-back (over byte offset prefix) (offset + length prefix) part k high
+      ∙ ap (get_or part (k - (offset + length prefix))) (over-past byte offset prefix k high)
+      ∙ sym (over-back byte offset (prefix ++ part) k (omega arith) ∙ get_or-append_right prefix part (length prefix) (k - offset) (byte k) refl (omega arith) ∙ ap (λ (i : ℕ). get_or part i (byte k)) e)
 ]
 
 -- byte j of block i of what stays
@@ -229,7 +229,7 @@ cut-at old new blocks count size cuts k i j is few =
     let was : byte_at old blocks k ≡ get_or (content_at old (get_or blocks i None)) j 0 = in-block old blocks i k here ∙ ap (λ (r : ℕ). get_or (content_at old (get_or blocks i None)) r 0) rest in
     elim (cases_lt i count) [
       | inl low ↦ ap (λ (b : Option ℕ). get_or (content_at new b) j 0) (get_or-take count blocks i None low) ∙ elim (cases_lt (i + 1) count) [
-        | inl first ↦ ap (λ (s : List ℕ). get_or s j 0) (cuts.front i first) ∙ sym was ∙ sym (below-front (byte_at old blocks) size k (omega (arith, cuts.down)))
+        | inl first ↦ ap (λ (s : List ℕ). get_or s j 0) (cuts.prefix i first) ∙ sym was ∙ sym (below-prefix (byte_at old blocks) size k (omega (arith, cuts.down)))
         | inr second ↦ cuts.last i j (omega arith) few ∙ below-moved (λ r. get_or (content_at old (get_or blocks i None)) r 0) (byte_at old blocks) size (4096 * i) j k is (sym was)
       ]
       | inr high ↦

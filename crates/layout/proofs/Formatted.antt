@@ -16,12 +16,12 @@ use Rattle.model_tree.specs.Trees.Tree.{Tree, Node}
 use Rattle.model_tree.proofs.Trees.FreshTree.{fresh}
 use Rattle.layout.specs.CachedNodes.{CachedNode, tree_of, node_of}
 use Rattle.layout.specs.FreshLaws.{root_fields, IsFresh, FreshStands}
-use Rattle.layout.specs.Laid.{HoldsCard, HoldsPlace, AreNumbered}
+use Rattle.layout.specs.Laid.{HoldsCached, HoldsPlace, AreNumbered}
 use Rattle.layout.specs.Marks.{named, namings_of, mark_in}
 use Rattle.layout.specs.declared.versions.Marking.{Marking}
 use Rattle.layout.specs.declared.versions.Marking.TheVariants.{InSectors, AsNamed}
 use Rattle.layout.specs.Stands.{Version, marked_by, HaveForms, IsLaid}
-use Rattle.layout.proofs.CachedNodeLaws.{cards-back, only_cards}
+use Rattle.layout.proofs.CachedNodeLaws.{cached_nodes-back, only_cached_nodes}
 use Rattle.layout.proofs.FileLaws.{zero_sector-at}
 use Rattle.layout.proofs.FirstLaws.{sized_parts}
 use Rattle.layout.proofs.StepLaws.{node_of-directory}
@@ -53,11 +53,11 @@ bit_in-zeros : (low high : List ℕ) → low ≡ zero_sector → high ≡ zero_s
 bit_in-zeros low high a b i = ap₂ (λ (x y : ℕ). if ltb i 32768 then x else y) (bit_of-zeros low a i) (bit_of-zeros high b (i - 32768)) ∙ either_zero (ltb i 32768)
 
 module _ (version : Version) (size nodes : ℕ) (image : Image) (formatted : IsFresh version size nodes image) where
-  abbrev root_card : CachedNode
-  root_card = record { form = version.form 0; fields = root_fields; runs = []; blocks = []; names = [] }
+  abbrev root_cached : CachedNode
+  root_cached = record { form = version.form 0; fields = root_fields; runs = []; blocks = []; names = [] }
 
-  abbrev root_cards : List (Option CachedNode)
-  root_cards = Some root_card ∷ replicate (nodes - 1) None
+  abbrev root_cached_nodes : List (Option CachedNode)
+  root_cached_nodes = Some root_cached ∷ replicate (nodes - 1) None
 
   some : 0 < nodes
   some = let parts = sized_parts size nodes formatted.sized in omega (arith, parts.some)
@@ -77,7 +77,7 @@ module _ (version : Version) (size nodes : ℕ) (image : Image) (formatted : IsF
     each_ace = (record { flags = omega arith; mask = omega arith; id = omega arith }, tt);
   }
 
-  holds_root : HoldsCard image 0 root_card
+  holds_root : HoldsCached image 0 root_cached
   holds_root = record {
     node = record {
       fits = fits;
@@ -93,27 +93,27 @@ module _ (version : Version) (size nodes : ℕ) (image : Image) (formatted : IsF
       count = refl;
       names = record { few = omega arith; each = tt; apart = λ i j d low h. absurd (omega arith) };
       stamped = record { above = tt; apart = λ i j d low h. absurd (omega arith) };
-      spelled = λ i h. absurd (omega arith);
+      encoded = λ i h. absurd (omega arith);
     };
   }
 
-  held : (place : ℕ) → place < nodes → HoldsPlace image place (get_or root_cards place None)
+  held : (place : ℕ) → place < nodes → HoldsPlace image place (get_or root_cached_nodes place None)
   held zero h = holds_root
   held (suc place) h = rw (nones-at (nodes - 1) place) (formatted.others (suc place) (omega arith) h)
 
-  root_alone : (i : ℕ) (card : CachedNode) → get_or root_cards i None ≡ Some card → i ≡ 0
-  root_alone zero card at_i = refl
-  root_alone (suc i) card at_i = absurd (none-some card (sym (nones-at (nodes - 1) i) ∙ at_i))
+  root_alone : (i : ℕ) (cached : CachedNode) → get_or root_cached_nodes i None ≡ Some cached → i ≡ 0
+  root_alone zero cached at_i = refl
+  root_alone (suc i) cached at_i = absurd (none-some cached (sym (nones-at (nodes - 1) i) ∙ at_i))
 
-  apart : AreNumbered root_cards
+  apart : AreNumbered root_cached_nodes
   apart i j a b off at_i at_j = absurd (off (root_alone i a at_i ∙ sym (root_alone j b at_j)))
 
   some_is : (x y : CachedNode) → (let one : Option CachedNode = Some x in one ≡ Some y) → x ≡ y
   some_is x y e = cc
 
-  forms : HaveForms version root_cards
-  forms zero card at_i = ap (λ (c : CachedNode). c.form) (some_is card root_card (sym at_i))
-  forms (suc i) card at_i = absurd (none-some card (sym (nones-at (nodes - 1) i) ∙ at_i))
+  forms : HaveForms version root_cached_nodes
+  forms zero cached at_i = ap (λ (c : CachedNode). c.form) (some_is cached root_cached (sym at_i))
+  forms (suc i) cached at_i = absurd (none-some cached (sym (nones-at (nodes - 1) i) ∙ at_i))
 
   unmarked : (n : ℕ) → mark_in nodes image n ≡ 0
   unfolding mark_in
@@ -122,15 +122,15 @@ module _ (version : Version) (size nodes : ℕ) (image : Image) (formatted : IsF
       let high : image 99 ≡ zero_sector = formatted.bitmap 99 (omega arith) (omega arith) in
       ap (λ (b : ℕ). if ltb n (148 + nodes) then 0 else b) (bit_in-zeros (image 98) (image 99) low high (n - (148 + nodes))) ∙ either_zero (ltb n (148 + nodes))
 
-  unnamed : (n : ℕ) → named n root_cards ≡ 0
+  unnamed : (n : ℕ) → named n root_cached_nodes ≡ 0
   unfolding namings_of
   unnamed n = omega (arith, named-nones (nodes - 1) n)
 
-  unmarked_by : (marking : Marking) (n : ℕ) → marked_by marking nodes image root_cards n ≡ 0
+  unmarked_by : (marking : Marking) (n : ℕ) → marked_by marking nodes image root_cached_nodes n ≡ 0
   unmarked_by InSectors n = unmarked n
   unmarked_by AsNamed n = unnamed n
 
-  laid : IsLaid version size nodes image root_cards
+  laid : IsLaid version size nodes image root_cached_nodes
   laid = record {
     laid = record {
       count = omega (arith, some, length-replicate {A = Option CachedNode} (nodes - 1) None);
@@ -145,14 +145,14 @@ module _ (version : Version) (size nodes : ℕ) (image : Image) (formatted : IsF
     spare = formatted.spare;
   }
 
-  tree_is : fresh_tree ≡ tree_of image root_cards
+  tree_is : fresh_tree ≡ tree_of image root_cached_nodes
   tree_is =
-      ap (λ (node : Node). with [] root_fields.number node) (sym (node_of-directory image root_card refl))
-      ∙ ap (λ (tree : Tree). with tree root_fields.number (node_of image root_card)) (sym (tree-nones image (nodes - 1)))
+      ap (λ (node : Node). with [] root_fields.number node) (sym (node_of-directory image root_cached refl))
+      ∙ ap (λ (tree : Tree). with tree root_fields.number (node_of image root_cached)) (sym (tree-nones image (nodes - 1)))
 
 pub fresh_stands : FreshStands
 fresh_stands version size nodes image formatted =
-    let cards = root_cards version size nodes image formatted in
+    let cached_nodes = root_cached_nodes version size nodes image formatted in
     let all = laid version size nodes image formatted in
     let is = fresh (version.limits size nodes) in
     record {
@@ -160,8 +160,8 @@ fresh_stands version size nodes image formatted =
       region = formatted.region;
       counted = omega arith;
       first = formatted.first;
-      laid = only_cards version size nodes image cards all;
-      tree_is = tree_is version size nodes image formatted ∙ ap (tree_of image) (sym (cards-back image nodes cards all.laid.count all.laid.held));
+      laid = only_cached_nodes version size nodes image cached_nodes all;
+      tree_is = tree_is version size nodes image formatted ∙ ap (tree_of image) (sym (cached_nodes-back image nodes cached_nodes all.laid.count all.laid.held));
       well_formed = ∣ is.well_formed formatted.a_node formatted.an_entry ∣₁;
       before = is.before (stamp 1 0) (omega arith);
     }

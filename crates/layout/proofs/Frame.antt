@@ -9,7 +9,7 @@ use Rattle.model_tree.specs.Trees.Tree.{File}
 use Rattle.extents.specs.declared.run.Run.{Run}
 use Rattle.layout.specs.CachedNodeLaws.{AreKept, Frame}
 use Rattle.layout.specs.CachedNodes.{CachedNode, node_sector, content_at, byte_at, bytes_in, content_of, node_with, node_of}
-use Rattle.layout.specs.Laid.{AreRunSectors, HoldsContent, HoldsCard}
+use Rattle.layout.specs.Laid.{AreRunSectors, HoldsContent, HoldsCached}
 use Rattle.layout.specs.Marks.{times, times_set, namings_of}
 use Rattle.layout.proofs.NumberLaws.{once-here, times-at}
 
@@ -36,28 +36,28 @@ module _ (old new : Image) (blocks : List (Option ℕ)) (same : (n : ℕ) → 0 
   unfolding bytes_in
   bytes-kept size = ap (λ (f : ℕ → ℕ). map f (range_with_len 0 size)) (λ i k. byte_at-kept k i)
 
-module _ (old new : Image) (card : CachedNode) (same : AreKept old new (Some card)) where
-  pub of_runs : (n : ℕ) → 0 < times n card.fields.run_sectors → new n ≡ old n
+module _ (old new : Image) (cached : CachedNode) (same : AreKept old new (Some cached)) where
+  pub of_runs : (n : ℕ) → 0 < times n cached.fields.run_sectors → new n ≡ old n
   unfolding namings_of
   of_runs n h = same n (omega arith)
 
-  of_blocks : (n : ℕ) → 0 < times_set n card.blocks → new n ≡ old n
+  of_blocks : (n : ℕ) → 0 < times_set n cached.blocks → new n ≡ old n
   unfolding namings_of
   of_blocks n h = same n (omega arith)
 
-  pub content-held : (kind : NodeKind) → HoldsContent old kind card → HoldsContent new kind card
-  content-held kind.File holds = record { unnamed = holds.unnamed; tail = λ k h. byte_at-kept old new card.blocks of_blocks k ∙ holds.tail k h }
-  content-held kind.Directory holds = record { count = holds.count; names = holds.names; stamped = holds.stamped; spelled = λ i h. content-kept old new card.blocks of_blocks (get_or card.blocks i None) i refl ∙ holds.spelled i h }
+  pub content-held : (kind : NodeKind) → HoldsContent old kind cached → HoldsContent new kind cached
+  content-held kind.File holds = record { unnamed = holds.unnamed; tail = λ k h. byte_at-kept old new cached.blocks of_blocks k ∙ holds.tail k h }
+  content-held kind.Directory holds = record { count = holds.count; names = holds.names; stamped = holds.stamped; encoded = λ i h. content-kept old new cached.blocks of_blocks (get_or cached.blocks i None) i refl ∙ holds.encoded i h }
 
-  content_of-kept : (kind : NodeKind) → content_of new kind card ≡ content_of old kind card
-  content_of-kept kind.File = ap File (bytes-kept old new card.blocks of_blocks card.fields.size)
+  content_of-kept : (kind : NodeKind) → content_of new kind cached ≡ content_of old kind cached
+  content_of-kept kind.File = ap File (bytes-kept old new cached.blocks of_blocks cached.fields.size)
   content_of-kept kind.Directory = refl
 
-  pub node-kept : node_of new card ≡ node_of old card
+  pub node-kept : node_of new cached ≡ node_of old cached
   unfolding node_of
-  node-kept = ap (node_with card.fields) (content_of-kept card.fields.kind)
+  node-kept = ap (node_with cached.fields) (content_of-kept cached.fields.kind)
 
-  pub held-still : (place : ℕ) → new (node_sector place) ≡ old (node_sector place) → HoldsCard old place card → HoldsCard new place card
+  pub held-still : (place : ℕ) → new (node_sector place) ≡ old (node_sector place) → HoldsCached old place cached → HoldsCached new place cached
   held-still place sector holds = record {
     node = record {
       fits = holds.node.fits;
@@ -65,12 +65,12 @@ module _ (old new : Image) (card : CachedNode) (same : AreKept old new (Some car
       sector = sector ∙ holds.node.sector;
       each_run = holds.node.each_run;
       run_count = holds.node.run_count;
-      run_sectors = run_sectors-kept old new card.fields.run_sectors card.runs of_runs holds.node.run_sectors;
+      run_sectors = run_sectors-kept old new cached.fields.run_sectors cached.runs of_runs holds.node.run_sectors;
       runs = holds.node.runs;
       blocks = holds.node.blocks;
     };
-    content = content-held card.fields.kind holds.content;
+    content = content-held cached.fields.kind holds.content;
   }
 
 pub frame : Frame
-frame old new place card node same = record { held = held-still old new card same place node; node = node-kept old new card same }
+frame old new place cached node same = record { held = held-still old new cached same place node; node = node-kept old new cached same }

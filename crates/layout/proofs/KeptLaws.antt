@@ -7,7 +7,7 @@ use Rattle.layout.specs.CachedNodeLaws.{OneKept}
 use Rattle.layout.specs.Stands.{Version, AreKept, Kept, IsMark, IsVersion, MayHaveSeats, By, TreeStands, StandsAs, StandsNow, current_version, seats_at, version_by}
 use Rattle.layout.specs.declared.versions.VersionNumber.{VersionNumber}
 use Rattle.layout.specs.declared.versions.VersionNumber.TheVariants as numbers
-use Rattle.seats.specs.Spelling.{seats_sector}
+use Rattle.seats.specs.Encoding.{seats_sector}
 use Rattle.seats.proofs.ReadBack.{seats-back}
 use Rattle.layout.proofs.FirstLaws.{one_tree}
 use Rattle.layout.proofs.SeatLaws.{spare_seats, version_spare}

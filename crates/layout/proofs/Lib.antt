@@ -8,7 +8,7 @@ pub mod FileLaws
 pub mod FirstLaws
 pub mod Formatted
 pub mod Frame
-pub mod FrontBytes
+pub mod PrefixBytes
 pub mod KeptLaws
 pub mod Knowing
 pub mod Linking

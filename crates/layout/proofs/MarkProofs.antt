@@ -7,7 +7,7 @@ use Rattle.std.proofs.Math.Nat.{zero-div}
 use Rattle.disk.specs.Moments.{Image}
 use Rattle.freemap.specs.Places.{mark_of, bit_of, bit_in, bit_from, Show}
 use Rattle.freemap.proofs.Bits.{bit_in-shown}
-use Rattle.layout.specs.CachedNodes.{CachedNode, tree_of, node_sector, cards_in}
+use Rattle.layout.specs.CachedNodes.{CachedNode, tree_of, node_sector, cached_nodes_in}
 use Rattle.layout.specs.Laid.{AreLaid, HoldsPlace}
 use Rattle.layout.specs.MarkLaws.{EachMark, MarksLaid, LaysMarks, KeptAlone, StandsAlone}
 use Rattle.layout.specs.declared.versions.Marking.{Marking}
@@ -18,7 +18,7 @@ use Rattle.std.specs.Prelude.{IsTrue}
 use Rattle.layout.proofs.FirstLaws.{sized_parts}
 use Rattle.layout.specs.Marks.{mark_in, namings_of, mark_by}
 use Rattle.layout.specs.Stands.{IsLaid}
-use Rattle.layout.proofs.CachedNodeLaws.{cards-back}
+use Rattle.layout.proofs.CachedNodeLaws.{cached_nodes-back}
 use Rattle.layout.proofs.Frame.{held-still, node-kept}
 use Rattle.layout.proofs.Changing.{named-at, tree-kept}
 use Rattle.layout.proofs.NumberLaws.{once-off, once-at}
@@ -26,9 +26,9 @@ use Rattle.layout.proofs.NumberLaws.{once-off, once-at}
 -- ---- marks by places
 
 module _ (first : ℕ) (places : List Bool) (n : ℕ) where
-  pub mark-front : n < first → mark_by first places n ≡ 0
+  pub mark-prefix : n < first → mark_by first places n ≡ 0
   unfolding mark_by
-  mark-front h = rw (lt-ltb n first h) refl
+  mark-prefix h = rw (lt-ltb n first h) refl
 
   pub mark-back : first ≤ n → mark_by first places n ≡ bit_from (get_or places (n - first) false)
   unfolding mark_by
@@ -42,7 +42,7 @@ bit-le false = omega arith
 mark-set : (first : ℕ) (places : List Bool) (place : ℕ) (was is : Bool) → place < length places → get_or places place false ≡ was → (n : ℕ)
     → ((n ≡ first + place) × (mark_by first (set places place is) n ≡ bit_from is) × (mark_by first places n ≡ bit_from was)) ⊎ ((n ≢ first + place) × (mark_by first (set places place is) n ≡ mark_by first places n))
 mark-set first places place was is h there n = elim (cases_lt n first) [
-  | inl low ↦ inr (omega arith, mark-front first (set places place is) n low ∙ sym (mark-front first places n low))
+  | inl low ↦ inr (omega arith, mark-prefix first (set places place is) n low ∙ sym (mark-prefix first places n low))
   | inr high ↦ elim (cases_eq (n - first) place) [
     | inl e ↦ inl (
       omega arith,
@@ -73,11 +73,11 @@ each_mark first places place = record {
     | inr there ↦ omega (arith, there.1, once-off n (first + place) there.0)
   ];
   once = λ n. elim (cases_lt n first) [
-    | inl low ↦ omega (arith, mark-front first places n low)
+    | inl low ↦ omega (arith, mark-prefix first places n low)
     | inr high ↦ omega (arith, mark-back first places n high, bit-le (get_or places (n - first) false))
   ];
   behind = λ n some. elim (cases_lt n first) [
-    | inl low ↦ absurd (let none = mark-front first places n low in omega arith)
+    | inl low ↦ absurd (let none = mark-prefix first places n low in omega arith)
     | inr high ↦ high
   ];
   within = λ n h. mark-back first places n (omega arith) ∙ ap bit_from (get_or_past places (n - first) false (omega arith));
@@ -110,39 +110,39 @@ marks_laid nodes count image places few shown = marks_of nodes image places (sho
 
 -- ---- images that differ in what no cached node names
 
-module _ (nodes : ℕ) (old new : Image) (marked mark : ℕ → ℕ) (cards : List (Option CachedNode)) (laid : AreLaid nodes old marked cards) (marks : (n : ℕ) → mark n ≡ marked n)
+module _ (nodes : ℕ) (old new : Image) (marked mark : ℕ → ℕ) (cached_nodes : List (Option CachedNode)) (laid : AreLaid nodes old marked cached_nodes) (marks : (n : ℕ) → mark n ≡ marked n)
     (same_nodes : (place : ℕ) → place < nodes → new (node_sector place) ≡ old (node_sector place)) (same_data : (n : ℕ) → 0 < marked n → new n ≡ old n) where
-  kept_all : (place n : ℕ) → 0 < namings_of n (get_or cards place None) → new n ≡ old n
-  kept_all place n some = same_data n (omega (arith, named-at n cards place, laid.marks n))
+  kept_all : (place n : ℕ) → 0 < namings_of n (get_or cached_nodes place None) → new n ≡ old n
+  kept_all place n some = same_data n (omega (arith, named-at n cached_nodes place, laid.marks n))
 
-  held_at : (place : ℕ) (card : Option CachedNode) → place < nodes → get_or cards place None ≡ card → HoldsPlace old place card → HoldsPlace new place card
+  held_at : (place : ℕ) (cached : Option CachedNode) → place < nodes → get_or cached_nodes place None ≡ cached → HoldsPlace old place cached → HoldsPlace new place cached
   held_at place None h there holds = same_nodes place h ∙ holds
-  held_at place (Some card) h there holds = held-still old new card (λ n some. kept_all place n (rw there some)) place (same_nodes place h) holds
+  held_at place (Some cached) h there holds = held-still old new cached (λ n some. kept_all place n (rw there some)) place (same_nodes place h) holds
 
-  laid_still : AreLaid nodes new mark cards
+  laid_still : AreLaid nodes new mark cached_nodes
   laid_still = record {
     count = laid.count;
-    held = λ place h. held_at place (get_or cards place None) h refl (laid.held place h);
+    held = λ place h. held_at place (get_or cached_nodes place None) h refl (laid.held place h);
     apart = laid.apart;
     marks = λ n. laid.marks n ∙ sym (marks n);
     behind = λ n some. laid.behind n (omega (arith, marks n));
     once = λ n. omega (arith, marks n, laid.once n);
   }
 
-  pub tree_still : tree_of new cards ≡ tree_of old cards
-  tree_still = tree-kept old new cards (λ i card there. node-kept old new card (λ n some. kept_all i n (rw there some)))
+  pub tree_still : tree_of new cached_nodes ≡ tree_of old cached_nodes
+  tree_still = tree-kept old new cached_nodes (λ i cached there. node-kept old new cached (λ n some. kept_all i n (rw there some)))
 
-marks_by : (marking : Marking) (nodes : ℕ) (old new : Image) (places : List Bool) (cards : List (Option CachedNode)) → AreLaid nodes old (mark_by (148 + nodes) places) cards
-    → (marking ≡ InSectors → (i : ℕ) → bit_in (new 98) (new 99) i ≡ mark_of places i) → (n : ℕ) → marked_by marking nodes new cards n ≡ mark_by (148 + nodes) places n
-marks_by InSectors nodes old new places cards laid marked = marks_of nodes new places (marked refl)
-marks_by AsNamed nodes old new places cards laid marked = λ n. laid.marks n
+marks_by : (marking : Marking) (nodes : ℕ) (old new : Image) (places : List Bool) (cached_nodes : List (Option CachedNode)) → AreLaid nodes old (mark_by (148 + nodes) places) cached_nodes
+    → (marking ≡ InSectors → (i : ℕ) → bit_in (new 98) (new 99) i ≡ mark_of places i) → (n : ℕ) → marked_by marking nodes new cached_nodes n ≡ mark_by (148 + nodes) places n
+marks_by InSectors nodes old new places cached_nodes laid marked = marks_of nodes new places (marked refl)
+marks_by AsNamed nodes old new places cached_nodes laid marked = λ n. laid.marks n
 
 pub lays_marks : LaysMarks
-lays_marks version size nodes old new places cards writes =
+lays_marks version size nodes old new places cached_nodes writes =
     let laid = writes.laid in
-    let marks = marks_by version.marking nodes old new places cards laid writes.marked in
+    let marks = marks_by version.marking nodes old new places cached_nodes laid writes.marked in
     record {
-      laid = laid_still nodes old new (mark_by (148 + nodes) places) (marked_by version.marking nodes new cards) cards laid marks (λ place h. writes.same (node_sector place) (omega arith)) (λ n some. writes.same n (let far = laid.behind n some in omega arith));
+      laid = laid_still nodes old new (mark_by (148 + nodes) places) (marked_by version.marking nodes new cached_nodes) cached_nodes laid marks (λ place h. writes.same (node_sector place) (omega arith)) (λ n some. writes.same n (let far = laid.behind n some in omega arith));
       forms = writes.forms;
       within = λ n h. marks n ∙ (let each = each_mark (148 + nodes) places 0 in each.within n (omega (arith, writes.end_is)));
       spare = λ n low high. writes.same n low ∙ writes.spare n low high;
@@ -152,12 +152,12 @@ pub mark_in-same : (nodes : ℕ) (old new : Image) → new 98 ≡ old 98 → new
 unfolding mark_in
 mark_in-same nodes old new low high n = ap₂ (λ (a b : List ℕ). if ltb n (148 + nodes) then 0 else bit_in a b (n - (148 + nodes))) low high
 
-pub marked-same : (marking : Marking) (nodes : ℕ) (old new : Image) (cards : List (Option CachedNode)) → new 98 ≡ old 98 → new 99 ≡ old 99 → (n : ℕ) → marked_by marking nodes new cards n ≡ marked_by marking nodes old cards n
-marked-same InSectors nodes old new cards low high n = mark_in-same nodes old new low high n
-marked-same AsNamed nodes old new cards low high n = refl
+pub marked-same : (marking : Marking) (nodes : ℕ) (old new : Image) (cached_nodes : List (Option CachedNode)) → new 98 ≡ old 98 → new 99 ≡ old 99 → (n : ℕ) → marked_by marking nodes new cached_nodes n ≡ marked_by marking nodes old cached_nodes n
+marked-same InSectors nodes old new cached_nodes low high n = mark_in-same nodes old new low high n
+marked-same AsNamed nodes old new cached_nodes low high n = refl
 
-pub below_end : (version : Version) (size nodes : ℕ) (image : Image) (cards : List (Option CachedNode)) → IsLaid version size nodes image cards → (n : ℕ) → 0 < marked_by version.marking nodes image cards n → n < version.data_end size
-below_end version size nodes image cards laid n some = elim (cases_lt n (version.data_end size)) [
+pub below_end : (version : Version) (size nodes : ℕ) (image : Image) (cached_nodes : List (Option CachedNode)) → IsLaid version size nodes image cached_nodes → (n : ℕ) → 0 < marked_by version.marking nodes image cached_nodes n → n < version.data_end size
+below_end version size nodes image cached_nodes laid n some = elim (cases_lt n (version.data_end size)) [
   | inl low ↦ low
   | inr high ↦ absurd (let none = laid.within n high in omega arith)
 ]
@@ -166,11 +166,11 @@ pub room : (size nodes : ℕ) → IsTrue (is_size size nodes) → 148 + nodes �
 room size nodes sized = let parts = sized_parts size nodes sized in omega (arith, parts.room)
 
 pub kept_alone : KeptAlone
-kept_alone version size nodes old new cards room laid same =
-    let marks = marked-same version.marking nodes old new cards (same 98 (omega arith) (omega arith)) (same 99 (omega arith) (omega arith)) in
+kept_alone version size nodes old new cached_nodes room laid same =
+    let marks = marked-same version.marking nodes old new cached_nodes (same 98 (omega arith) (omega arith)) (same 99 (omega arith) (omega arith)) in
     let at_nodes : (place : ℕ) → place < nodes → new (node_sector place) ≡ old (node_sector place) = λ place h. same (node_sector place) (omega arith) (omega arith) in
-    let at_data : (n : ℕ) → 0 < marked_by version.marking nodes old cards n → new n ≡ old n = λ n some. same n (let far = laid.laid.behind n some in omega arith) (below_end version size nodes old cards laid n some) in
-    let still = laid_still nodes old new (marked_by version.marking nodes old cards) (marked_by version.marking nodes new cards) cards laid.laid marks at_nodes at_data in
+    let at_data : (n : ℕ) → 0 < marked_by version.marking nodes old cached_nodes n → new n ≡ old n = λ n some. same n (let far = laid.laid.behind n some in omega arith) (below_end version size nodes old cached_nodes laid n some) in
+    let still = laid_still nodes old new (marked_by version.marking nodes old cached_nodes) (marked_by version.marking nodes new cached_nodes) cached_nodes laid.laid marks at_nodes at_data in
     record {
       laid = record {
         laid = still;
@@ -178,20 +178,20 @@ kept_alone version size nodes old new cards room laid same =
         within = λ n h. marks n ∙ laid.within n h;
         spare = λ n low high. same n (omega arith) (omega arith) ∙ laid.spare n low high;
       };
-      same_cards = cards-back new nodes cards still.count still.held ∙ sym (cards-back old nodes cards laid.laid.count laid.laid.held);
-      same_tree = tree_still nodes old new (marked_by version.marking nodes old cards) (marked_by version.marking nodes new cards) cards laid.laid marks at_nodes at_data;
+      same_cached_nodes = cached_nodes-back new nodes cached_nodes still.count still.held ∙ sym (cached_nodes-back old nodes cached_nodes laid.laid.count laid.laid.held);
+      same_tree = tree_still nodes old new (marked_by version.marking nodes old cached_nodes) (marked_by version.marking nodes new cached_nodes) cached_nodes laid.laid marks at_nodes at_data;
     }
 
 pub stands_alone : StandsAlone
 stands_alone version size nodes old new run tree stands first same =
-    let sees = kept_alone version size nodes old new (cards_in nodes old) stands.region.behind stands.laid same in
+    let sees = kept_alone version size nodes old new (cached_nodes_in nodes old) stands.region.behind stands.laid same in
     record {
       sized = stands.sized;
       region = stands.region;
       counted = stands.counted;
       first = first ∙ stands.first;
-      laid = subst (IsLaid version size nodes new) (sym sees.same_cards) sees.laid;
-      tree_is = stands.tree_is ∙ sym sees.same_tree ∙ ap (tree_of new) (sym sees.same_cards);
+      laid = subst (IsLaid version size nodes new) (sym sees.same_cached_nodes) sees.laid;
+      tree_is = stands.tree_is ∙ sym sees.same_tree ∙ ap (tree_of new) (sym sees.same_cached_nodes);
       well_formed = stands.well_formed;
       before = stands.before;
     }

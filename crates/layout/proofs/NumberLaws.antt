@@ -26,11 +26,11 @@ times-at [] i d h = absurd (omega arith)
 times-at (x ∷ xs) zero d h = omega (arith, once-here x)
 times-at (x ∷ xs) (suc i) d h = omega (arith, times-at xs i d (omega arith))
 
-pub times_set-front : (n : ℕ) (blocks : List (Option ℕ)) (i : ℕ) → times_set n (take i blocks) ≤ times_set n blocks
-times_set-front n blocks zero = omega arith
-times_set-front n [] (suc i) = omega arith
-times_set-front n (None ∷ blocks) (suc i) = times_set-front n blocks i
-times_set-front n (Some s ∷ blocks) (suc i) = omega (arith, times_set-front n blocks i)
+pub times_set-prefix : (n : ℕ) (blocks : List (Option ℕ)) (i : ℕ) → times_set n (take i blocks) ≤ times_set n blocks
+times_set-prefix n blocks zero = omega arith
+times_set-prefix n [] (suc i) = omega arith
+times_set-prefix n (None ∷ blocks) (suc i) = times_set-prefix n blocks i
+times_set-prefix n (Some s ∷ blocks) (suc i) = omega (arith, times_set-prefix n blocks i)
 
 -- Once they are sorted
 

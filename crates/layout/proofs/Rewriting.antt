@@ -13,20 +13,20 @@ use Rattle.model_tree.specs.Trees.WellFormed.{IsBefore}
 use Rattle.inode.specs.declared.node.Form.{Form}
 use Rattle.inode.specs.declared.node.Form.TheVariants.{One, Two}
 use Rattle.inode.specs.Fields.{Fields, IsInode, most_entries}
-use Rattle.inode.specs.Spelling.{inode_sector}
+use Rattle.inode.specs.Encoding.{inode_sector}
 use Rattle.inode.proofs.ReadBack.{fields-back}
-use Rattle.layout.specs.CachedNodes.{CachedNode, node_sector, cards_in, content_of, node_of}
+use Rattle.layout.specs.CachedNodes.{CachedNode, node_sector, cached_nodes_in, content_of, node_of}
 use Rattle.layout.specs.CachedNodes.{node_with, tree_of}
 use Rattle.layout.specs.Laid.{AreNumbered, HoldsContent, HoldsPlace}
 use Rattle.layout.specs.Marks.{mark_in, named, namings_of}
 use Rattle.layout.specs.Known.{IsNodePlace, HasContent}
-use Rattle.layout.specs.Rewriting.{in_form, in_second, all_second, second_image, AreRewritten, RewrittenStands, FormStays, IsLaidSecond, LaidSecond, KnownSecond, RewrittenCards, CurrentSecond}
+use Rattle.layout.specs.Rewriting.{in_form, in_second, all_second, second_image, AreRewritten, RewrittenStands, FormStays, IsLaidSecond, LaidSecond, KnownSecond, RewrittenCachedNodes, CurrentSecond}
 use Rattle.layout.specs.declared.versions.Marking.{Marking}
 use Rattle.layout.specs.declared.versions.Marking.TheVariants.{InSectors, AsNamed}
 use Rattle.layout.specs.Stands.{Version, marked_by, IsLaid, current_version}
 use Rattle.model_tree.specs.declared.limits.Limits.{Limits}
 use Rattle.model_tree.specs.Trees.WellFormed.{IsWellFormed}
-use Rattle.layout.proofs.CachedNodeLaws.{cards-back, zero_first, starts}
+use Rattle.layout.proofs.CachedNodeLaws.{cached_nodes-back, zero_first, starts}
 use Rattle.layout.proofs.Changing.{named-at, tree-kept}
 use Rattle.layout.proofs.Frame.{content-held, of_runs, run_sectors-kept, node-kept}
 use Rattle.layout.proofs.MarkProofs.{mark_in-same, below_end, room}
@@ -45,55 +45,55 @@ free_in_form form = rw zero_first refl
 -- Cached nodes in other forms
 
 abbrev in_its_form : Form → CachedNode → CachedNode
-in_its_form form card = record card { form = form }
+in_its_form form cached = record cached { form = form }
 
 abbrev place_in : Form → Option CachedNode → Option CachedNode
 place_in form None = None
-place_in form (Some card) = Some (in_its_form form card)
+place_in form (Some cached) = Some (in_its_form form cached)
 
-abbrev cards_from : (form : ℕ → Form) → (place : ℕ) → List (Option CachedNode)
+abbrev cached_nodes_from : (form : ℕ → Form) → (place : ℕ) → List (Option CachedNode)
     → List (Option CachedNode)
-cards_from form place [] = []
-cards_from form place (card ∷ cards) = place_in (form place) card ∷ cards_from form (suc place) cards
+cached_nodes_from form place [] = []
+cached_nodes_from form place (cached ∷ cached_nodes) = place_in (form place) cached ∷ cached_nodes_from form (suc place) cached_nodes
 
-length_from : (form : ℕ → Form) (place : ℕ) (cards : List (Option CachedNode)) → length (cards_from form place cards) ≡ length cards
+length_from : (form : ℕ → Form) (place : ℕ) (cached_nodes : List (Option CachedNode)) → length (cached_nodes_from form place cached_nodes) ≡ length cached_nodes
 length_from form place [] = refl
-length_from form place (card ∷ cards) = ap suc (length_from form (suc place) cards)
+length_from form place (cached ∷ cached_nodes) = ap suc (length_from form (suc place) cached_nodes)
 
-from_at : (form : ℕ → Form) (place : ℕ) (cards : List (Option CachedNode)) (i : ℕ) → get_or (cards_from form place cards) i None ≡ place_in (form (place + i)) (get_or cards i None)
+from_at : (form : ℕ → Form) (place : ℕ) (cached_nodes : List (Option CachedNode)) (i : ℕ) → get_or (cached_nodes_from form place cached_nodes) i None ≡ place_in (form (place + i)) (get_or cached_nodes i None)
 from_at form place [] i = refl
-from_at form place (card ∷ cards) zero = ap (λ (n : ℕ). place_in (form n) card) (omega arith)
-from_at form place (card ∷ cards) (suc i) = from_at form (suc place) cards i ∙ ap (λ (n : ℕ). place_in (form n) (get_or cards i None)) (omega arith)
+from_at form place (cached ∷ cached_nodes) zero = ap (λ (n : ℕ). place_in (form n) cached) (omega arith)
+from_at form place (cached ∷ cached_nodes) (suc i) = from_at form (suc place) cached_nodes i ∙ ap (λ (n : ℕ). place_in (form n) (get_or cached_nodes i None)) (omega arith)
 
-all_at : (form : ℕ → Form) (cards : List (Option CachedNode)) (i : ℕ) → get_or (cards_from form 0 cards) i None ≡ place_in (form i) (get_or cards i None)
-all_at form cards i = from_at form 0 cards i ∙ ap (λ (n : ℕ). place_in (form n) (get_or cards i None)) (omega arith)
+all_at : (form : ℕ → Form) (cached_nodes : List (Option CachedNode)) (i : ℕ) → get_or (cached_nodes_from form 0 cached_nodes) i None ≡ place_in (form i) (get_or cached_nodes i None)
+all_at form cached_nodes i = from_at form 0 cached_nodes i ∙ ap (λ (n : ℕ). place_in (form n) (get_or cached_nodes i None)) (omega arith)
 
-named_place : (n : ℕ) (form : Form) (card : Option CachedNode) → namings_of n (place_in form card) ≡ namings_of n card
+named_place : (n : ℕ) (form : Form) (cached : Option CachedNode) → namings_of n (place_in form cached) ≡ namings_of n cached
 unfolding namings_of
 named_place n form None = refl
-named_place n form (Some card) = refl
+named_place n form (Some cached) = refl
 
-named_from : (n : ℕ) (form : ℕ → Form) (place : ℕ) (cards : List (Option CachedNode)) → named n (cards_from form place cards) ≡ named n cards
+named_from : (n : ℕ) (form : ℕ → Form) (place : ℕ) (cached_nodes : List (Option CachedNode)) → named n (cached_nodes_from form place cached_nodes) ≡ named n cached_nodes
 named_from n form place [] = refl
-named_from n form place (card ∷ cards) = ap₂ (λ (a b : ℕ). a + b) (named_place n (form place) card) (named_from n form (suc place) cards)
+named_from n form place (cached ∷ cached_nodes) = ap₂ (λ (a b : ℕ). a + b) (named_place n (form place) cached) (named_from n form (suc place) cached_nodes)
 
-same_content : (image : Image) (of : NodeKind) (form : Form) (card : CachedNode) → content_of image of (in_its_form form card) ≡ content_of image of card
-same_content image kind.File form card = refl
-same_content image kind.Directory form card = refl
+same_content : (image : Image) (of : NodeKind) (form : Form) (cached : CachedNode) → content_of image of (in_its_form form cached) ≡ content_of image of cached
+same_content image kind.File form cached = refl
+same_content image kind.Directory form cached = refl
 
-same_node : (image : Image) (form : Form) (card : CachedNode) → node_of image (in_its_form form card) ≡ node_of image card
+same_node : (image : Image) (form : Form) (cached : CachedNode) → node_of image (in_its_form form cached) ≡ node_of image cached
 unfolding node_of
-same_node image form card = ap (node_with card.fields) (same_content image card.fields.kind form card)
+same_node image form cached = ap (node_with cached.fields) (same_content image cached.fields.kind form cached)
 
-tree_from : (image : Image) (form : ℕ → Form) (place : ℕ) (cards : List (Option CachedNode)) → tree_of image (cards_from form place cards) ≡ tree_of image cards
+tree_from : (image : Image) (form : ℕ → Form) (place : ℕ) (cached_nodes : List (Option CachedNode)) → tree_of image (cached_nodes_from form place cached_nodes) ≡ tree_of image cached_nodes
 tree_from image form place [] = refl
-tree_from image form place (None ∷ cards) = tree_from image form (suc place) cards
-tree_from image form place (Some card ∷ cards) =
-    ap₂ (λ (tree : Tree) (node : Node). with tree card.fields.number node) (tree_from image form (suc place) cards) (same_node image (form place) card)
+tree_from image form place (None ∷ cached_nodes) = tree_from image form (suc place) cached_nodes
+tree_from image form place (Some cached ∷ cached_nodes) =
+    ap₂ (λ (tree : Tree) (node : Node). with tree cached.fields.number node) (tree_from image form (suc place) cached_nodes) (same_node image (form place) cached)
 
-held_in_form : (image : Image) (of : NodeKind) (form : Form) (card : CachedNode) → HoldsContent image of card → HoldsContent image of (in_its_form form card)
-held_in_form image kind.File form card holds = record { unnamed = holds.unnamed; tail = holds.tail }
-held_in_form image kind.Directory form card holds = record { count = holds.count; names = holds.names; stamped = holds.stamped; spelled = holds.spelled }
+held_in_form : (image : Image) (of : NodeKind) (form : Form) (cached : CachedNode) → HoldsContent image of cached → HoldsContent image of (in_its_form form cached)
+held_in_form image kind.File form cached holds = record { unnamed = holds.unnamed; tail = holds.tail }
+held_in_form image kind.Directory form cached holds = record { count = holds.count; names = holds.names; stamped = holds.stamped; encoded = holds.encoded }
 
 -- Room for the entries
 
@@ -118,79 +118,79 @@ fits_in_form was is fields roomy fits = record {
   each_ace = fits.each_ace;
 }
 
-module _ (was is : Version) (size nodes : ℕ) (old new : Image) (cards : List (Option CachedNode)) (laid : IsLaid was size nodes old cards)
+module _ (was is : Version) (size nodes : ℕ) (old new : Image) (cached_nodes : List (Option CachedNode)) (laid : IsLaid was size nodes old cached_nodes)
     (below : 148 + nodes ≤ size) (rewritten : AreRewritten was is size nodes old new) where
   abbrev now : List (Option CachedNode)
-  now = cards_from is.form 0 cards
+  now = cached_nodes_from is.form 0 cached_nodes
 
-  marks_now : (marking : Marking) (n : ℕ) → marked_by marking nodes new now n ≡ marked_by marking nodes old cards n
+  marks_now : (marking : Marking) (n : ℕ) → marked_by marking nodes new now n ≡ marked_by marking nodes old cached_nodes n
   marks_now InSectors n = mark_in-same nodes old new (rewritten.bitmap 98 (omega arith) (omega arith)) (rewritten.bitmap 99 (omega arith) (omega arith)) n
-  marks_now AsNamed n = named_from n is.form 0 cards
+  marks_now AsNamed n = named_from n is.form 0 cached_nodes
 
-  marks : (n : ℕ) → marked_by is.marking nodes new now n ≡ marked_by was.marking nodes old cards n
-  marks n = marks_now is.marking n ∙ ap (λ (marking : Marking). marked_by marking nodes old cards n) rewritten.marking
+  marks : (n : ℕ) → marked_by is.marking nodes new now n ≡ marked_by was.marking nodes old cached_nodes n
+  marks n = marks_now is.marking n ∙ ap (λ (marking : Marking). marked_by marking nodes old cached_nodes n) rewritten.marking
 
-  kept : (place n : ℕ) → 0 < namings_of n (get_or cards place None) → new n ≡ old n
+  kept : (place n : ℕ) → 0 < namings_of n (get_or cached_nodes place None) → new n ≡ old n
   kept place n some =
-      let marked : 0 < marked_by was.marking nodes old cards n = omega (arith, some, named-at n cards place, laid.laid.marks n) in
-      rewritten.region n (laid.laid.behind n marked) (below_end was size nodes old cards laid n marked)
+      let marked : 0 < marked_by was.marking nodes old cached_nodes n = omega (arith, some, named-at n cached_nodes place, laid.laid.marks n) in
+      rewritten.region n (laid.laid.behind n marked) (below_end was size nodes old cached_nodes laid n marked)
 
-  held_at : (place : ℕ) (card : Option CachedNode) → place < nodes → get_or cards place None ≡ card → HoldsPlace old place card → HoldsPlace new place (place_in (is.form place) card)
+  held_at : (place : ℕ) (cached : Option CachedNode) → place < nodes → get_or cached_nodes place None ≡ cached → HoldsPlace old place cached → HoldsPlace new place (place_in (is.form place) cached)
   held_at place None within there holds =
       rewritten.nodes_are place within ∙ (ap (in_form (is.form place)) holds ∙ free_in_form (is.form place))
-  held_at place (Some card) within there holds =
-      let same : (n : ℕ) → 0 < namings_of n (Some card) → new n ≡ old n = λ n some. kept place n (rw there some) in
-      let roomy : (card.form ≡ One) ⊎ (is.form place ≡ Two) = rw (laid.forms place card there) (rewritten.roomy place within) in
+  held_at place (Some cached) within there holds =
+      let same : (n : ℕ) → 0 < namings_of n (Some cached) → new n ≡ old n = λ n some. kept place n (rw there some) in
+      let roomy : (cached.form ≡ One) ⊎ (is.form place ≡ Two) = rw (laid.forms place cached there) (rewritten.roomy place within) in
       record {
         node = record {
-          fits = fits_in_form card.form (is.form place) card.fields roomy holds.node.fits;
+          fits = fits_in_form cached.form (is.form place) cached.fields roomy holds.node.fits;
           number = holds.node.number;
           sector = rewritten.nodes_are place within
-              ∙ (ap (in_form (is.form place)) holds.node.sector ∙ node_in_form (is.form place) card.form card.fields holds.node.fits);
+              ∙ (ap (in_form (is.form place)) holds.node.sector ∙ node_in_form (is.form place) cached.form cached.fields holds.node.fits);
           each_run = holds.node.each_run;
           run_count = holds.node.run_count;
-          run_sectors = run_sectors-kept old new card.fields.run_sectors card.runs (of_runs old new card same) holds.node.run_sectors;
+          run_sectors = run_sectors-kept old new cached.fields.run_sectors cached.runs (of_runs old new cached same) holds.node.run_sectors;
           runs = holds.node.runs;
           blocks = holds.node.blocks;
         };
-        content = held_in_form new card.fields.kind (is.form place) card (content-held old new card same card.fields.kind holds.content);
+        content = held_in_form new cached.fields.kind (is.form place) cached (content-held old new cached same cached.fields.kind holds.content);
       }
 
   held_now : (place : ℕ) → place < nodes → HoldsPlace new place (get_or now place None)
-  held_now place within = subst (HoldsPlace new place) (sym (all_at is.form cards place))
-      (held_at place (get_or cards place None) within refl (laid.laid.held place within))
+  held_now place within = subst (HoldsPlace new place) (sym (all_at is.form cached_nodes place))
+      (held_at place (get_or cached_nodes place None) within refl (laid.laid.held place within))
 
-  some_is : (form : Form) (card : Option CachedNode) (one : CachedNode) → place_in form card ≡ Some one → (it : CachedNode) × (card ≡ Some it) × (one ≡ in_its_form form it)
+  some_is : (form : Form) (cached : Option CachedNode) (one : CachedNode) → place_in form cached ≡ Some one → (it : CachedNode) × (cached ≡ Some it) × (one ≡ in_its_form form it)
   some_is form None one e = absurd (cc)
   some_is form (Some it) one e = (it, refl, cc)
 
   apart_now : AreNumbered now
   apart_now i j a b off at_i at_j =
-      let one = some_is (is.form i) (get_or cards i None) a (sym (all_at is.form cards i) ∙ at_i) in
-      let two = some_is (is.form j) (get_or cards j None) b (sym (all_at is.form cards j) ∙ at_j) in
+      let one = some_is (is.form i) (get_or cached_nodes i None) a (sym (all_at is.form cached_nodes i) ∙ at_i) in
+      let two = some_is (is.form j) (get_or cached_nodes j None) b (sym (all_at is.form cached_nodes j) ∙ at_j) in
       λ same. laid.laid.apart i j one.0 two.0 off one.1 two.1
       (sym (ap (λ (c : CachedNode). c.fields.number) one.2) ∙ (same ∙ ap (λ (c : CachedNode). c.fields.number) two.2))
 
   laid_now : IsLaid is size nodes new now
   laid_now = record {
     laid = record {
-      count = length_from is.form 0 cards ∙ laid.laid.count;
+      count = length_from is.form 0 cached_nodes ∙ laid.laid.count;
       held = held_now;
       apart = apart_now;
-      marks = λ n. named_from n is.form 0 cards ∙ (laid.laid.marks n ∙ sym (marks n));
+      marks = λ n. named_from n is.form 0 cached_nodes ∙ (laid.laid.marks n ∙ sym (marks n));
       behind = λ n some. laid.laid.behind n (omega (arith, some, marks n));
       once = λ n. omega (arith, marks n, laid.laid.once n);
     };
-    forms = λ place card there.
-        let one = some_is (is.form place) (get_or cards place None) card (sym (all_at is.form cards place) ∙ there) in
+    forms = λ place cached there.
+        let one = some_is (is.form place) (get_or cached_nodes place None) cached (sym (all_at is.form cached_nodes place) ∙ there) in
         ap (λ (c : CachedNode). c.form) one.2;
     within = λ n past. marks n ∙ laid.within n (omega (arith, past, rewritten.data_end));
     spare = rewritten.spare;
   }
 
-  tree_now : tree_of new now ≡ tree_of old cards
-  tree_now = tree_from new is.form 0 cards
-      ∙ tree-kept old new cards (λ i card there. node-kept old new card (λ n some. kept i n (rw there some)))
+  tree_now : tree_of new now ≡ tree_of old cached_nodes
+  tree_now = tree_from new is.form 0 cached_nodes
+      ∙ tree-kept old new cached_nodes (λ i cached there. node-kept old new cached (λ n some. kept i n (rw there some)))
 
 before_later : (a b : ℕ) (tree : Tree) → a ≤ b → IsBefore a tree → IsBefore b tree
 before_later a b tree later before = record {
@@ -201,10 +201,10 @@ before_later a b tree later before = record {
 
 pub rewritten_stands : RewrittenStands
 rewritten_stands was is size nodes run later old new tree stands no_less counted rewritten =
-    let cards = cards_in nodes old in
+    let cached_nodes = cached_nodes_in nodes old in
     let below = room size nodes stands.sized in
-    let laid = laid_now was is size nodes old new cards stands.laid below rewritten.others in
-    let back : cards_in nodes new ≡ cards_from is.form 0 cards = cards-back new nodes (cards_from is.form 0 cards) laid.laid.count laid.laid.held in
+    let laid = laid_now was is size nodes old new cached_nodes stands.laid below rewritten.others in
+    let back : cached_nodes_in nodes new ≡ cached_nodes_from is.form 0 cached_nodes = cached_nodes-back new nodes (cached_nodes_from is.form 0 cached_nodes) laid.laid.count laid.laid.held in
     record {
       sized = stands.sized;
       region = record { behind = omega (arith, stands.region.behind, rewritten.others.data_end); within = omega (arith, stands.region.within, rewritten.others.data_end) };
@@ -212,41 +212,41 @@ rewritten_stands was is size nodes run later old new tree stands no_less counted
       first = rewritten.first;
       laid = subst (IsLaid is size nodes new) (sym back) laid;
       tree_is = stands.tree_is
-          ∙ (sym (tree_now was is size nodes old new cards stands.laid below rewritten.others) ∙ ap (tree_of new) (sym back));
+          ∙ (sym (tree_now was is size nodes old new cached_nodes stands.laid below rewritten.others) ∙ ap (tree_of new) (sym back));
       well_formed = subst (λ (limits : Limits). ∥ IsWellFormed limits tree ∥₁) (sym rewritten.limits) stands.well_formed;
       before = before_later (stamp (run + 1) 0) (stamp (later + 1) 0) tree (omega (arith, no_less)) stands.before;
     }
 
-stays_at : (version : Version) (image : Image) (place : ℕ) (card : Option CachedNode) → ((one : CachedNode) → card ≡ Some one → one.form ≡ version.form place) → HoldsPlace image place card
+stays_at : (version : Version) (image : Image) (place : ℕ) (cached : Option CachedNode) → ((one : CachedNode) → cached ≡ Some one → one.form ≡ version.form place) → HoldsPlace image place cached
     → in_form (version.form place) (image (node_sector place)) ≡ image (node_sector place)
 stays_at version image place None forms holds = ap (in_form (version.form place)) holds ∙ (free_in_form (version.form place) ∙ sym holds)
-stays_at version image place (Some card) forms holds =
+stays_at version image place (Some cached) forms holds =
     ap (in_form (version.form place)) holds.node.sector
-    ∙ (node_in_form (version.form place) card.form card.fields holds.node.fits
-    ∙ (ap (λ (form : Form). inode_sector form card.fields) (sym (forms card refl)) ∙ sym holds.node.sector))
+    ∙ (node_in_form (version.form place) cached.form cached.fields holds.node.fits
+    ∙ (ap (λ (form : Form). inode_sector form cached.fields) (sym (forms cached refl)) ∙ sym holds.node.sector))
 
 pub form_stays : FormStays
 form_stays version size nodes run image tree place stands within =
-    stays_at version image place (get_or (cards_in nodes image) place None) (λ one there. stands.laid.forms place one there) (stands.laid.laid.held place within)
+    stays_at version image place (get_or (cached_nodes_in nodes image) place None) (λ one there. stands.laid.forms place one there) (stands.laid.laid.held place within)
 
 -- Cached nodes in form two
 
-second_from : (place : ℕ) (cards : List (Option CachedNode)) → cards_from (λ i. Two) place cards ≡ all_second cards
+second_from : (place : ℕ) (cached_nodes : List (Option CachedNode)) → cached_nodes_from (λ i. Two) place cached_nodes ≡ all_second cached_nodes
 second_from place [] = refl
-second_from place (None ∷ cards) = ap (λ (l : List (Option CachedNode)). None ∷ l) (second_from (suc place) cards)
-second_from place (Some card ∷ cards) = ap (λ (l : List (Option CachedNode)). Some (in_its_form Two card) ∷ l) (second_from (suc place) cards)
+second_from place (None ∷ cached_nodes) = ap (λ (l : List (Option CachedNode)). None ∷ l) (second_from (suc place) cached_nodes)
+second_from place (Some cached ∷ cached_nodes) = ap (λ (l : List (Option CachedNode)). Some (in_its_form Two cached) ∷ l) (second_from (suc place) cached_nodes)
 
-second_of : (form : ℕ → Form) (place : ℕ) (cards : List (Option CachedNode)) → all_second (cards_from form place cards) ≡ all_second cards
+second_of : (form : ℕ → Form) (place : ℕ) (cached_nodes : List (Option CachedNode)) → all_second (cached_nodes_from form place cached_nodes) ≡ all_second cached_nodes
 second_of form place [] = refl
-second_of form place (None ∷ cards) = ap (λ (l : List (Option CachedNode)). None ∷ l) (second_of form (suc place) cards)
-second_of form place (Some card ∷ cards) = ap (λ (l : List (Option CachedNode)). Some (in_its_form Two card) ∷ l) (second_of form (suc place) cards)
+second_of form place (None ∷ cached_nodes) = ap (λ (l : List (Option CachedNode)). None ∷ l) (second_of form (suc place) cached_nodes)
+second_of form place (Some cached ∷ cached_nodes) = ap (λ (l : List (Option CachedNode)). Some (in_its_form Two cached) ∷ l) (second_of form (suc place) cached_nodes)
 
-pub second_at : (cards : List (Option CachedNode)) (i : ℕ) → get_or (all_second cards) i None ≡ in_second (get_or cards i None)
+pub second_at : (cached_nodes : List (Option CachedNode)) (i : ℕ) → get_or (all_second cached_nodes) i None ≡ in_second (get_or cached_nodes i None)
 second_at [] i = refl
-second_at (card ∷ cards) zero = refl
-second_at (card ∷ cards) (suc i) = second_at cards i
+second_at (cached ∷ cached_nodes) zero = refl
+second_at (cached ∷ cached_nodes) (suc i) = second_at cached_nodes i
 
-module _ (version : Version) (size nodes : ℕ) (image : Image) (cards : List (Option CachedNode)) (laid : IsLaid version size nodes image cards)
+module _ (version : Version) (size nodes : ℕ) (image : Image) (cached_nodes : List (Option CachedNode)) (laid : IsLaid version size nodes image cached_nodes)
     (below : 148 + nodes ≤ size) (marking : version.marking ≡ InSectors) (ends : version.data_end size ≡ size) where
   pub then_second : AreRewritten version (current_version no_seats) size nodes image (second_image nodes image)
   then_second = record {
@@ -259,69 +259,69 @@ module _ (version : Version) (size nodes : ℕ) (image : Image) (cards : List (O
     region = λ n low high. rw (le-leb 148 n (omega (arith, low)), le-leb (148 + nodes) n low) refl;
   }
 
-  laid_second : IsLaidSecond size nodes image cards
+  laid_second : IsLaidSecond size nodes image cached_nodes
   laid_second = record {
-    laid = subst (IsLaid (current_version no_seats) size nodes (second_image nodes image)) (second_from 0 cards)
-        (laid_now version (current_version no_seats) size nodes image (second_image nodes image) cards laid below then_second);
-    tree = ap (tree_of (second_image nodes image)) (sym (second_from 0 cards))
-        ∙ tree_now version (current_version no_seats) size nodes image (second_image nodes image) cards laid below then_second;
-    shown = ap (tree_of image) (sym (second_from 0 cards)) ∙ tree_from image (λ i. Two) 0 cards;
+    laid = subst (IsLaid (current_version no_seats) size nodes (second_image nodes image)) (second_from 0 cached_nodes)
+        (laid_now version (current_version no_seats) size nodes image (second_image nodes image) cached_nodes laid below then_second);
+    tree = ap (tree_of (second_image nodes image)) (sym (second_from 0 cached_nodes))
+        ∙ tree_now version (current_version no_seats) size nodes image (second_image nodes image) cached_nodes laid below then_second;
+    shown = ap (tree_of image) (sym (second_from 0 cached_nodes)) ∙ tree_from image (λ i. Two) 0 cached_nodes;
   }
 
 pub laid_as_second : LaidSecond
-laid_as_second version size nodes image cards marking ends laid below = laid_second version size nodes image cards laid below marking ends
+laid_as_second version size nodes image cached_nodes marking ends laid below = laid_second version size nodes image cached_nodes laid below marking ends
 
-known_content : (of : NodeKind) (card : CachedNode) → HasContent of card → HasContent of (in_its_form Two card)
-known_content kind.File card has = has
-known_content kind.Directory card has = record { count = has.count; names = has.names; stamped = has.stamped }
+known_content : (of : NodeKind) (cached : CachedNode) → HasContent of cached → HasContent of (in_its_form Two cached)
+known_content kind.File cached has = has
+known_content kind.Directory cached has = record { count = has.count; names = has.names; stamped = has.stamped }
 
-known_place : (card : Option CachedNode) → IsNodePlace card → IsNodePlace (in_second card)
+known_place : (cached : Option CachedNode) → IsNodePlace cached → IsNodePlace (in_second cached)
 known_place None is = is
-known_place (Some card) is = record {
-  fits = fits_in_form card.form Two card.fields (inr refl) is.fits;
+known_place (Some cached) is = record {
+  fits = fits_in_form cached.form Two cached.fields (inr refl) is.fits;
   number = is.number;
   each_run = is.each_run;
   run_count = is.run_count;
   runs = is.runs;
   blocks = is.blocks;
-  content = known_content card.fields.kind card is.content;
+  content = known_content cached.fields.kind cached is.content;
 }
 
-some_second : (card : Option CachedNode) (one : CachedNode) → in_second card ≡ Some one → (it : CachedNode) × (card ≡ Some it) × (one ≡ in_its_form Two it)
+some_second : (cached : Option CachedNode) (one : CachedNode) → in_second cached ≡ Some one → (it : CachedNode) × (cached ≡ Some it) × (one ≡ in_its_form Two it)
 some_second None one e = absurd (cc)
 some_second (Some it) one e = (it, refl, cc)
 
-apart_second : (cards : List (Option CachedNode)) → AreNumbered cards
-    → AreNumbered (all_second cards)
-apart_second cards apart i j a b off at_i at_j =
-    let one = some_second (get_or cards i None) a (sym (second_at cards i) ∙ at_i) in
-    let two = some_second (get_or cards j None) b (sym (second_at cards j) ∙ at_j) in
+apart_second : (cached_nodes : List (Option CachedNode)) → AreNumbered cached_nodes
+    → AreNumbered (all_second cached_nodes)
+apart_second cached_nodes apart i j a b off at_i at_j =
+    let one = some_second (get_or cached_nodes i None) a (sym (second_at cached_nodes i) ∙ at_i) in
+    let two = some_second (get_or cached_nodes j None) b (sym (second_at cached_nodes j) ∙ at_j) in
     λ same. apart i j one.0 two.0 off one.1 two.1
     (sym (ap (λ (c : CachedNode). c.fields.number) one.2) ∙ (same ∙ ap (λ (c : CachedNode). c.fields.number) two.2))
 
 pub known_as_second : KnownSecond
-known_as_second nodes mark cards known = record {
-  count = ap length (sym (second_from 0 cards)) ∙ (length_from (λ i. Two) 0 cards ∙ known.count);
-  each = λ place within. subst IsNodePlace (sym (second_at cards place)) (known_place (get_or cards place None) (known.each place within));
-  apart = apart_second cards known.apart;
-  marks = λ n. ap (named n) (sym (second_from 0 cards)) ∙ (named_from n (λ i. Two) 0 cards ∙ known.marks n);
+known_as_second nodes mark cached_nodes known = record {
+  count = ap length (sym (second_from 0 cached_nodes)) ∙ (length_from (λ i. Two) 0 cached_nodes ∙ known.count);
+  each = λ place within. subst IsNodePlace (sym (second_at cached_nodes place)) (known_place (get_or cached_nodes place None) (known.each place within));
+  apart = apart_second cached_nodes known.apart;
+  marks = λ n. ap (named n) (sym (second_from 0 cached_nodes)) ∙ (named_from n (λ i. Two) 0 cached_nodes ∙ known.marks n);
   behind = known.behind;
   once = known.once;
 }
 
-pub rewritten_cards : RewrittenCards
-rewritten_cards was is size nodes run later old new tree stands rewritten =
-    let cards = cards_in nodes old in
+pub rewritten_cached_nodes : RewrittenCachedNodes
+rewritten_cached_nodes was is size nodes run later old new tree stands rewritten =
+    let cached_nodes = cached_nodes_in nodes old in
     let below = room size nodes stands.sized in
-    let laid = laid_now was is size nodes old new cards stands.laid below rewritten.others in
-    ap all_second (cards-back new nodes (cards_from is.form 0 cards) laid.laid.count laid.laid.held) ∙ second_of is.form 0 cards
+    let laid = laid_now was is size nodes old new cached_nodes stands.laid below rewritten.others in
+    ap all_second (cached_nodes-back new nodes (cached_nodes_from is.form 0 cached_nodes) laid.laid.count laid.laid.held) ∙ second_of is.form 0 cached_nodes
 
-second_same : (card : Option CachedNode) → ((one : CachedNode) → card ≡ Some one → one.form ≡ Two) → in_second card ≡ card
+second_same : (cached : Option CachedNode) → ((one : CachedNode) → cached ≡ Some one → one.form ≡ Two) → in_second cached ≡ cached
 second_same None forms = refl
-second_same (Some card) forms = ap (λ (form : Form). Some (in_its_form form card)) (sym (forms card refl))
+second_same (Some cached) forms = ap (λ (form : Form). Some (in_its_form form cached)) (sym (forms cached refl))
 
 pub current_second : CurrentSecond
 current_second [] forms = refl
-current_second (card ∷ cards) forms =
+current_second (cached ∷ cached_nodes) forms =
     ap₂ (λ (one : Option CachedNode) (l : List (Option CachedNode)). one ∷ l)
-    (second_same card (λ one there. forms 0 one there)) (current_second cards (λ place one there. forms (suc place) one there))
+    (second_same cached (λ one there. forms 0 one there)) (current_second cached_nodes (λ place one there. forms (suc place) one there))

@@ -3,8 +3,8 @@ use Rattle.std.proofs.Common.{◌≡◌, ◌≤◌, ◌<◌, ◌+◌, ◌-◌, �
 use Rattle.disk.specs.Calls as calls
 use Rattle.disk.specs.Calls.{zero_sector}
 use Rattle.model_tree.specs.Seats.Seats.{Seat, Seats, AreOfRuns, has_seat, no_seats}
-use Rattle.seats.specs.Spelling as spelled
-use Rattle.seats.specs.Spelling.{ArePlaces, seat_sector, seats_sector}
+use Rattle.seats.specs.Encoding as encoded
+use Rattle.seats.specs.Encoding.{ArePlaces, seat_sector, seats_sector}
 use Rattle.layout.specs.Stands.{AreKept, MayHaveSeats, mark_held, spare_by, version_by}
 use Rattle.layout.specs.declared.versions.VersionNumber.{VersionNumber}
 use Rattle.layout.specs.declared.versions.VersionNumber.TheVariants as numbers
@@ -12,7 +12,7 @@ use Rattle.layout.specs.declared.versions.VersionNumber.TheVariants as numbers
 -- Free places
 
 free_sector : (k : ℕ) → seat_sector k None ≡ zero_sector
-unfolding spelled.seat_sector calls.zero_sector
+unfolding encoded.seat_sector calls.zero_sector
 free_sector k = refl
 
 free_at : (i : ℕ) → get_or no_seats i None ≡ None

@@ -3,8 +3,8 @@ use Rattle.std.specs.Prelude.{◌≡◌, ◌≢◌, ◌<◌, ℕ, List, Option, 
 use Rattle.disk.specs.Moments.{Image}
 use Rattle.model_tree.specs.Trees.Keyed.{at}
 use Rattle.model_tree.specs.Trees.Tree.{Tree}
-use Rattle.layout.specs.CachedNodes.{CachedNode, tree_of, card_in, cards_in, node_sector, node_of}
-use Rattle.layout.specs.Laid.{AreLaid, HoldsPlace, HoldsCard}
+use Rattle.layout.specs.CachedNodes.{CachedNode, tree_of, cached_in, cached_nodes_in, node_sector, node_of}
+use Rattle.layout.specs.Laid.{AreLaid, HoldsPlace, HoldsCached}
 use Rattle.layout.specs.Marks.{namings_of}
 use Rattle.layout.specs.Stands.{Version, IsLaid, TreeStands, Kept, StandsAs}
 
@@ -12,24 +12,24 @@ use Rattle.layout.specs.Stands.{Version, IsLaid, TreeStands, Kept, StandsAs}
 -- one that is read, and cached nodes that are laid are those that are read: a search for a tree
 -- need only look at these.
 
-abbrev pub CardReadsBack : Type 0
-CardReadsBack =
-    (image : Image) (place : ℕ) (card : Option CachedNode) → HoldsPlace image place card
-    → card_in image place ≡ card
+abbrev pub CachedReadsBack : Type 0
+CachedReadsBack =
+    (image : Image) (place : ℕ) (cached : Option CachedNode) → HoldsPlace image place cached
+    → cached_in image place ≡ cached
 
-abbrev pub CardsReadBack : Type 0
-CardsReadBack = (image : Image) (nodes : ℕ) (cards : List (Option CachedNode))
-    → length cards ≡ nodes
-    → ((place : ℕ) → place < nodes → HoldsPlace image place (slice_index_or cards place None))
-    → cards_in nodes image ≡ cards
+abbrev pub CachedNodesReadBack : Type 0
+CachedNodesReadBack = (image : Image) (nodes : ℕ) (cached_nodes : List (Option CachedNode))
+    → length cached_nodes ≡ nodes
+    → ((place : ℕ) → place < nodes → HoldsPlace image place (slice_index_or cached_nodes place None))
+    → cached_nodes_in nodes image ≡ cached_nodes
 
-abbrev pub OnlyCard : Type 0
-OnlyCard = (image : Image) (place : ℕ) (card : Option CachedNode) → HoldsPlace image place card
-    → HoldsPlace image place (card_in image place)
+abbrev pub OnlyCached : Type 0
+OnlyCached = (image : Image) (place : ℕ) (cached : Option CachedNode) → HoldsPlace image place cached
+    → HoldsPlace image place (cached_in image place)
 
-abbrev pub OnlyCards : Type 0
-OnlyCards = (version : Version) (size nodes : ℕ) (image : Image) (cards : List (Option CachedNode))
-    → IsLaid version size nodes image cards → IsLaid version size nodes image (cards_in nodes image)
+abbrev pub OnlyCachedNodes : Type 0
+OnlyCachedNodes = (version : Version) (size nodes : ℕ) (image : Image) (cached_nodes : List (Option CachedNode))
+    → IsLaid version size nodes image cached_nodes → IsLaid version size nodes image (cached_nodes_in nodes image)
 
 -- One image represents one tree, of one size and one restart count, whatever the version
 pub record SameVolume (size other_size nodes other_nodes run other_run : ℕ)
@@ -67,32 +67,32 @@ OneProof = (version : Version) (size nodes : ℕ) (image : Image) (run : ℕ) (t
 -- If what a cached node names is kept, the cached node is still held, and is the same node
 
 abbrev pub AreKept : Image → Image → Option CachedNode → Type 0
-AreKept old new card = (n : ℕ) → 0 < namings_of n card → new n ≡ old n
+AreKept old new cached = (n : ℕ) → 0 < namings_of n cached → new n ≡ old n
 
-pub record KeepsCard (old new : Image) (place : ℕ) (card : CachedNode) : Type 0 where
-  pub held : HoldsCard old place card → HoldsCard new place card
-  pub node : node_of new card ≡ node_of old card
+pub record KeepsCached (old new : Image) (place : ℕ) (cached : CachedNode) : Type 0 where
+  pub held : HoldsCached old place cached → HoldsCached new place cached
+  pub node : node_of new cached ≡ node_of old cached
 
 abbrev pub Frame : Type 0
 Frame =
-    (old new : Image) (place : ℕ) (card : CachedNode)
+    (old new : Image) (place : ℕ) (cached : CachedNode)
     → new (node_sector place) ≡ old (node_sector place)
-    → AreKept old new (Some card) → KeepsCard old new place card
+    → AreKept old new (Some cached) → KeepsCached old new place cached
 
 -- The node of the tree with a number is that of the cached node with this number, and there is none
 -- if no cached node has it
-pub record FindsCached (image : Image) (cards : List (Option CachedNode)) (number : ℕ)
+pub record FindsCached (image : Image) (cached_nodes : List (Option CachedNode)) (number : ℕ)
     : Type 0 where
-  pub found : (place : ℕ) (card : CachedNode) → slice_index_or cards place None ≡ Some card
-      → card.fields.number ≡ number
-      → at number (tree_of image cards) ≡ Some (node_of image card)
+  pub found : (place : ℕ) (cached : CachedNode) → slice_index_or cached_nodes place None ≡ Some cached
+      → cached.fields.number ≡ number
+      → at number (tree_of image cached_nodes) ≡ Some (node_of image cached)
   pub none :
-      ((place : ℕ) (card : CachedNode) → slice_index_or cards place None ≡ Some card
-      → card.fields.number ≢ number)
-      → at number (tree_of image cards) ≡ None
+      ((place : ℕ) (cached : CachedNode) → slice_index_or cached_nodes place None ≡ Some cached
+      → cached.fields.number ≢ number)
+      → at number (tree_of image cached_nodes) ≡ None
 
 abbrev pub EachAnswer : Type 0
 EachAnswer =
-    (nodes : ℕ) (image : Image) (mark : ℕ → ℕ) (cards : List (Option CachedNode))
-    → AreLaid nodes image mark cards
-    → (number : ℕ) → FindsCached image cards number
+    (nodes : ℕ) (image : Image) (mark : ℕ → ℕ) (cached_nodes : List (Option CachedNode))
+    → AreLaid nodes image mark cached_nodes
+    → (number : ℕ) → FindsCached image cached_nodes number

@@ -71,8 +71,8 @@ abbrev pub names_from : Image → NodeKind → (size : ℕ) → List (Option ℕ
 names_from image kind.File size blocks = []
 names_from image kind.Directory size blocks = names_through image size blocks
 
-abbrev pub card_by : Image → Form → Fields → List Run → List (Option ℕ) → CachedNode
-card_by image form fields runs blocks = record {
+abbrev pub cached_by : Image → Form → Fields → List Run → List (Option ℕ) → CachedNode
+cached_by image form fields runs blocks = record {
   form = form;
   fields = fields;
   runs = runs;
@@ -80,30 +80,30 @@ card_by image form fields runs blocks = record {
   names = names_from image fields.kind fields.size blocks;
 }
 
-abbrev pub card_with : Image → Form → Fields → List Run → CachedNode
-card_with image form fields runs =
-    card_by image form fields runs (blocks_by runs (block_count fields))
+abbrev pub cached_with : Image → Form → Fields → List Run → CachedNode
+cached_with image form fields runs =
+    cached_by image form fields runs (blocks_by runs (block_count fields))
 
-abbrev pub card_from : Image → Form → Fields → CachedNode
-card_from image form fields =
-    card_with image form fields (runs_through image fields.runs fields.run_sectors)
+abbrev pub cached_from : Image → Form → Fields → CachedNode
+cached_from image form fields =
+    cached_with image form fields (runs_through image fields.runs fields.run_sectors)
 
 -- none if the place's sector begins with 0
-unfoldable pub card_in : Image → (place : ℕ) → Option CachedNode
-card_in image place =
+unfoldable pub cached_in : Image → (place : ℕ) → Option CachedNode
+cached_in image place =
     if slice_index (image (node_sector place)) 0 == 0 then None
-    else Some (card_from image (form_in (image (node_sector place)))
+    else Some (cached_from image (form_in (image (node_sector place)))
     (fields_in (image (node_sector place))))
 
 -- the cached nodes of a table with `nodes` places
-unfoldable pub cards_in : (nodes : ℕ) → Image → List (Option CachedNode)
-cards_in nodes image = map (card_in image) (range_with_len 0 nodes)
+unfoldable pub cached_nodes_in : (nodes : ℕ) → Image → List (Option CachedNode)
+cached_nodes_in nodes image = map (cached_in image) (range_with_len 0 nodes)
 
 -- The tree
 
 abbrev pub content_of : Image → NodeKind → CachedNode → Content
-content_of image kind.File card = File (bytes_in image card.blocks card.fields.size)
-content_of image kind.Directory card = Directory (by_stamp card.names)
+content_of image kind.File cached = File (bytes_in image cached.blocks cached.fields.size)
+content_of image kind.Directory cached = Directory (by_stamp cached.names)
 
 -- a node that shows these fields
 abbrev pub node_with : Fields → Content → Node
@@ -117,14 +117,14 @@ node_with fields content = record {
 }
 
 unfoldable pub node_of : Image → CachedNode → Node
-node_of image card = node_with card.fields (content_of image card.fields.kind card)
+node_of image cached = node_with cached.fields (content_of image cached.fields.kind cached)
 
 -- the nodes of the cached nodes, by their numbers
 abbrev pub tree_of : Image → List (Option CachedNode) → Tree
 tree_of image [] = []
-tree_of image (None ∷ cards) = tree_of image cards
-tree_of image (Some card ∷ cards) =
-    with (tree_of image cards) card.fields.number (node_of image card)
+tree_of image (None ∷ cached_nodes) = tree_of image cached_nodes
+tree_of image (Some cached ∷ cached_nodes) =
+    with (tree_of image cached_nodes) cached.fields.number (node_of image cached)
 
 abbrev pub tree_in : (nodes : ℕ) → Image → Tree
-tree_in nodes image = tree_of image (cards_in nodes image)
+tree_in nodes image = tree_of image (cached_nodes_in nodes image)

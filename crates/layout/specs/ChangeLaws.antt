@@ -9,16 +9,16 @@ use Rattle.layout.specs.Marks.{namings_of}
 
 -- the tree with a cached node, or without it if the cached node is gone
 abbrev pub tree_with : Image → Tree → (was is : Option CachedNode) → Tree
-tree_with image tree was (Some card) = with tree card.fields.number (node_of image card)
+tree_with image tree was (Some cached) = with tree cached.fields.number (node_of image cached)
 tree_with image tree None None = tree
-tree_with image tree (Some card) None = without tree card.fields.number
+tree_with image tree (Some cached) None = without tree cached.fields.number
 
 -- no other cached node has the number of what is there
 abbrev pub IsOwnNumber : List (Option CachedNode) → (place : ℕ) → (is : Option CachedNode) → Type 0
-IsOwnNumber cards place None = Unit {0}
-IsOwnNumber cards place (Some card) =
-    (i : ℕ) (other : CachedNode) → i ≢ place → slice_index_or cards i None ≡ Some other
-    → other.fields.number ≢ card.fields.number
+IsOwnNumber cached_nodes place None = Unit {0}
+IsOwnNumber cached_nodes place (Some cached) =
+    (i : ℕ) (other : CachedNode) → i ≢ place → slice_index_or cached_nodes i None ≡ Some other
+    → other.fields.number ≢ cached.fields.number
 
 -- a node keeps its number
 abbrev pub IsSameNumber : (was is : Option CachedNode) → Type 0
@@ -38,7 +38,7 @@ pub record ChangesOwn (nodes : ℕ) (old new : Image) (marked mark : ℕ → ℕ
   pub behind : (n : ℕ) → 0 < mark n → 148 + nodes ≤ n
 
 -- The cached node at a place becomes another
-pub record ChangesCard (nodes : ℕ) (old new : Image) (marked mark : ℕ → ℕ) (place : ℕ)
+pub record ChangesCached (nodes : ℕ) (old new : Image) (marked mark : ℕ → ℕ) (place : ℕ)
     (was is : Option CachedNode) : Type 0 where
   pub held : HoldsPlace new place is
   pub number : IsSameNumber was is
@@ -47,18 +47,18 @@ pub record ChangesCard (nodes : ℕ) (old new : Image) (marked mark : ℕ → �
 -- Then the cached nodes are laid with this one changed, and the tree is the one with its node
 -- changed
 pub record AreChanged (nodes : ℕ) (old new : Image) (mark : ℕ → ℕ)
-    (cards : List (Option CachedNode))
+    (cached_nodes : List (Option CachedNode))
     (place : ℕ)
     (is : Option CachedNode) : Type 0 where
-  pub laid : AreLaid nodes new mark (set cards place is)
-  pub tree_is : tree_of new (set cards place is)
-      ≡ tree_with new (tree_of old cards) (slice_index_or cards place None) is
+  pub laid : AreLaid nodes new mark (set cached_nodes place is)
+  pub tree_is : tree_of new (set cached_nodes place is)
+      ≡ tree_with new (tree_of old cached_nodes) (slice_index_or cached_nodes place None) is
 
 abbrev pub OneChange : Type 0
 OneChange =
-    (nodes : ℕ) (old new : Image) (marked mark : ℕ → ℕ) (cards : List (Option CachedNode))
+    (nodes : ℕ) (old new : Image) (marked mark : ℕ → ℕ) (cached_nodes : List (Option CachedNode))
     (place : ℕ)
     (is : Option CachedNode)
-    → place < nodes → AreLaid nodes old marked cards → IsOwnNumber cards place is
-    → ChangesCard nodes old new marked mark place (slice_index_or cards place None) is
-    → AreChanged nodes old new mark cards place is
+    → place < nodes → AreLaid nodes old marked cached_nodes → IsOwnNumber cached_nodes place is
+    → ChangesCached nodes old new marked mark place (slice_index_or cached_nodes place None) is
+    → AreChanged nodes old new mark cached_nodes place is

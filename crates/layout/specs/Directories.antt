@@ -3,9 +3,9 @@
 use Rattle.std.specs.Prelude.{◌≡◌, ◌≢◌, ◌<◌, ◌-◌, ◌/◌, ◌++◌, ℕ, List, [], ◌∷◌, Option, None, length, slice_index_or}
 use Rattle.disk.specs.Moments.{Image}
 use Rattle.directory.specs.Records.{Record, with_record, without_place, place_of, name_of, NamesStamped}
-use Rattle.directory.specs.Spelling.{directory_sector}
+use Rattle.directory.specs.Encoding.{directory_sector}
 use Rattle.layout.specs.CachedNodes.{content_at}
-use Rattle.layout.specs.Laid.{names_of_block, AreSpelled}
+use Rattle.layout.specs.Laid.{names_of_block, AreEncoded}
 
 -- the names of every block except these are the same
 abbrev pub ChangesBlocks : (old new : List Record) → (one other : ℕ) → Type 0
@@ -45,14 +45,14 @@ pub record RewritesBlocks (old new : Image) (was is : List (Option ℕ)) (names 
 abbrev pub Rewriting : Type 0
 Rewriting =
     (old new : Image) (was is : List (Option ℕ)) (before after : List Record) (one other : ℕ)
-    → AreSpelled old was before → ChangesBlocks before after one other
+    → AreEncoded old was before → ChangesBlocks before after one other
     → RewritesBlocks old new was is after one other
-    → AreSpelled new is after
+    → AreEncoded new is after
 
 -- no block of a directory is a hole
 abbrev pub NoHoles : Type 0
 NoHoles =
-    (image : Image) (blocks : List (Option ℕ)) (names : List Record) → AreSpelled image blocks names
+    (image : Image) (blocks : List (Option ℕ)) (names : List Record) → AreEncoded image blocks names
     → (i : ℕ) → i < length blocks → slice_index_or blocks i None ≢ None
 
 -- stamps remain distinct

@@ -48,7 +48,7 @@ pub record WritesBlock (old new : Image) (blocks : List (Option ℕ)) (block sec
 pub record CutsBlocks (old new : Image) (blocks : List (Option ℕ)) (count size : ℕ) : Type 0 where
   pub up : size ≤ 4096 * count
   pub down : 4096 * count < size + 4096
-  pub front : (i : ℕ) → i + 1 < count
+  pub prefix : (i : ℕ) → i + 1 < count
       → content_at new (slice_index_or blocks i None)
       ≡ content_at old (slice_index_or blocks i None)
   pub last : (i j : ℕ) → i + 1 ≡ count → j < 4096
@@ -70,9 +70,9 @@ Writing = (old new : Image) (blocks : List (Option ℕ)) (block sector from : �
     → (k : ℕ) → byte_at new blocks k ≡ over (byte_at old blocks) (4096 * block + from) part k
 
 abbrev pub WritingOn : Type 0
-WritingOn = (byte : ℕ → ℕ) (offset : ℕ) (front part : List ℕ) (k : ℕ)
-    → over (over byte offset front) (offset + length front) part k
-    ≡ over byte offset (front ++ part) k
+WritingOn = (byte : ℕ → ℕ) (offset : ℕ) (prefix part : List ℕ) (k : ℕ)
+    → over (over byte offset prefix) (offset + length prefix) part k
+    ≡ over byte offset (prefix ++ part) k
 
 abbrev pub Cutting : Type 0
 Cutting =
@@ -121,9 +121,9 @@ GrownBytes =
 -- two consecutive parts are one part, and a write over bytes that have grown no further than the
 -- end of the write is just that write
 pub record WritesByParts (bytes : List ℕ) (offset : ℕ) : Type 0 where
-  pub on : (front part : List ℕ)
-      → overwritten (overwritten bytes offset front) (offset + length front) part
-      ≡ overwritten bytes offset (front ++ part)
+  pub on : (prefix part : List ℕ)
+      → overwritten (overwritten bytes offset prefix) (offset + length prefix) part
+      ≡ overwritten bytes offset (prefix ++ part)
   pub grown : (part : List ℕ) (size : ℕ) → length bytes ≤ size
       → size ≤ max (length bytes) (offset + length part)
       → overwritten (resized bytes size) offset part ≡ overwritten bytes offset part

@@ -15,43 +15,43 @@ use Rattle.layout.specs.Laid.{AreLaid, AreNumbered}
 use Rattle.layout.specs.Marks.{named, namings_of}
 
 -- a directory's size is the number of its names
-pub record HasNames (card : CachedNode) : Type 0 where
-  pub count : length card.names ≡ card.fields.size
-  pub names : IsDirectory card.names
-  pub stamped : NamesStamped card.names
+pub record HasNames (cached : CachedNode) : Type 0 where
+  pub count : length cached.names ≡ cached.fields.size
+  pub names : IsDirectory cached.names
+  pub stamped : NamesStamped cached.names
 
 abbrev pub HasContent : NodeKind → CachedNode → Type 0
-HasContent kind.File card = card.names ≡ []
-HasContent kind.Directory card = HasNames card
+HasContent kind.File cached = cached.names ≡ []
+HasContent kind.Directory cached = HasNames cached
 
-pub record IsCard (card : CachedNode) : Type 0 where
-  pub fits : IsInode card.form card.fields
-  pub number : 0 < card.fields.number
-  pub each_run : AllByRecursion IsRun card.runs
-  pub run_count : length card.runs ≡ card.fields.runs
-  pub runs : AreRunsOf card.runs card.blocks
-  pub blocks : length card.blocks ≡ block_count card.fields
-  pub content : HasContent card.fields.kind card
+pub record IsCached (cached : CachedNode) : Type 0 where
+  pub fits : IsInode cached.form cached.fields
+  pub number : 0 < cached.fields.number
+  pub each_run : AllByRecursion IsRun cached.runs
+  pub run_count : length cached.runs ≡ cached.fields.runs
+  pub runs : AreRunsOf cached.runs cached.blocks
+  pub blocks : length cached.blocks ≡ block_count cached.fields
+  pub content : HasContent cached.fields.kind cached
 
 abbrev pub IsNodePlace : Option CachedNode → Type 0
 IsNodePlace None = Unit {0}
-IsNodePlace (Some card) = IsCard card
+IsNodePlace (Some cached) = IsCached cached
 
 -- the cached nodes of a table, and marks that are what they name
-pub record AreCards (nodes : ℕ) (mark : ℕ → ℕ) (cards : List (Option CachedNode)) : Type 0 where
-  pub count : length cards ≡ nodes
-  pub each : (place : ℕ) → place < nodes → IsNodePlace (slice_index_or cards place None)
-  pub apart : AreNumbered cards
-  pub marks : (n : ℕ) → named n cards ≡ mark n
+pub record AreCached (nodes : ℕ) (mark : ℕ → ℕ) (cached_nodes : List (Option CachedNode)) : Type 0 where
+  pub count : length cached_nodes ≡ nodes
+  pub each : (place : ℕ) → place < nodes → IsNodePlace (slice_index_or cached_nodes place None)
+  pub apart : AreNumbered cached_nodes
+  pub marks : (n : ℕ) → named n cached_nodes ≡ mark n
   pub behind : (n : ℕ) → 0 < mark n → 148 + nodes ≤ n
   pub once : (n : ℕ) → mark n ≤ 1
 
 -- cached nodes that are laid are so
-abbrev pub LaidAreCards : Type 0
-LaidAreCards =
-    (nodes : ℕ) (image : Image) (mark : ℕ → ℕ) (cards : List (Option CachedNode))
-    → AreLaid nodes image mark cards
-    → AreCards nodes mark cards
+abbrev pub LaidAreCachedNodes : Type 0
+LaidAreCachedNodes =
+    (nodes : ℕ) (image : Image) (mark : ℕ → ℕ) (cached_nodes : List (Option CachedNode))
+    → AreLaid nodes image mark cached_nodes
+    → AreCached nodes mark cached_nodes
 
 -- the marks follow the cached node that is now at a place, instead of the one that was there
 pub record MovesMarks (nodes : ℕ) (marked mark : ℕ → ℕ) (was is : Option CachedNode) : Type 0 where
@@ -60,10 +60,10 @@ pub record MovesMarks (nodes : ℕ) (marked mark : ℕ → ℕ) (was is : Option
   pub behind : (n : ℕ) → 0 < mark n → 148 + nodes ≤ n
 
 -- and if one of them changes along with the marks, they stay so
-abbrev pub OneCardChange : Type 0
-OneCardChange =
-    (nodes : ℕ) (marked mark : ℕ → ℕ) (cards : List (Option CachedNode)) (place : ℕ)
+abbrev pub OneCachedChange : Type 0
+OneCachedChange =
+    (nodes : ℕ) (marked mark : ℕ → ℕ) (cached_nodes : List (Option CachedNode)) (place : ℕ)
     (is : Option CachedNode)
-    → place < nodes → AreCards nodes marked cards → IsOwnNumber cards place is → IsNodePlace is
-    → MovesMarks nodes marked mark (slice_index_or cards place None) is
-    → AreCards nodes mark (set cards place is)
+    → place < nodes → AreCached nodes marked cached_nodes → IsOwnNumber cached_nodes place is → IsNodePlace is
+    → MovesMarks nodes marked mark (slice_index_or cached_nodes place None) is
+    → AreCached nodes mark (set cached_nodes place is)

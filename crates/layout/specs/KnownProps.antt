@@ -4,20 +4,20 @@ use Rattle.std.proofs.Props.{props}
 use Rattle.model_tree.specs.declared.node.NodeKind.{NodeKind}
 use Rattle.model_tree.specs.declared.node.NodeKind.TheVariants as kind
 use Rattle.layout.specs.CachedNodes.{CachedNode}
-use Rattle.layout.specs.Known.{HasContent, IsCard, IsNodePlace, AreCards}
+use Rattle.layout.specs.Known.{HasContent, IsCached, IsNodePlace, AreCached}
 use Rattle.layout.specs.LaidProps.{AreRunsOf-prop, IsInode-prop}
 
-HasContent-prop : (kind : NodeKind) (card : CachedNode) → IsProp (HasContent kind card)
-HasContent-prop kind.File card = Prim.hlevel props
-HasContent-prop kind.Directory card = Prim.hlevel props
+HasContent-prop : (kind : NodeKind) (cached : CachedNode) → IsProp (HasContent kind cached)
+HasContent-prop kind.File cached = Prim.hlevel props
+HasContent-prop kind.Directory cached = Prim.hlevel props
 
-pub IsCard-prop : (card : CachedNode) → IsProp (IsCard card)
-IsCard-prop card = Prim.hlevel (props, IsInode-prop, AreRunsOf-prop, HasContent-prop)
+pub IsCached-prop : (cached : CachedNode) → IsProp (IsCached cached)
+IsCached-prop cached = Prim.hlevel (props, IsInode-prop, AreRunsOf-prop, HasContent-prop)
 
-pub IsNodePlace-prop : (card : Option CachedNode) → IsProp (IsNodePlace card)
+pub IsNodePlace-prop : (cached : Option CachedNode) → IsProp (IsNodePlace cached)
 IsNodePlace-prop None = Prim.hlevel props
-IsNodePlace-prop (Some card) = IsCard-prop card
+IsNodePlace-prop (Some cached) = IsCached-prop cached
 
-pub AreCards-prop : (nodes : ℕ) (mark : ℕ → ℕ) (cards : List (Option CachedNode))
-    → IsProp (AreCards nodes mark cards)
-AreCards-prop nodes mark cards = Prim.hlevel (props, IsNodePlace-prop)
+pub AreCached-prop : (nodes : ℕ) (mark : ℕ → ℕ) (cached_nodes : List (Option CachedNode))
+    → IsProp (AreCached nodes mark cached_nodes)
+AreCached-prop nodes mark cached_nodes = Prim.hlevel (props, IsNodePlace-prop)

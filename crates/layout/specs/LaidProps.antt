@@ -25,32 +25,32 @@ AreRunsOf-prop runs blocks = Prim.hlevel (props, AreRising-prop)
 pub IsInode-prop : (form : Form) (fields : Fields) → IsProp (IsInode form fields)
 IsInode-prop form fields = Prim.hlevel props
 
-HoldsNode-prop : (image : Image) (place : ℕ) (card : CachedNode)
-    → IsProp (HoldsNode image place card)
-HoldsNode-prop image place card = Prim.hlevel (props, IsInode-prop, AreRunsOf-prop)
+HoldsNode-prop : (image : Image) (place : ℕ) (cached : CachedNode)
+    → IsProp (HoldsNode image place cached)
+HoldsNode-prop image place cached = Prim.hlevel (props, IsInode-prop, AreRunsOf-prop)
 
-HoldsContent-prop : (image : Image) (kind : NodeKind) (card : CachedNode)
-    → IsProp (HoldsContent image kind card)
-HoldsContent-prop image kind.File card = Prim.hlevel props
-HoldsContent-prop image kind.Directory card = Prim.hlevel props
+HoldsContent-prop : (image : Image) (kind : NodeKind) (cached : CachedNode)
+    → IsProp (HoldsContent image kind cached)
+HoldsContent-prop image kind.File cached = Prim.hlevel props
+HoldsContent-prop image kind.Directory cached = Prim.hlevel props
 
-HoldsPlace-prop : (image : Image) (place : ℕ) (card : Option CachedNode)
-    → IsProp (HoldsPlace image place card)
+HoldsPlace-prop : (image : Image) (place : ℕ) (cached : Option CachedNode)
+    → IsProp (HoldsPlace image place cached)
 HoldsPlace-prop image place None = Prim.hlevel props
-HoldsPlace-prop image place (Some card) = Prim.hlevel (props, HoldsNode-prop, HoldsContent-prop)
+HoldsPlace-prop image place (Some cached) = Prim.hlevel (props, HoldsNode-prop, HoldsContent-prop)
 
-pub AreLaid-prop : (nodes : ℕ) (image : Image) (mark : ℕ → ℕ) (cards : List (Option CachedNode))
-    → IsProp (AreLaid nodes image mark cards)
-AreLaid-prop nodes image mark cards = Prim.hlevel (props, HoldsPlace-prop)
+pub AreLaid-prop : (nodes : ℕ) (image : Image) (mark : ℕ → ℕ) (cached_nodes : List (Option CachedNode))
+    → IsProp (AreLaid nodes image mark cached_nodes)
+AreLaid-prop nodes image mark cached_nodes = Prim.hlevel (props, HoldsPlace-prop)
 
-pub HaveForms-prop : (version : Version) (cards : List (Option CachedNode))
-    → IsProp (HaveForms version cards)
-HaveForms-prop version cards = Prim.hlevel props
+pub HaveForms-prop : (version : Version) (cached_nodes : List (Option CachedNode))
+    → IsProp (HaveForms version cached_nodes)
+HaveForms-prop version cached_nodes = Prim.hlevel props
 
 pub IsLaid-prop : (version : Version) (size nodes : ℕ) (image : Image)
-    (cards : List (Option CachedNode))
-    → IsProp (IsLaid version size nodes image cards)
-IsLaid-prop version size nodes image cards = Prim.hlevel (props, AreLaid-prop, HaveForms-prop)
+    (cached_nodes : List (Option CachedNode))
+    → IsProp (IsLaid version size nodes image cached_nodes)
+IsLaid-prop version size nodes image cached_nodes = Prim.hlevel (props, AreLaid-prop, HaveForms-prop)
 
 Tree-set : IsSet Tree
 Tree-set = Prim.hlevel props

@@ -6,7 +6,7 @@ use Rattle.freemap.specs.Places.{Show, mark_of, bit_in}
 use Rattle.model_tree.specs.Trees.Charge.{charge}
 use Rattle.model_tree.specs.Trees.Keyed.{total}
 use Rattle.model_tree.specs.Trees.Tree.{Tree}
-use Rattle.layout.specs.CachedNodes.{CachedNode, cards_in, tree_of}
+use Rattle.layout.specs.CachedNodes.{CachedNode, cached_nodes_in, tree_of}
 use Rattle.layout.specs.Laid.{AreLaid}
 use Rattle.layout.specs.Marks.{once_if, mark_in, mark_by}
 use Rattle.layout.specs.declared.versions.Marking.TheVariants.{InSectors}
@@ -37,10 +37,10 @@ MarksLaid =
 -- if at most the bitmap sectors are written, and they show the set if they are to mark it, what was
 -- laid with the set in memory is laid
 pub record WritesMarks (version : Version) (size nodes : ℕ) (old new : Image) (places : List Bool)
-    (cards : List (Option CachedNode)) : Type 0 where
+    (cached_nodes : List (Option CachedNode)) : Type 0 where
   pub end_is : version.data_end size ≡ 148 + nodes + length places
-  pub laid : AreLaid nodes old (mark_by (148 + nodes) places) cards
-  pub forms : HaveForms version cards
+  pub laid : AreLaid nodes old (mark_by (148 + nodes) places) cached_nodes
+  pub forms : HaveForms version cached_nodes
   pub spare : (n : ℕ) → 100 ≤ n → n < 148 → old n ≡ version.spare n
   pub same : (n : ℕ) → 100 ≤ n → new n ≡ old n
   pub marked : version.marking ≡ InSectors → (i : ℕ)
@@ -49,23 +49,23 @@ pub record WritesMarks (version : Version) (size nodes : ℕ) (old new : Image) 
 abbrev pub LaysMarks : Type 0
 LaysMarks =
     (version : Version) (size nodes : ℕ) (old new : Image) (places : List Bool)
-    (cards : List (Option CachedNode))
-    → WritesMarks version size nodes old new places cards → IsLaid version size nodes new cards
+    (cached_nodes : List (Option CachedNode))
+    → WritesMarks version size nodes old new places cached_nodes → IsLaid version size nodes new cached_nodes
 
 -- Only kept sectors are seen: the superblock, and what comes after the commit record and the
 -- payload, up to the end of the data region
 pub record SeesSame (version : Version) (size nodes : ℕ) (old new : Image)
-    (cards : List (Option CachedNode)) : Type 0 where
-  pub laid : IsLaid version size nodes new cards
-  pub same_cards : cards_in nodes new ≡ cards_in nodes old
-  pub same_tree : tree_of new cards ≡ tree_of old cards
+    (cached_nodes : List (Option CachedNode)) : Type 0 where
+  pub laid : IsLaid version size nodes new cached_nodes
+  pub same_cached_nodes : cached_nodes_in nodes new ≡ cached_nodes_in nodes old
+  pub same_tree : tree_of new cached_nodes ≡ tree_of old cached_nodes
 
 abbrev pub KeptAlone : Type 0
 KeptAlone =
-    (version : Version) (size nodes : ℕ) (old new : Image) (cards : List (Option CachedNode))
-    → 148 + nodes ≤ version.data_end size → IsLaid version size nodes old cards
+    (version : Version) (size nodes : ℕ) (old new : Image) (cached_nodes : List (Option CachedNode))
+    → 148 + nodes ≤ version.data_end size → IsLaid version size nodes old cached_nodes
     → ((n : ℕ) → 98 ≤ n → n < version.data_end size → new n ≡ old n)
-    → SeesSame version size nodes old new cards
+    → SeesSame version size nodes old new cached_nodes
 
 -- so for images that are known only in these sectors it does not matter which one is meant
 abbrev pub StandsAlone : Type 0
@@ -78,6 +78,6 @@ StandsAlone = (version : Version) (size nodes : ℕ) (old new : Image) (run : �
 -- place is free
 abbrev pub FullIsCharged : Type 0
 FullIsCharged =
-    (nodes : ℕ) (image : Image) (mark : ℕ → ℕ) (cards : List (Option CachedNode)) (count : ℕ)
-    → AreLaid nodes image mark cards → ((i : ℕ) → i < count → mark (148 + nodes + i) ≡ 1)
-    → count ≤ total charge (tree_of image cards)
+    (nodes : ℕ) (image : Image) (mark : ℕ → ℕ) (cached_nodes : List (Option CachedNode)) (count : ℕ)
+    → AreLaid nodes image mark cached_nodes → ((i : ℕ) → i < count → mark (148 + nodes + i) ≡ 1)
+    → count ≤ total charge (tree_of image cached_nodes)

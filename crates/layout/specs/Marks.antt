@@ -21,11 +21,11 @@ times_set n (Some sector ∷ blocks) = once_if (n == sector) + times_set n block
 -- how often a node, and how often all of them, name it: as a run sector, or as a block
 unfoldable pub namings_of : (n : ℕ) → Option CachedNode → ℕ
 namings_of n None = 0
-namings_of n (Some card) = times n card.fields.run_sectors + times_set n card.blocks
+namings_of n (Some cached) = times n cached.fields.run_sectors + times_set n cached.blocks
 
 abbrev pub named : (n : ℕ) → List (Option CachedNode) → ℕ
 named n [] = 0
-named n (card ∷ cards) = namings_of n card + named n cards
+named n (cached ∷ cached_nodes) = namings_of n cached + named n cached_nodes
 
 -- The mark of a sector: 0 before the data region; from there on, the bit of its place in the two
 -- bitmap sectors or, for a set of places in memory, whether its place is used

@@ -5,12 +5,12 @@ use Rattle.disk.specs.Moments.{Image}
 use Rattle.inode.specs.declared.node.Form.{Form}
 use Rattle.inode.specs.declared.node.Form.TheVariants.{One, Two}
 use Rattle.inode.specs.Reading.{fields_in}
-use Rattle.inode.specs.Spelling.{inode_sector}
+use Rattle.inode.specs.Encoding.{inode_sector}
 use Rattle.model_tree.specs.Seats.Seats.{no_seats}
 use Rattle.model_tree.specs.Trees.Tree.{Tree}
 use Rattle.disk.specs.Calls.{zero_sector}
-use Rattle.layout.specs.CachedNodes.{CachedNode, node_sector, cards_in, tree_of}
-use Rattle.layout.specs.Known.{AreCards}
+use Rattle.layout.specs.CachedNodes.{CachedNode, node_sector, cached_nodes_in, tree_of}
+use Rattle.layout.specs.Known.{AreCached}
 use Rattle.layout.specs.declared.versions.Marking.TheVariants.{InSectors}
 use Rattle.layout.specs.Stands.{Version, HaveCurrentForms, IsLaid, TreeStands, current_version}
 use Rattle.layout.specs.Superblock.{superblock}
@@ -56,10 +56,10 @@ FormStays =
 -- The cached nodes of a volume as they are once each of its nodes has form two
 abbrev pub in_second : Option CachedNode → Option CachedNode
 in_second None = None
-in_second (Some card) = Some (record card { form = Two })
+in_second (Some cached) = Some (record cached { form = Two })
 
 abbrev pub all_second : List (Option CachedNode) → List (Option CachedNode)
-all_second cards = map in_second cards
+all_second cached_nodes = map in_second cached_nodes
 
 -- and its sectors
 abbrev pub second_image : (nodes : ℕ) → Image → Image
@@ -68,34 +68,34 @@ second_image nodes image n =
     else (if nat_le 100 n then zero_sector else image n)
 
 -- A volume that is laid is laid in form two as well, with the same tree
-pub record IsLaidSecond (size nodes : ℕ) (image : Image) (cards : List (Option CachedNode))
+pub record IsLaidSecond (size nodes : ℕ) (image : Image) (cached_nodes : List (Option CachedNode))
     : Type 0 where
   pub laid : IsLaid (current_version no_seats) size nodes (second_image nodes image)
-      (all_second cards)
-  pub tree : tree_of (second_image nodes image) (all_second cards) ≡ tree_of image cards
-  pub shown : tree_of image (all_second cards) ≡ tree_of image cards
+      (all_second cached_nodes)
+  pub tree : tree_of (second_image nodes image) (all_second cached_nodes) ≡ tree_of image cached_nodes
+  pub shown : tree_of image (all_second cached_nodes) ≡ tree_of image cached_nodes
 
 abbrev pub LaidSecond : Type 0
 LaidSecond =
-    (version : Version) (size nodes : ℕ) (image : Image) (cards : List (Option CachedNode))
+    (version : Version) (size nodes : ℕ) (image : Image) (cached_nodes : List (Option CachedNode))
     → version.marking ≡ InSectors → version.data_end size ≡ size
-    → IsLaid version size nodes image cards → 148 + nodes ≤ size
-    → IsLaidSecond size nodes image cards
+    → IsLaid version size nodes image cached_nodes → 148 + nodes ≤ size
+    → IsLaidSecond size nodes image cached_nodes
 
 -- so are cached nodes, whatever the sectors hold
 abbrev pub KnownSecond : Type 0
 KnownSecond =
-    (nodes : ℕ) (mark : ℕ → ℕ) (cards : List (Option CachedNode))
-    → AreCards nodes mark cards → AreCards nodes mark (all_second cards)
+    (nodes : ℕ) (mark : ℕ → ℕ) (cached_nodes : List (Option CachedNode))
+    → AreCached nodes mark cached_nodes → AreCached nodes mark (all_second cached_nodes)
 
 -- and a rewritten volume has the same cached nodes, except for their forms
-abbrev pub RewrittenCards : Type 0
-RewrittenCards =
+abbrev pub RewrittenCachedNodes : Type 0
+RewrittenCachedNodes =
     (was is : Version) (size nodes run later : ℕ) (old new : Image) (tree : Tree)
     → TreeStands was size nodes old run tree → IsRewritten was is size nodes later old new
-    → all_second (cards_in nodes new) ≡ all_second (cards_in nodes old)
+    → all_second (cached_nodes_in nodes new) ≡ all_second (cached_nodes_in nodes old)
 
 -- which are those of a volume in the current version
 abbrev pub CurrentSecond : Type 0
-CurrentSecond = (cards : List (Option CachedNode)) → HaveCurrentForms cards
-    → all_second cards ≡ cards
+CurrentSecond = (cached_nodes : List (Option CachedNode)) → HaveCurrentForms cached_nodes
+    → all_second cached_nodes ≡ cached_nodes

@@ -16,16 +16,16 @@ use Rattle.model_tree.specs.Trees.Stamp.{stamp}
 use Rattle.model_tree.specs.Trees.Tree.{Tree}
 use Rattle.model_tree.specs.Trees.WellFormed.{IsWellFormed, IsBefore}
 use Rattle.seats.specs.Reading.{seats_in}
-use Rattle.seats.specs.Spelling.{ArePlaces, seats_sector}
-use Rattle.layout.specs.CachedNodes.{CachedNode, cards_in, tree_in}
+use Rattle.seats.specs.Encoding.{ArePlaces, seats_sector}
+use Rattle.layout.specs.CachedNodes.{CachedNode, cached_nodes_in, tree_in}
 use Rattle.layout.specs.Laid.{AreLaid}
 use Rattle.layout.specs.Marks.{mark_in, named}
 use Rattle.layout.specs.Superblock.{superblock, is_size}
 
 -- how often each sector is marked: by the bitmap in two sectors, or by the nodes that name it
 abbrev pub marked_by : Marking → (nodes : ℕ) → Image → List (Option CachedNode) → (n : ℕ) → ℕ
-marked_by InSectors nodes image cards n = mark_in nodes image n
-marked_by AsNamed nodes image cards n = named n cards
+marked_by InSectors nodes image cached_nodes n = mark_in nodes image n
+marked_by AsNamed nodes image cached_nodes n = named n cached_nodes
 
 -- What versions of the layout differ in: the number in the superblock, the limits of a volume by
 -- its sectors and nodes, what marks used sectors, the sector at which the data region ends, the
@@ -131,22 +131,22 @@ pub record AreKept (run : ℕ) (seats : Seats) : Type 0 where
 
 -- each node has the form of its place
 abbrev pub HaveForms : Version → List (Option CachedNode) → Type 0
-HaveForms version cards =
-    (place : ℕ) (card : CachedNode) → slice_index_or cards place None ≡ Some card
-    → card.form ≡ version.form place
+HaveForms version cached_nodes =
+    (place : ℕ) (cached : CachedNode) → slice_index_or cached_nodes place None ≡ Some cached
+    → cached.form ≡ version.form place
 
 -- in the current version, whatever seats it keeps
 abbrev pub HaveCurrentForms : List (Option CachedNode) → Type 0
-HaveCurrentForms cards = HaveForms (current_version no_seats) cards
+HaveCurrentForms cached_nodes = HaveForms (current_version no_seats) cached_nodes
 
 -- The sectors from 98 on hold these cached nodes: what they name is marked, and nothing from the end
 -- of the data region on
 pub record IsLaid (version : Version) (size nodes : ℕ) (image : Image)
-    (cards : List (Option CachedNode)) : Type 0 where
-  pub laid : AreLaid nodes image (marked_by version.marking nodes image cards) cards
-  pub forms : HaveForms version cards
+    (cached_nodes : List (Option CachedNode)) : Type 0 where
+  pub laid : AreLaid nodes image (marked_by version.marking nodes image cached_nodes) cached_nodes
+  pub forms : HaveForms version cached_nodes
   pub within : (n : ℕ) → version.data_end size ≤ n
-      → marked_by version.marking nodes image cards n ≡ 0
+      → marked_by version.marking nodes image cached_nodes n ≡ 0
   pub spare : (n : ℕ) → 100 ≤ n → n < 148 → image n ≡ version.spare n
 
 -- the data region ends behind the node table, and within the volume
@@ -163,7 +163,7 @@ pub record TreeStands (version : Version) (size nodes : ℕ) (image : Image) (ru
   pub region : HasRegion version size nodes
   pub counted : run < 2 ^ 32
   pub first : image 0 ≡ superblock version.number size nodes run
-  pub laid : IsLaid version size nodes image (cards_in nodes image)
+  pub laid : IsLaid version size nodes image (cached_nodes_in nodes image)
   pub tree_is : tree ≡ tree_in nodes image
   pub well_formed : ∥ IsWellFormed (version.limits size nodes) tree ∥₁
   pub before : IsBefore (stamp (run + 1) 0) tree

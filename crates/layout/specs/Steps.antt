@@ -16,47 +16,47 @@ use Rattle.layout.specs.Marks.{once_if, times_set}
 -- The cached node `was` at a place becomes `is`, of the same number: the node's sectors are
 -- written, and only its own have changed
 pub record NodeSteps (nodes : ℕ) (old new : Image) (marked mark : ℕ → ℕ)
-    (cards : List (Option CachedNode))
+    (cached_nodes : List (Option CachedNode))
     (place : ℕ)
     (was is : CachedNode) : Type 0 where
   pub within : place < nodes
-  pub there : slice_index_or cards place None ≡ Some was
+  pub there : slice_index_or cached_nodes place None ≡ Some was
   pub number : is.fields.number ≡ was.fields.number
-  pub laid : AreLaid nodes old marked cards
+  pub laid : AreLaid nodes old marked cached_nodes
   pub node : HoldsNode new place is
   pub own : ChangesOwn nodes old new marked mark place (Some was) (Some is)
 
 -- Then the cached nodes are laid, and the tree is this one
-pub record LaysTree (nodes : ℕ) (new : Image) (mark : ℕ → ℕ) (cards : List (Option CachedNode))
+pub record LaysTree (nodes : ℕ) (new : Image) (mark : ℕ → ℕ) (cached_nodes : List (Option CachedNode))
     (place : ℕ)
     (is : CachedNode)
     (tree : Tree) : Type 0 where
-  pub laid : AreLaid nodes new mark (set cards place (Some is))
-  pub tree_is : tree_of new (set cards place (Some is)) ≡ tree
+  pub laid : AreLaid nodes new mark (set cached_nodes place (Some is))
+  pub tree_is : tree_of new (set cached_nodes place (Some is)) ≡ tree
 
 -- a file gets these bytes
 abbrev pub FileStep : Type 0
 FileStep =
-    (nodes : ℕ) (old new : Image) (marked mark : ℕ → ℕ) (cards : List (Option CachedNode))
+    (nodes : ℕ) (old new : Image) (marked mark : ℕ → ℕ) (cached_nodes : List (Option CachedNode))
     (place : ℕ)
     (was is : CachedNode)
-    (bytes : List ℕ) → NodeSteps nodes old new marked mark cards place was is
+    (bytes : List ℕ) → NodeSteps nodes old new marked mark cached_nodes place was is
     → is.fields.kind ≡ kind.File → is.names ≡ []
     → is.fields.size ≡ length bytes → HoldBytes new is.blocks bytes
-    → LaysTree nodes new mark cards place is
-    (with (tree_of old cards) is.fields.number (node_with is.fields (File bytes)))
+    → LaysTree nodes new mark cached_nodes place is
+    (with (tree_of old cached_nodes) is.fields.number (node_with is.fields (File bytes)))
 
 -- a directory gets these names
 abbrev pub NamesStep : Type 0
 NamesStep =
-    (nodes : ℕ) (old new : Image) (marked mark : ℕ → ℕ) (cards : List (Option CachedNode))
+    (nodes : ℕ) (old new : Image) (marked mark : ℕ → ℕ) (cached_nodes : List (Option CachedNode))
     (place : ℕ)
     (was is : CachedNode)
-    (names : Keyed DirEntry) → NodeSteps nodes old new marked mark cards place was is
+    (names : Keyed DirEntry) → NodeSteps nodes old new marked mark cached_nodes place was is
     → is.fields.kind ≡ kind.Directory
     → HoldsNames new is → by_stamp is.names ≡ names
-    → LaysTree nodes new mark cards place is
-    (with (tree_of old cards) is.fields.number (node_with is.fields (Directory names)))
+    → LaysTree nodes new mark cached_nodes place is
+    (with (tree_of old cached_nodes) is.fields.number (node_with is.fields (Directory names)))
 
 -- a file gets other blocks, and neither bytes nor fields that the tree shows: the tree stays
 
@@ -69,25 +69,25 @@ pub record ShowsSame (was is : Fields) : Type 0 where
 
 abbrev pub SameStep : Type 0
 SameStep =
-    (nodes : ℕ) (old new : Image) (marked mark : ℕ → ℕ) (cards : List (Option CachedNode))
+    (nodes : ℕ) (old new : Image) (marked mark : ℕ → ℕ) (cached_nodes : List (Option CachedNode))
     (place : ℕ)
     (was is : CachedNode)
-    (bytes : List ℕ) → NodeSteps nodes old new marked mark cards place was is
+    (bytes : List ℕ) → NodeSteps nodes old new marked mark cached_nodes place was is
     → was.fields.kind ≡ kind.File
     → is.fields.kind ≡ kind.File → is.names ≡ [] → was.fields.size ≡ length bytes
     → is.fields.size ≡ length bytes
     → HoldBytes old was.blocks bytes → HoldBytes new is.blocks bytes
     → ShowsSame was.fields is.fields
-    → LaysTree nodes new mark cards place is (tree_of old cards)
+    → LaysTree nodes new mark cached_nodes place is (tree_of old cached_nodes)
 
 -- a file of a laid volume holds the bytes that are read, and zeros past them
 abbrev pub FileThere : Type 0
 FileThere =
-    (nodes : ℕ) (image : Image) (mark : ℕ → ℕ) (cards : List (Option CachedNode)) (place : ℕ)
-    (card : CachedNode)
-    → AreLaid nodes image mark cards → place < nodes → slice_index_or cards place None ≡ Some card
-    → card.fields.kind ≡ kind.File
-    → HoldBytes image card.blocks (bytes_in image card.blocks card.fields.size)
+    (nodes : ℕ) (image : Image) (mark : ℕ → ℕ) (cached_nodes : List (Option CachedNode)) (place : ℕ)
+    (cached : CachedNode)
+    → AreLaid nodes image mark cached_nodes → place < nodes → slice_index_or cached_nodes place None ≡ Some cached
+    → cached.fields.kind ≡ kind.File
+    → HoldBytes image cached.blocks (bytes_in image cached.blocks cached.fields.size)
 
 -- Blocks
 

@@ -14,8 +14,8 @@ use Rattle.layout.specs.Marks.{times}
 
 abbrev pub sum_over : (CachedNode → ℕ) → List (Option CachedNode) → ℕ
 sum_over worth [] = 0
-sum_over worth (None ∷ cards) = sum_over worth cards
-sum_over worth (Some card ∷ cards) = worth card + sum_over worth cards
+sum_over worth (None ∷ cached_nodes) = sum_over worth cached_nodes
+sum_over worth (Some cached ∷ cached_nodes) = worth cached + sum_over worth cached_nodes
 
 -- the numbers that names lead to
 abbrev pub numbers_of : List Record → List ℕ
@@ -23,47 +23,47 @@ numbers_of names = map (λ entry. entry.1.number) names
 
 abbrev pub entry_numbers : List (Option CachedNode) → List ℕ
 entry_numbers [] = []
-entry_numbers (None ∷ cards) = entry_numbers cards
-entry_numbers (Some card ∷ cards) = numbers_of card.names ++ entry_numbers cards
+entry_numbers (None ∷ cached_nodes) = entry_numbers cached_nodes
+entry_numbers (Some cached ∷ cached_nodes) = numbers_of cached.names ++ entry_numbers cached_nodes
 
 -- the numbers of the nodes except the root
 abbrev pub other_numbers : List (Option CachedNode) → List ℕ
 other_numbers [] = []
-other_numbers (None ∷ cards) = other_numbers cards
-other_numbers (Some card ∷ cards) =
-    if card.fields.number == root
-    then other_numbers cards
-    else card.fields.number ∷ other_numbers cards
+other_numbers (None ∷ cached_nodes) = other_numbers cached_nodes
+other_numbers (Some cached ∷ cached_nodes) =
+    if cached.fields.number == root
+    then other_numbers cached_nodes
+    else cached.fields.number ∷ other_numbers cached_nodes
 
 abbrev pub NamesTotal : Type 0
 NamesTotal =
     (worth : DirEntry → ℕ) (names : List Record) → NamesStamped names
     → total worth (by_stamp names) ≡ total worth names
 
-pub record Sums (image : Image) (cards : List (Option CachedNode)) : Type 0 where
+pub record Sums (image : Image) (cached_nodes : List (Option CachedNode)) : Type 0 where
   pub any : (worth : Node → ℕ)
-      → total worth (tree_of image cards) ≡ sum_over (λ card. worth (node_of image card)) cards
-  pub charges : total charge (tree_of image cards)
-      ≡ sum_over (λ card. charge_of_blocks (length card.blocks)) cards
-  pub nodes : length (tree_of image cards) ≡ sum_over (λ card. 1) cards
+      → total worth (tree_of image cached_nodes) ≡ sum_over (λ cached. worth (node_of image cached)) cached_nodes
+  pub charges : total charge (tree_of image cached_nodes)
+      ≡ sum_over (λ cached. charge_of_blocks (length cached.blocks)) cached_nodes
+  pub nodes : length (tree_of image cached_nodes) ≡ sum_over (λ cached. 1) cached_nodes
 
 abbrev pub EachSum : Type 0
 EachSum =
-    (nodes : ℕ) (image : Image) (mark : ℕ → ℕ) (cards : List (Option CachedNode))
-    → AreLaid nodes image mark cards
-    → Sums image cards
+    (nodes : ℕ) (image : Image) (mark : ℕ → ℕ) (cached_nodes : List (Option CachedNode))
+    → AreLaid nodes image mark cached_nodes
+    → Sums image cached_nodes
 
 -- so each node has the one name that it is owed exactly if each number occurs as often among those
 -- that names lead to as among those of the nodes except the root
-pub record Links (image : Image) (cards : List (Option CachedNode)) (number : ℕ) : Type 0 where
-  pub to : links_to (tree_of image cards) number ≡ times number (entry_numbers cards)
-  pub owed : links_owed (tree_of image cards) number ≡ times number (other_numbers cards)
+pub record Links (image : Image) (cached_nodes : List (Option CachedNode)) (number : ℕ) : Type 0 where
+  pub to : links_to (tree_of image cached_nodes) number ≡ times number (entry_numbers cached_nodes)
+  pub owed : links_owed (tree_of image cached_nodes) number ≡ times number (other_numbers cached_nodes)
 
 abbrev pub EachLink : Type 0
 EachLink =
-    (nodes : ℕ) (image : Image) (mark : ℕ → ℕ) (cards : List (Option CachedNode))
-    → AreLaid nodes image mark cards
-    → (number : ℕ) → Links image cards number
+    (nodes : ℕ) (image : Image) (mark : ℕ → ℕ) (cached_nodes : List (Option CachedNode))
+    → AreLaid nodes image mark cached_nodes
+    → (number : ℕ) → Links image cached_nodes number
 
 -- if sectors hold bytes, a file's content is bytes
 abbrev pub BytesFit : Type 0

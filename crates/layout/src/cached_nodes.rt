@@ -1,15 +1,15 @@
 //! The cached nodes of a volume.
 
-ghost use Rattle.layout.specs.CachedNodeLaws.{CardReadsBack, CardsReadBack, OnlyCard, OnlyCards, Frame, EachAnswer};
-ghost use Rattle.layout.specs.Known.{LaidAreCards, OneCardChange};
+ghost use Rattle.layout.specs.CachedNodeLaws.{CachedReadsBack, CachedNodesReadBack, OnlyCached, OnlyCachedNodes, Frame, EachAnswer};
+ghost use Rattle.layout.specs.Known.{LaidAreCachedNodes, OneCachedChange};
 
 /// A cached node that is held is the one that is read: so a search for cached nodes need only look
 /// at those that are read.
 pub fn read_back()
-    ensures cached { CardReadsBack }
-    ensures cards { CardsReadBack }
-    ensures only_card { OnlyCard }
-    ensures only_cards { OnlyCards }
+    ensures cached { CachedReadsBack }
+    ensures cached_nodes { CachedNodesReadBack }
+    ensures only_cached { OnlyCached }
+    ensures only_cached_nodes { OnlyCachedNodes }
 {}
 
 /// A cached node whose sectors are kept is still held, and is the same node.
@@ -25,6 +25,6 @@ pub fn answers()
 /// What is known of laid cached nodes whatever their sectors hold, and that it stays known if one
 /// of them changes along with the marks.
 pub fn known()
-    ensures laid { LaidAreCards }
-    ensures change { OneCardChange }
+    ensures laid { LaidAreCachedNodes }
+    ensures change { OneCachedChange }
 {}

@@ -80,7 +80,7 @@ pub fn mark_sector(mark: Option<u32>) -> [u8; SECTOR]
 
 /// Writes the fields of a mark.
 fn put_mark(sector: &mut [u8; SECTOR], moved: u32)
-    ensures front { take 8 sector.new ≡ mark_fields moved }
+    ensures prefix { take 8 sector.new ≡ mark_fields moved }
     ensures len { length sector.new ≡ SECTOR }
 {
     put_bytes(sector, 0, &MARK_MAGIC);

@@ -3,7 +3,7 @@
 ghost use Rattle.layout.specs.CachedNodeLaws.{OneTree, OneKept, OneProof};
 ghost use Rattle.layout.specs.FreshLaws.{FreshStands};
 ghost use Rattle.layout.specs.MarkLaws.{KeptAlone, StandsAlone};
-ghost use Rattle.layout.specs.Rewriting.{RewrittenStands, RewrittenCards, FormStays};
+ghost use Rattle.layout.specs.Rewriting.{RewrittenStands, RewrittenCachedNodes, FormStays};
 ghost use Rattle.layout.specs.Rewriting.{LaidSecond, KnownSecond, CurrentSecond};
 
 /// A volume holds one tree, of one size and one restart count, with one list of seats beside it;
@@ -16,7 +16,7 @@ pub fn one_tree()
 
 /// Only the first of its sectors and those after the journal's are seen.
 pub fn kept()
-    ensures cards { KeptAlone }
+    ensures cached_nodes { KeptAlone }
     ensures tree { StandsAlone }
 {}
 
@@ -29,7 +29,7 @@ pub fn fresh()
 /// sectors and first sector, holds the same tree. A node that already has its form stays as it is.
 pub fn rewritten()
     ensures stands { RewrittenStands }
-    ensures cards { RewrittenCards }
+    ensures cached_nodes { RewrittenCachedNodes }
     ensures stays { FormStays }
 {}
 

@@ -37,27 +37,27 @@ answer_is reading = elim (does_cases reading.limits reading.state reading.now (A
       let never = sym reading.answered ∙ ap (λ (stepped : Stepped). stepped.outcome) not_gone.1 in absurd cc
 ]
 
-record IsFront (reading : Reading) : Type 0 where
+record IsPrefix (reading : Reading) : Type 0 where
   pub rest : List Entry
-  pub front : all_entries reading.limits reading.state reading.arguments ≡ reading.answer.entries ++ rest
+  pub prefix : all_entries reading.limits reading.state reading.arguments ≡ reading.answer.entries ++ rest
   pub whole : reading.answer.is_end ≡ true → rest ≡ []
 
 nothing_more : (xs rest : List Entry) → length xs ≡ length (xs ++ rest) → rest ≡ []
 nothing_more xs [] same = refl
 nothing_more xs (entry ∷ rest) same = absurd (omega (arith, same, length-append xs (entry ∷ rest)))
 
-is_front : (reading : Reading) → IsFront reading
+is_prefix : (reading : Reading) → IsPrefix reading
 unfolding page
-is_front reading =
+is_prefix reading =
     let of = every_page reading.limits reading.state reading.arguments in
     let is = answer_is reading in
     let all = all_entries reading.limits reading.state reading.arguments in
     let shown = (page reading.limits reading.state reading.arguments).entries in
     record {
       rest = of.rest;
-      front = of.front ∙ ap (λ (answer : ReadDirAnswer). answer.entries ++ of.rest) (sym is);
+      prefix = of.prefix ∙ ap (λ (answer : ReadDirAnswer). answer.entries ++ of.rest) (sym is);
       whole = λ end. nothing_more shown of.rest
-          (eqb-true (length shown) (length all) (sym (ap (λ (answer : ReadDirAnswer). answer.is_end) is) ∙ end) ∙ ap (λ (l : List Entry). length l) of.front);
+          (eqb-true (length shown) (length all) (sym (ap (λ (answer : ReadDirAnswer). answer.is_end) is) ∙ end) ∙ ap (λ (l : List Entry). length l) of.prefix);
     }
 
 -- The names that a call found rise by their stamps, so that they are the map by stamp
@@ -104,8 +104,8 @@ each_of P Q so [] each = tt
 each_of P Q so (x ∷ xs) each = (so x each.0, each_of P Q so xs each.1)
 
 each_append : {A : Type 0} (P : A → Type 0) → (xs ys : List A) → AllByRecursion P xs → AllByRecursion P ys → AllByRecursion P (xs ++ ys)
-each_append P [] ys front behind = behind
-each_append P (x ∷ xs) ys front behind = (front.0, each_append P xs ys front.1 behind)
+each_append P [] ys prefix behind = behind
+each_append P (x ∷ xs) ys prefix behind = (prefix.0, each_append P xs ys prefix.1 behind)
 
 none_mapped : (f : Record → Entry) → (names : Keyed DirEntry) → map f names ≡ [] → names ≡ []
 none_mapped f [] none = refl
@@ -144,15 +144,15 @@ module _ (reading : Reading) (well : IsWellFormed reading.limits reading.state.t
 
   pub record IsPageOf : Type 0 where
     pub left : Keyed DirEntry
-    pub front : behind_it ≡ map (record_shown its_names) reading.answer.entries ++ left
+    pub prefix : behind_it ≡ map (record_shown its_names) reading.answer.entries ++ left
     pub whole : reading.answer.is_end ≡ true → left ≡ []
 
   pub is_page : IsPageOf
   is_page =
-      let of = is_front reading in
+      let of = is_prefix reading in
       let again = each_of (λ name. at name.0 its_names ≡ Some name.1) (λ name. record_shown its_names (listed name) ≡ name) shown_again behind_it each_behind in
-      let taken = back listed (record_shown its_names) behind_it reading.answer.entries of.rest again of.front in
-      record { left = taken.0; front = taken.1; whole = λ end. none_mapped listed taken.0 (taken.2 ∙ of.whole end) }
+      let taken = back listed (record_shown its_names) behind_it reading.answer.entries of.rest again of.prefix in
+      record { left = taken.0; prefix = taken.1; whole = λ end. none_mapped listed taken.0 (taken.2 ∙ of.whole end) }
 
   stand : (entries : List Entry) (left : Keyed DirEntry)
       → AllByRecursion (λ entry. at entry.0 its_names ≡ Some entry.1) (map (record_shown its_names) entries ++ left)
@@ -162,10 +162,10 @@ module _ (reading : Reading) (well : IsWellFormed reading.limits reading.state.t
 
   pub they_stand : AnswersWhatStands reading
   they_stand = stand reading.answer.entries is_page.left
-      (subst (λ l. AllByRecursion (λ entry. at entry.0 its_names ≡ Some entry.1) l) is_page.front each_behind)
+      (subst (λ l. AllByRecursion (λ entry. at entry.0 its_names ≡ Some entry.1) l) is_page.prefix each_behind)
 
   pub behind_is : (cookie : ℕ) → reading.arguments.cookie ≡ cookie → behind cookie (page_of reading) ≡ (page_of reading).shown ++ is_page.left
-  behind_is cookie same = ap (λ c. after c (by_stamp its_names)) (sym same) ∙ (ap (after reading.arguments.cookie) by_stamp-its ∙ is_page.front)
+  behind_is cookie same = ap (λ c. after c (by_stamp its_names)) (sym same) ∙ (ap (after reading.arguments.cookie) by_stamp-its ∙ is_page.prefix)
 
   -- a name is there once
   stands_once : (name : List ℕ) (a b : ℕ) → StandsUnder a name reading → StandsUnder b name reading → a ≡ b

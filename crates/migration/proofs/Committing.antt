@@ -6,11 +6,11 @@ use Rattle.disk.specs.Moments.{Image, AddsOnly, applied, moment}
 use Rattle.disk.proofs.MomentLemmas.{AddsOnly-same, AddsOnly-weaken, AddsOnly-join}
 use Rattle.journal.specs.declared.layout.LogArea.{LogArea}
 use Rattle.journal.specs.Calls.{GoesThroughFirst, IsSafe, HasApplied, flush_cost, list_with}
-use Rattle.journal.specs.Log.{Log, MakesAtMost, StandsForFront, applied_all}
+use Rattle.journal.specs.Log.{Log, MakesAtMost, StandsForPrefix, applied_all}
 use Rattle.journal.specs.Settled.{AreSame, Settles}
 use Rattle.journal.specs.Transactions.{FitTogether, gathered, sectors_of}
-use Rattle.journal.proofs.Fronts.{settles_same, applied_keeps, applied_all-push}
-use Rattle.journal.proofs.Joins.{front_moved}
+use Rattle.journal.proofs.Prefixes.{settles_same, applied_keeps, applied_all-push}
+use Rattle.journal.proofs.Joins.{prefix_moved}
 use Rattle.migration.specs.Commits.{Commits, HasCommitted}
 use Rattle.migration.specs.Migrations.{StaysInPlace, transaction_cost}
 
@@ -25,19 +25,19 @@ whole_stays old new place whole = ap (λ (area : LogArea). area.end) place.area 
 
 -- One transaction
 
-pub no_front : (list : List (List Update)) (c : ℕ) (base : Image) → list ≡ [] → applied_all (take c list) base ≡ base
-no_front [] zero base none = refl
-no_front [] (suc c) base none = refl
-no_front (us ∷ list) c base none = absurd (cc)
+pub no_prefix : (list : List (List Update)) (c : ℕ) (base : Image) → list ≡ [] → applied_all (take c list) base ≡ base
+no_prefix [] zero base none = refl
+no_prefix [] (suc c) base none = refl
+no_prefix (us ∷ list) c base none = absurd (cc)
 
 pub first_moments : (keeps_word : Type 0) (list : List (List Update)) (old mid : Log) → old.list ≡ [] → IsSafe keeps_word old mid
-    → keeps_word → AddsOnly (StandsForFront old.area old.base list) old.history mid.history
+    → keeps_word → AddsOnly (StandsForPrefix old.area old.base list) old.history mid.history
 first_moments keeps_word list old mid none safe word =
-    AddsOnly-weaken (StandsForFront old.area old.base old.list) (StandsForFront old.area old.base list) old.history mid.history
-    (λ image front. record {
+    AddsOnly-weaken (StandsForPrefix old.area old.base old.list) (StandsForPrefix old.area old.base list) old.history mid.history
+    (λ image prefix. record {
       count = 0;
       within = omega arith;
-      settles = subst (Settles old.area image) (no_front old.list front.count old.base none) front.settles;
+      settles = subst (Settles old.area image) (no_prefix old.list prefix.count old.base none) prefix.settles;
     })
     (safe.moments word)
 
@@ -63,17 +63,17 @@ pub both_commit : (keeps_word : Type 0) (us : List Update) (was now : List ℕ) 
     → GoesThroughFirst keeps_word us was now old mid → IsSafe keeps_word mid new → Commits keeps_word (us ∷ []) old new
 both_commit keeps_word us was now old mid new none safe has gate flushed = record {
   place = record { area = flushed.area ∙ safe.area; size = flushed.size ∙ safe.size };
-  moments = λ word. AddsOnly-join (StandsForFront old.area old.base (us ∷ [])) old.history mid.history new.history
+  moments = λ word. AddsOnly-join (StandsForPrefix old.area old.base (us ∷ [])) old.history mid.history new.history
       (first_moments keeps_word (us ∷ []) old mid none safe word)
-      (AddsOnly-weaken (StandsForFront mid.area mid.base mid.list) (StandsForFront old.area old.base (us ∷ [])) mid.history new.history
-      (λ image front.
-      let before = front_moved (list_with old us) old mid (has.moved word) front.count front.within in
-      subst (λ (list : List (List Update)). StandsForFront old.area old.base list image) (ap (λ (l : List (List Update)). l ++ us ∷ []) none)
+      (AddsOnly-weaken (StandsForPrefix mid.area mid.base mid.list) (StandsForPrefix old.area old.base (us ∷ [])) mid.history new.history
+      (λ image prefix.
+      let before = prefix_moved (list_with old us) old mid (has.moved word) prefix.count prefix.within in
+      subst (λ (list : List (List Update)). StandsForPrefix old.area old.base list image) (ap (λ (l : List (List Update)). l ++ us ∷ []) none)
       (record {
         count = before.0;
         within = before.1;
-        settles = settles_same old.area image (applied_all (take front.count mid.list) mid.base) (applied_all (take before.0 (list_with old us)) old.base)
-            (λ n k. sym (before.2 n k)) (subst (λ (area : LogArea). Settles area image (applied_all (take front.count mid.list) mid.base)) safe.area front.settles);
+        settles = settles_same old.area image (applied_all (take prefix.count mid.list) mid.base) (applied_all (take before.0 (list_with old us)) old.base)
+            (λ n k. sym (before.2 n k)) (subst (λ (area : LogArea). Settles area image (applied_all (take prefix.count mid.list) mid.base)) safe.area prefix.settles);
       }))
       (flushed.moments word));
   brief = λ word.
@@ -86,11 +86,11 @@ both_commit keeps_word us was now old mid new none safe has gate flushed = recor
 
 module _ (keeps_word : Type 0) (list : List (List Update)) (old mid new : Log) (base : keeps_word → mid.base ≡ old.base) (place : StaysInPlace old mid) where
   pub then_moments : old.list ≡ [] → IsSafe keeps_word old mid → Commits keeps_word list mid new
-      → keeps_word → AddsOnly (StandsForFront old.area old.base list) old.history new.history
-  then_moments none safe commits word = AddsOnly-join (StandsForFront old.area old.base list) old.history mid.history new.history
+      → keeps_word → AddsOnly (StandsForPrefix old.area old.base list) old.history new.history
+  then_moments none safe commits word = AddsOnly-join (StandsForPrefix old.area old.base list) old.history mid.history new.history
       (first_moments keeps_word list old mid none safe word)
-      (subst (λ (image : Image). AddsOnly (StandsForFront old.area image list) mid.history new.history) (base word)
-      (subst (λ (area : LogArea). AddsOnly (StandsForFront area mid.base list) mid.history new.history) place.area (commits.moments word)))
+      (subst (λ (image : Image). AddsOnly (StandsForPrefix old.area image list) mid.history new.history) (base word)
+      (subst (λ (area : LogArea). AddsOnly (StandsForPrefix area mid.base list) mid.history new.history) place.area (commits.moments word)))
 
   pub then_brief : MakesAtMost 2 old mid → Commits keeps_word list mid new → keeps_word → MakesAtMost (2 + length list * transaction_cost old.area) old new
   then_brief first commits word =
@@ -114,7 +114,7 @@ pub record Going (keeps_word : Type 0) (list rest : List (List Update)) (old now
   pub rest_is : drop count list ≡ rest
   pub place : StaysInPlace old now
   pub base : keeps_word → AreSame old.area.end (applied_all (take count list) old.base) now.base
-  pub moments : keeps_word → AddsOnly (StandsForFront old.area old.base list) old.history now.history
+  pub moments : keeps_word → AddsOnly (StandsForPrefix old.area old.base list) old.history now.history
   -- what it has cost, and what the rest costs at most
   pub brief : keeps_word
       → moment now.history + length rest * transaction_cost old.area ≤ moment old.history + length list * transaction_cost old.area
@@ -130,22 +130,22 @@ going_starts keeps_word list old = record {
   rest_is = refl;
   place = record { area = refl; size = refl };
   base = λ word n k. refl;
-  moments = λ word. AddsOnly-same (StandsForFront old.area old.base list) old.history;
+  moments = λ word. AddsOnly-same (StandsForPrefix old.area old.base list) old.history;
   brief = λ word. omega arith;
 }
 
 record IsNext (list : List (List Update)) (count : ℕ) (us : List Update) (rest : List (List Update)) : Type 0 where
   within : count < length list
-  front : take (suc count) list ≡ take count list ++ us ∷ []
+  prefix : take (suc count) list ≡ take count list ++ us ∷ []
   behind : drop (suc count) list ≡ rest
 
 next : (list : List (List Update)) (count : ℕ) (us : List Update) (rest : List (List Update)) → drop count list ≡ us ∷ rest → IsNext list count us rest
 next [] zero us rest e = absurd (cc)
 next [] (suc count) us rest e = absurd (cc)
-next (vs ∷ list) zero us rest e = record { within = omega arith; front = ap (λ (x : List Update). x ∷ []) cc; behind = cc }
+next (vs ∷ list) zero us rest e = record { within = omega arith; prefix = ap (λ (x : List Update). x ∷ []) cc; behind = cc }
 next (vs ∷ list) (suc count) us rest e =
     let there = next list count us rest e in
-    record { within = omega (arith, there.within); front = ap (λ (l : List (List Update)). vs ∷ l) there.front; behind = there.behind }
+    record { within = omega (arith, there.within); prefix = ap (λ (l : List (List Update)). vs ∷ l) there.prefix; behind = there.behind }
 
 module _ (keeps_word : Type 0) (list rest : List (List Update)) (us : List Update) (old now new : Log) (going : Going keeps_word list (us ∷ rest) old now)
     (commits : Commits keeps_word (us ∷ []) now new) where
@@ -155,22 +155,22 @@ module _ (keeps_word : Type 0) (list rest : List (List Update)) (us : List Updat
   -- with this one
   with_one : keeps_word → AreSame old.area.end (applied_all (take (suc going.count) list) old.base) (applied us now.base)
   with_one word n k =
-      ap (λ (l : List (List Update)). applied_all l old.base n) there.front
+      ap (λ (l : List (List Update)). applied_all l old.base n) there.prefix
       ∙ ap (λ (f : Image). f n) (applied_all-push (take going.count list) us old.base)
       ∙ applied_keeps old.area.end us (applied_all (take going.count list) old.base) now.base (going.base word) n k
 
-  front_here : keeps_word → (image : Image) (c : ℕ) → c ≤ 1 → Settles old.area image (applied_all (take c (us ∷ [])) now.base) → StandsForFront old.area old.base list image
-  front_here word image zero few settles = record {
+  prefix_here : keeps_word → (image : Image) (c : ℕ) → c ≤ 1 → Settles old.area image (applied_all (take c (us ∷ [])) now.base) → StandsForPrefix old.area old.base list image
+  prefix_here word image zero few settles = record {
     count = going.count;
     within = going.within;
     settles = settles_same old.area image now.base (applied_all (take going.count list) old.base) (λ n k. sym (going.base word n k)) settles;
   }
-  front_here word image (suc zero) few settles = record {
+  prefix_here word image (suc zero) few settles = record {
     count = suc going.count;
     within = there.within;
     settles = settles_same old.area image (applied us now.base) (applied_all (take (suc going.count) list) old.base) (λ n k. sym (with_one word n k)) settles;
   }
-  front_here word image (suc (suc c)) few settles = absurd (omega arith)
+  prefix_here word image (suc (suc c)) few settles = absurd (omega arith)
 
   paid : keeps_word → moment new.history + length rest * transaction_cost old.area ≤ moment old.history + length list * transaction_cost old.area
   paid word = one_paid (moment old.history) (moment now.history) (moment new.history) (length rest) (transaction_cost old.area) (length list * transaction_cost old.area)
@@ -180,9 +180,9 @@ module _ (keeps_word : Type 0) (list rest : List (List Update)) (us : List Updat
   pub going_stops : Commits keeps_word list old new
   going_stops = record {
     place = stays_then going.place commits.place;
-    moments = λ word. AddsOnly-join (StandsForFront old.area old.base list) old.history now.history new.history (going.moments word)
-        (AddsOnly-weaken (StandsForFront now.area now.base (us ∷ [])) (StandsForFront old.area old.base list) now.history new.history
-        (λ image front. front_here word image front.count front.within (subst (λ (area : LogArea). Settles area image (applied_all (take front.count (us ∷ [])) now.base)) going.place.area front.settles))
+    moments = λ word. AddsOnly-join (StandsForPrefix old.area old.base list) old.history now.history new.history (going.moments word)
+        (AddsOnly-weaken (StandsForPrefix now.area now.base (us ∷ [])) (StandsForPrefix old.area old.base list) now.history new.history
+        (λ image prefix. prefix_here word image prefix.count prefix.within (subst (λ (area : LogArea). Settles area image (applied_all (take prefix.count (us ∷ [])) now.base)) going.place.area prefix.settles))
         (commits.moments word));
     brief = λ word. let few = paid word in omega (arith, few);
   }

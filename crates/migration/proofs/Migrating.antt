@@ -6,24 +6,24 @@ use Rattle.disk.specs.declared.update.Update.{Update}
 use Rattle.disk.specs.Calls.{zero_sector}
 use Rattle.disk.specs.Moments.{Image, AddsOnly, put, applied}
 use Rattle.disk.proofs.MomentLemmas.{AddsOnly-weaken}
-use Rattle.journal.specs.Log.{Log, MakesAtMost, StandsForFront, applied_all}
+use Rattle.journal.specs.Log.{Log, MakesAtMost, StandsForPrefix, applied_all}
 use Rattle.journal.specs.Settled.{AreSame}
 use Rattle.journal.proofs.Images.{put_same, put_other}
-use Rattle.layout.specs.CachedNodes.{CachedNode, node_sector, cards_in}
+use Rattle.layout.specs.CachedNodes.{CachedNode, node_sector, cached_nodes_in}
 use Rattle.layout.specs.Rewriting.{all_second, IsRewritten}
 use Rattle.layout.specs.Stands.{By, Version, IsMark, MayHaveSeats, TreeStands, StandsAs, bare, current_version, version_1, version_2}
 use Rattle.layout.specs.declared.versions.VersionNumber.TheVariants as numbers
 use Rattle.layout.proofs.FirstLaws.{sized_parts}
 use Rattle.layout.proofs.SeatLaws.{no_seats_kept, spare_none, spare_other}
 use Rattle.layout.proofs.MarkProofs.{kept_alone, stands_alone}
-use Rattle.layout.proofs.Rewriting.{form_stays, rewritten_stands, rewritten_cards}
+use Rattle.layout.proofs.Rewriting.{form_stays, rewritten_stands, rewritten_cached_nodes}
 use Rattle.model_tree.specs.Seats.Seats.{no_seats}
 use Rattle.model_tree.specs.Trees.Tree.{Tree}
 use Rattle.migration.specs.Commits.{AreTransactions, Commits, HasCommitted}
 use Rattle.migration.specs.Migrations.{StandsStill, MovesSafely, HasMovedAll, ClearsSafely, HasCleared, transaction_cost}
 use Rattle.migration.specs.Plans.{plan, step_at, clearing_updates}
 use Rattle.migration.proofs.Transactions.{steps_take}
-use Rattle.migration.proofs.Reaching.{Reached, in_all, begins_reached, plan_front, plan_reaches, reached_all}
+use Rattle.migration.proofs.Reaching.{Reached, in_all, begins_reached, plan_prefix, plan_reaches, reached_all}
 
 -- If the kept sectors are the same
 
@@ -40,51 +40,51 @@ module _ (version : Version) (size nodes run : ℕ) (a b : Image) (tree : Tree) 
       let parts = sized_parts size nodes stands.sized in
       stands_alone version size nodes a b run tree stands (sym (same 0 (inl refl, omega (arith, parts.room)))) behind
 
-  cards_same : cards_in nodes b ≡ cards_in nodes a
-  cards_same = (kept_alone version size nodes a b (cards_in nodes a) stands.region.behind stands.laid behind).same_cards
+  cached_nodes_same : cached_nodes_in nodes b ≡ cached_nodes_in nodes a
+  cached_nodes_same = (kept_alone version size nodes a b (cached_nodes_in nodes a) stands.region.behind stands.laid behind).same_cached_nodes
 
-reached_same : (size run : ℕ) (tree : Tree) (cards : List (Option CachedNode)) (moved : ℕ) (a b : Image) → AreSame size a b
-    → Reached size run tree cards moved a → Reached size run tree cards moved b
-reached_same size run tree cards moved a b same reached = record {
+reached_same : (size run : ℕ) (tree : Tree) (cached_nodes : List (Option CachedNode)) (moved : ℕ) (a b : Image) → AreSame size a b
+    → Reached size run tree cached_nodes moved a → Reached size run tree cached_nodes moved b
+reached_same size run tree cached_nodes moved a b same reached = record {
   mark = reached.mark;
   marked = reached.marked;
   told = reached.told;
-  stands = stands_same (version_1 reached.mark) size (length cards) run a b tree same reached.stands;
-  read = reached.read ∙ ap all_second (sym (cards_same (version_1 reached.mark) size (length cards) run a b tree same reached.stands));
+  stands = stands_same (version_1 reached.mark) size (length cached_nodes) run a b tree same reached.stands;
+  read = reached.read ∙ ap all_second (sym (cached_nodes_same (version_1 reached.mark) size (length cached_nodes) run a b tree same reached.stands));
 }
 
 -- The nodes
 
-pub plan_takes : (end : ℕ) (cards : List (Option CachedNode)) (moved : ℕ) → 148 + length cards ≤ end → moved ≤ length cards → AreTransactions end (plan cards moved)
-plan_takes end cards moved below within = steps_take end cards moved (in_all (length cards) moved) 0 below (omega arith)
+pub plan_takes : (end : ℕ) (cached_nodes : List (Option CachedNode)) (moved : ℕ) → 148 + length cached_nodes ≤ end → moved ≤ length cached_nodes → AreTransactions end (plan cached_nodes moved)
+plan_takes end cached_nodes moved below within = steps_take end cached_nodes moved (in_all (length cached_nodes) moved) 0 below (omega arith)
 
-module _ (keeps_word : Type 0) (moved : ℕ) (cards : List (Option CachedNode)) (old new : Log) (within : moved ≤ length cards) where
-  pub moves_safely : (keeps_word → AddsOnly (StandsForFront old.area old.base (plan cards moved)) old.history new.history)
-      → (keeps_word → MakesAtMost (2 + length (plan cards moved) * transaction_cost old.area) old new) → keeps_word → MovesSafely moved cards old new
+module _ (keeps_word : Type 0) (moved : ℕ) (cached_nodes : List (Option CachedNode)) (old new : Log) (within : moved ≤ length cached_nodes) where
+  pub moves_safely : (keeps_word → AddsOnly (StandsForPrefix old.area old.base (plan cached_nodes moved)) old.history new.history)
+      → (keeps_word → MakesAtMost (2 + length (plan cached_nodes moved) * transaction_cost old.area) old new) → keeps_word → MovesSafely moved cached_nodes old new
   moves_safely moments brief word = record {
     moments = λ mark run tree begins.
-        let first = begins_reached mark moved run old.size tree cards old.base begins.marked begins.told begins.stands begins.read within in
-        AddsOnly-weaken (StandsForFront old.area old.base (plan cards moved)) (StandsStill 1 old.area old.size (length cards) run tree) old.history new.history
-        (λ image front. let there = plan_front old.size run tree cards moved old.base within first front.count front.within in ∣ record {
-          base = applied_all (take front.count (plan cards moved)) old.base;
-          settles = front.settles;
+        let first = begins_reached mark moved run old.size tree cached_nodes old.base begins.marked begins.told begins.stands begins.read within in
+        AddsOnly-weaken (StandsForPrefix old.area old.base (plan cached_nodes moved)) (StandsStill 1 old.area old.size (length cached_nodes) run tree) old.history new.history
+        (λ image prefix. let there = plan_prefix old.size run tree cached_nodes moved old.base within first prefix.count prefix.within in ∣ record {
+          base = applied_all (take prefix.count (plan cached_nodes moved)) old.base;
+          settles = prefix.settles;
           stands = there.0;
           number_is = there.1;
         } ∣₁)
         (moments word);
     brief = subst (λ (count : ℕ). MakesAtMost (2 + count * transaction_cost old.area) old new)
-        (length-map-range_with_len (step_at cards moved) 0 (in_all (length cards) moved)) (brief word);
+        (length-map-range_with_len (step_at cached_nodes moved) 0 (in_all (length cached_nodes) moved)) (brief word);
   }
 
-  pub has_moved_all : old.area.end ≡ old.size → HasCommitted keeps_word (plan cards moved) old new → keeps_word → HasMovedAll moved cards old new
+  pub has_moved_all : old.area.end ≡ old.size → HasCommitted keeps_word (plan cached_nodes moved) old new → keeps_word → HasMovedAll moved cached_nodes old new
   has_moved_all whole has word mark run tree begins =
-      let first = begins_reached mark moved run old.size tree cards old.base begins.marked begins.told begins.stands begins.read within in
-      let last = reached_same old.size run tree cards (length cards) (applied_all (plan cards moved) old.base) new.base
-      (same_whole old.area.end old.size (applied_all (plan cards moved) old.base) new.base whole (has.base word))
-      (plan_reaches old.size run tree cards moved old.base within first) in
+      let first = begins_reached mark moved run old.size tree cached_nodes old.base begins.marked begins.told begins.stands begins.read within in
+      let last = reached_same old.size run tree cached_nodes (length cached_nodes) (applied_all (plan cached_nodes moved) old.base) new.base
+      (same_whole old.area.end old.size (applied_all (plan cached_nodes moved) old.base) new.base whole (has.base word))
+      (plan_reaches old.size run tree cached_nodes moved old.base within first) in
       record {
-        stands = reached_all old.size run tree cards new.base last;
-        cards = sym last.read ∙ begins.read;
+        stands = reached_all old.size run tree cached_nodes new.base last;
+        cached_nodes = sym last.read ∙ begins.read;
       }
 
 -- The mark
@@ -124,8 +124,8 @@ module _ (mark : Option ℕ) (size nodes run : ℕ) (image : Image) (tree : Tree
   cleared_stands : TreeStands (current_version no_seats) size nodes without run tree
   cleared_stands = rewritten_stands (version_2 mark no_seats) (current_version no_seats) size nodes run run image without tree stands (omega arith) stands.counted clears
 
-  cleared_cards : all_second (cards_in nodes without) ≡ all_second (cards_in nodes image)
-  cleared_cards = rewritten_cards (version_2 mark no_seats) (current_version no_seats) size nodes run run image without tree stands clears
+  cleared_cached_nodes : all_second (cached_nodes_in nodes without) ≡ all_second (cached_nodes_in nodes image)
+  cleared_cached_nodes = rewritten_cached_nodes (version_2 mark no_seats) (current_version no_seats) size nodes run run image without tree stands clears
 
   either_stands : IsMark numbers.Two nodes mark → (c : ℕ) → c ≤ 1
       → (is : StandsAs size nodes (applied_all (take c (clearing_updates ∷ [])) image) run (bare tree)) × (is.version.number ≡ 2)
@@ -153,10 +153,10 @@ module _ (keeps_word : Type 0) (old new : Log) where
   pub clears_safely : Commits keeps_word (clearing_updates ∷ []) old new → keeps_word → ClearsSafely old new
   clears_safely commits word = record {
     moments = λ mark nodes run tree marked stands.
-        AddsOnly-weaken (StandsForFront old.area old.base (clearing_updates ∷ [])) (StandsStill 2 old.area old.size nodes run tree) old.history new.history
-        (λ image front. let there = either_stands mark old.size nodes run old.base tree stands marked front.count front.within in ∣ record {
-          base = applied_all (take front.count (clearing_updates ∷ [])) old.base;
-          settles = front.settles;
+        AddsOnly-weaken (StandsForPrefix old.area old.base (clearing_updates ∷ [])) (StandsStill 2 old.area old.size nodes run tree) old.history new.history
+        (λ image prefix. let there = either_stands mark old.size nodes run old.base tree stands marked prefix.count prefix.within in ∣ record {
+          base = applied_all (take prefix.count (clearing_updates ∷ [])) old.base;
+          settles = prefix.settles;
           stands = there.0;
           number_is = there.1;
         } ∣₁)
@@ -171,6 +171,6 @@ module _ (keeps_word : Type 0) (old new : Log) where
       let same = same_whole old.area.end old.size without new.base whole (has.base word) in
       record {
         stands = stands_same (current_version no_seats) old.size nodes run without new.base tree same there;
-        cards = ap all_second (cards_same (current_version no_seats) old.size nodes run without new.base tree same there)
-            ∙ cleared_cards mark old.size nodes run old.base tree stands;
+        cached_nodes = ap all_second (cached_nodes_same (current_version no_seats) old.size nodes run without new.base tree same there)
+            ∙ cleared_cached_nodes mark old.size nodes run old.base tree stands;
       }

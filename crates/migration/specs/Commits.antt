@@ -4,7 +4,7 @@ use Rattle.std.specs.List.{AllByRecursion}
 use Rattle.disk.specs.declared.update.Update.{Update}
 use Rattle.disk.specs.Moments.{AddsOnly}
 use Rattle.journal.specs.Layout.{AreTargets, max_updates, targets}
-use Rattle.journal.specs.Log.{Log, MakesAtMost, StandsForFront, applied_all}
+use Rattle.journal.specs.Log.{Log, MakesAtMost, StandsForPrefix, applied_all}
 use Rattle.journal.specs.Settled.{AreSame}
 use Rattle.migration.specs.Migrations.{Rests, StaysInPlace, transaction_cost}
 
@@ -23,7 +23,7 @@ pub record Commits (keeps_word : Type 0) (list : List (List Update)) (old new : 
     0 where
   pub place : StaysInPlace old new
   pub moments : keeps_word
-      → AddsOnly (StandsForFront old.area old.base list) old.history new.history
+      → AddsOnly (StandsForPrefix old.area old.base list) old.history new.history
   pub brief : keeps_word → MakesAtMost (length list * transaction_cost old.area) old new
 
 -- All of them are in the base, and nothing is pending.

@@ -4,7 +4,7 @@ use Rattle.disk.specs.Moments.{Image, AddsOnly}
 use Rattle.journal.specs.declared.layout.LogArea.{LogArea}
 use Rattle.journal.specs.Log.{Log, MakesAtMost}
 use Rattle.journal.specs.Settled.{Settles}
-use Rattle.layout.specs.CachedNodes.{CachedNode, cards_in}
+use Rattle.layout.specs.CachedNodes.{CachedNode, cached_nodes_in}
 use Rattle.layout.specs.Rewriting.{all_second}
 use Rattle.layout.specs.Stands.{Version, IsMark, TreeStands, StandsAs, bare, current_version, moved_by, version_1, version_2}
 use Rattle.layout.specs.declared.versions.VersionNumber.TheVariants as numbers
@@ -35,7 +35,7 @@ AddsStill number nodes run tree old new =
 -- nodes, except for their forms
 pub record IsMoved (is : Version) (nodes run : ℕ) (tree : Tree) (old new : Log) : Type 0 where
   pub stands : TreeStands is old.size nodes new.base run tree
-  pub cards : all_second (cards_in nodes new.base) ≡ all_second (cards_in nodes old.base)
+  pub cached_nodes : all_second (cached_nodes_in nodes new.base) ≡ all_second (cached_nodes_in nodes old.base)
 
 -- a journal in which nothing is pending, whose transactions may write up to the device's end
 pub record Rests (log : Log) : Type 0 where
@@ -55,26 +55,26 @@ transaction_cost area = 2 * (area.sectors + 3)
 -- What a migration begins with: the volume holds the tree in version 1, its mark counts `moved`
 -- places, and the nodes are those of its sectors
 pub record BeginsMoving (mark : Option ℕ) (moved run : ℕ) (tree : Tree)
-    (cards : List (Option CachedNode))
+    (cached_nodes : List (Option CachedNode))
     (log : Log) : Type 0 where
-  pub marked : IsMark numbers.One (length cards) mark
+  pub marked : IsMark numbers.One (length cached_nodes) mark
   pub told : moved_by mark ≡ moved
-  pub stands : TreeStands (version_1 mark) log.size (length cards) log.base run tree
-  pub read : cards ≡ all_second (cards_in (length cards) log.base)
+  pub stands : TreeStands (version_1 mark) log.size (length cached_nodes) log.base run tree
+  pub read : cached_nodes ≡ all_second (cached_nodes_in (length cached_nodes) log.base)
 
 -- However it ends: at each moment the volume holds the tree in version 1, under the restart count
 -- that it had. The commit record takes a write and a sync, and each transaction at most one flush.
-pub record MovesSafely (moved : ℕ) (cards : List (Option CachedNode)) (old new : Log) : Type 0 where
+pub record MovesSafely (moved : ℕ) (cached_nodes : List (Option CachedNode)) (old new : Log) : Type 0 where
   pub moments : (mark : Option ℕ) (run : ℕ) (tree : Tree)
-      → BeginsMoving mark moved run tree cards old → AddsStill 1 (length cards) run tree old new
-  pub brief : MakesAtMost (2 + transactions_for (length cards - moved) * transaction_cost old.area)
+      → BeginsMoving mark moved run tree cached_nodes old → AddsStill 1 (length cached_nodes) run tree old new
+  pub brief : MakesAtMost (2 + transactions_for (length cached_nodes - moved) * transaction_cost old.area)
       old new
 
 -- and in the end the mark counts all places
 abbrev pub HasMovedAll : (moved : ℕ) → List (Option CachedNode) → (old new : Log) → Type 0
-HasMovedAll moved cards old new =
-    (mark : Option ℕ) (run : ℕ) (tree : Tree) → BeginsMoving mark moved run tree cards old
-    → IsMoved (version_1 (Some (length cards))) (length cards) run tree old new
+HasMovedAll moved cached_nodes old new =
+    (mark : Option ℕ) (run : ℕ) (tree : Tree) → BeginsMoving mark moved run tree cached_nodes old
+    → IsMoved (version_1 (Some (length cached_nodes))) (length cached_nodes) run tree old new
 
 -- The mark is removed from version 2, in which the volume holds the tree at each moment, by one
 -- transaction

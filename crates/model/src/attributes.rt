@@ -1,7 +1,7 @@
 //! The values of attributes, and the entries of lists, on the wire: their laws.
 
 ghost use Rattle.std.specs.Prelude.{ℕ, List};
-ghost use Rattle.xdr.specs.Laws.{Exact, OneSpelling};
+ghost use Rattle.xdr.specs.Laws.{Exact, OneEncoding};
 ghost use Rattle.model.specs.Attributes.AclText.{ReadsEntries, ReadsNames, ReadsNumbers, WritesEntries};
 ghost use Rattle.model.specs.Attributes.Attribute.{GivenListsFit};
 ghost use Rattle.model.specs.Attributes.AttributeValue.{ReadsWhole, values};
@@ -12,7 +12,7 @@ ghost use Rattle.model.specs.Attributes.NodeAttributes.{AnswersAsked, AnswersSup
 #[tactic(auto, using(crate::proofs::Wire::AttributeExact::values_exact, crate::proofs::Wire::AttributeExact::one_values))]
 pub fn values_are_exact()
     ensures exact { (attributes : List ℕ) → Exact (values attributes) }
-    ensures one { (attributes : List ℕ) → OneSpelling (values attributes) }
+    ensures one { (attributes : List ℕ) → OneEncoding (values attributes) }
     ensures whole { ReadsWhole }
 {}
 

@@ -1,9 +1,9 @@
 //! Records and calls on a stream (RFC 5531): their laws.
 
-ghost use Rattle.xdr.specs.Laws.{Exact, OneSpelling};
+ghost use Rattle.xdr.specs.Laws.{Exact, OneEncoding};
 ghost use Rattle.model.specs.Wire.Feeding.{EveryFeeding};
 ghost use Rattle.model.specs.Wire.Record.{EveryCut, EveryFragmenting, OnlySent, SentIsRead};
-ghost use Rattle.model.specs.Wire.Results.{EveryRequestHasResults, SpellsResults, compound_result};
+ghost use Rattle.model.specs.Wire.Results.{EveryRequestHasResults, EncodesResults, compound_result};
 ghost use Rattle.model.specs.Wire.RpcGrammar.{ReadsCalls, ReadsCredentials, ReadsReplies, call_head, reply_head};
 
 /// The records of a stream are the same however it was cut into pieces (RFC 5531, section 11).
@@ -32,7 +32,7 @@ pub fn only_sent()
 /// call's arguments; no header is a prefix of another (RFC 5531, section 9).
 pub fn calls_are_exact()
     ensures exact { Exact call_head }
-    ensures one { OneSpelling call_head }
+    ensures one { OneEncoding call_head }
     ensures read { ReadsCalls }
     ensures credentials { ReadsCredentials }
 {}
@@ -41,7 +41,7 @@ pub fn calls_are_exact()
 /// another.
 pub fn replies_are_exact()
     ensures exact { Exact reply_head }
-    ensures one { OneSpelling reply_head }
+    ensures one { OneEncoding reply_head }
     ensures read { ReadsReplies }
 {}
 
@@ -50,8 +50,8 @@ pub fn replies_are_exact()
 /// every run (RFC 8881, section 16.2.2).
 pub fn results_are_exact()
     ensures exact { Exact compound_result }
-    ensures one { OneSpelling compound_result }
-    ensures spelled { SpellsResults }
+    ensures one { OneEncoding compound_result }
+    ensures encoded { EncodesResults }
     ensures each { EveryRequestHasResults }
 {}
 

@@ -22,55 +22,55 @@ use Rattle.node_table.proofs.IndexLaws.{with-last, without-entry}
 
 abbrev worth_there : (CachedNode → ℕ) → Option CachedNode → ℕ
 worth_there worth None = 0
-worth_there worth (Some card) = worth card
+worth_there worth (Some cached) = worth cached
 
-sum-set : (worth : CachedNode → ℕ) (cards : List (Option CachedNode)) (place : ℕ) (card : Option CachedNode) → place < length cards
-    → sum_over worth (set cards place card) + worth_there worth (get_or cards place None) ≡ sum_over worth cards + worth_there worth card
-sum-set worth [] place card h = absurd (omega arith)
-sum-set worth (None ∷ cards) zero None h = refl
-sum-set worth (None ∷ cards) zero (Some card) h = omega arith
-sum-set worth (Some one ∷ cards) zero None h = omega arith
-sum-set worth (Some one ∷ cards) zero (Some card) h = omega arith
-sum-set worth (None ∷ cards) (suc place) card h = sum-set worth cards place card (omega arith)
-sum-set worth (Some one ∷ cards) (suc place) card h = omega (arith, sum-set worth cards place card (omega arith))
+sum-set : (worth : CachedNode → ℕ) (cached_nodes : List (Option CachedNode)) (place : ℕ) (cached : Option CachedNode) → place < length cached_nodes
+    → sum_over worth (set cached_nodes place cached) + worth_there worth (get_or cached_nodes place None) ≡ sum_over worth cached_nodes + worth_there worth cached
+sum-set worth [] place cached h = absurd (omega arith)
+sum-set worth (None ∷ cached_nodes) zero None h = refl
+sum-set worth (None ∷ cached_nodes) zero (Some cached) h = omega arith
+sum-set worth (Some one ∷ cached_nodes) zero None h = omega arith
+sum-set worth (Some one ∷ cached_nodes) zero (Some cached) h = omega arith
+sum-set worth (None ∷ cached_nodes) (suc place) cached h = sum-set worth cached_nodes place cached (omega arith)
+sum-set worth (Some one ∷ cached_nodes) (suc place) cached h = omega (arith, sum-set worth cached_nodes place cached (omega arith))
 
-charge-there : (card : Option CachedNode) → worth_there charge_of card ≡ charge_there card
+charge-there : (cached : Option CachedNode) → worth_there charge_of cached ≡ charge_there cached
 charge-there None = refl
-charge-there (Some card) = refl
+charge-there (Some cached) = refl
 
-pub charge-set : (cards : List (Option CachedNode)) (place : ℕ) (card : Option CachedNode) → place < length cards
-    → charge_of_all (set cards place card) + charge_there (get_or cards place None) ≡ charge_of_all cards + charge_there card
-charge-set cards place card h = omega (arith, sum-set charge_of cards place card h, charge-there (get_or cards place None), charge-there card)
+pub charge-set : (cached_nodes : List (Option CachedNode)) (place : ℕ) (cached : Option CachedNode) → place < length cached_nodes
+    → charge_of_all (set cached_nodes place cached) + charge_there (get_or cached_nodes place None) ≡ charge_of_all cached_nodes + charge_there cached
+charge-set cached_nodes place cached h = omega (arith, sum-set charge_of cached_nodes place cached h, charge-there (get_or cached_nodes place None), charge-there cached)
 
-pub charge-most : (card : CachedNode) → length card.blocks ≤ 4096 → charge_of card ≤ 4105
-charge-most card few = omega arith
+pub charge-most : (cached : CachedNode) → length cached.blocks ≤ 4096 → charge_of cached ≤ 4105
+charge-most cached few = omega arith
 
-pub charges-most : (cards : List (Option CachedNode)) → ((place : ℕ) (card : CachedNode) → get_or cards place None ≡ Some card → length card.blocks ≤ 4096) → charge_of_all cards ≤ 4105 * length cards
+pub charges-most : (cached_nodes : List (Option CachedNode)) → ((place : ℕ) (cached : CachedNode) → get_or cached_nodes place None ≡ Some cached → length cached.blocks ≤ 4096) → charge_of_all cached_nodes ≤ 4105 * length cached_nodes
 charges-most [] each = omega arith
-charges-most (None ∷ cards) each = omega (arith, charges-most cards (λ place card is. each (suc place) card is))
-charges-most (Some one ∷ cards) each = omega (arith, charge-most one (each 0 one refl), charges-most cards (λ place card is. each (suc place) card is))
+charges-most (None ∷ cached_nodes) each = omega (arith, charges-most cached_nodes (λ place cached is. each (suc place) cached is))
+charges-most (Some one ∷ cached_nodes) each = omega (arith, charge-most one (each 0 one refl), charges-most cached_nodes (λ place cached is. each (suc place) cached is))
 
 -- what is there is part of the sum
-pub charge-within : (cards : List (Option CachedNode)) (place : ℕ) → charge_there (get_or cards place None) ≤ charge_of_all cards
+pub charge-within : (cached_nodes : List (Option CachedNode)) (place : ℕ) → charge_there (get_or cached_nodes place None) ≤ charge_of_all cached_nodes
 charge-within [] place = omega arith
-charge-within (None ∷ cards) zero = omega arith
-charge-within (Some one ∷ cards) zero = omega arith
-charge-within (None ∷ cards) (suc place) = charge-within cards place
-charge-within (Some one ∷ cards) (suc place) = omega (arith, charge-within cards place)
+charge-within (None ∷ cached_nodes) zero = omega arith
+charge-within (Some one ∷ cached_nodes) zero = omega arith
+charge-within (None ∷ cached_nodes) (suc place) = charge-within cached_nodes place
+charge-within (Some one ∷ cached_nodes) (suc place) = omega (arith, charge-within cached_nodes place)
 
 -- ---- free places
 
-vacant-here : (cards : List (Option CachedNode)) (place : ℕ) (card : Option CachedNode) → place < length cards → vacant place (set cards place card) ≡ vacancy card
-vacant-here [] place card h = absurd (omega arith)
-vacant-here (one ∷ cards) zero card h = refl
-vacant-here (one ∷ cards) (suc place) card h = vacant-here cards place card (omega arith)
+vacant-here : (cached_nodes : List (Option CachedNode)) (place : ℕ) (cached : Option CachedNode) → place < length cached_nodes → vacant place (set cached_nodes place cached) ≡ vacancy cached
+vacant-here [] place cached h = absurd (omega arith)
+vacant-here (one ∷ cached_nodes) zero cached h = refl
+vacant-here (one ∷ cached_nodes) (suc place) cached h = vacant-here cached_nodes place cached (omega arith)
 
-vacant-elsewhere : (cards : List (Option CachedNode)) (place : ℕ) (card : Option CachedNode) (n : ℕ) → n ≢ place → vacant n (set cards place card) ≡ vacant n cards
-vacant-elsewhere [] place card n off = refl
-vacant-elsewhere (one ∷ cards) zero card zero off = absurd (off refl)
-vacant-elsewhere (one ∷ cards) zero card (suc n) off = refl
-vacant-elsewhere (one ∷ cards) (suc place) card zero off = refl
-vacant-elsewhere (one ∷ cards) (suc place) card (suc n) off = vacant-elsewhere cards place card n (omega arith)
+vacant-elsewhere : (cached_nodes : List (Option CachedNode)) (place : ℕ) (cached : Option CachedNode) (n : ℕ) → n ≢ place → vacant n (set cached_nodes place cached) ≡ vacant n cached_nodes
+vacant-elsewhere [] place cached n off = refl
+vacant-elsewhere (one ∷ cached_nodes) zero cached zero off = absurd (off refl)
+vacant-elsewhere (one ∷ cached_nodes) zero cached (suc n) off = refl
+vacant-elsewhere (one ∷ cached_nodes) (suc place) cached zero off = refl
+vacant-elsewhere (one ∷ cached_nodes) (suc place) cached (suc n) off = vacant-elsewhere cached_nodes place cached n (omega arith)
 
 pub times-remove : (n : ℕ) (numbers : List ℕ) (i d : ℕ) → i < length numbers → times n (remove numbers i) + once_if (eqb n (get_or numbers i d)) ≡ times n numbers
 times-remove n [] i d h = absurd (omega arith)
@@ -81,175 +81,175 @@ pub times-push : (n : ℕ) (numbers : List ℕ) (one : ℕ) → times n (numbers
 times-push n [] one = omega arith
 times-push n (x ∷ numbers) one = omega (arith, times-push n numbers one)
 
-pub vacant-free : (cards : List (Option CachedNode)) (place : ℕ) → IsFree cards place → vacant place cards ≡ 1
+pub vacant-free : (cached_nodes : List (Option CachedNode)) (place : ℕ) → IsFree cached_nodes place → vacant place cached_nodes ≡ 1
 vacant-free [] place free = absurd (omega (arith, free.within))
-vacant-free (one ∷ cards) zero free = ap vacancy free.free
-vacant-free (one ∷ cards) (suc place) free = vacant-free cards place (record { within = omega (arith, free.within); free = free.free })
+vacant-free (one ∷ cached_nodes) zero free = ap vacancy free.free
+vacant-free (one ∷ cached_nodes) (suc place) free = vacant-free cached_nodes place (record { within = omega (arith, free.within); free = free.free })
 
-pub free-vacant : (cards : List (Option CachedNode)) (place : ℕ) → 0 < vacant place cards → IsFree cards place
+pub free-vacant : (cached_nodes : List (Option CachedNode)) (place : ℕ) → 0 < vacant place cached_nodes → IsFree cached_nodes place
 free-vacant [] place some = absurd (omega arith)
-free-vacant (None ∷ cards) zero some = record { within = omega arith; free = refl }
-free-vacant (Some one ∷ cards) zero some = absurd (omega arith)
-free-vacant (one ∷ cards) (suc place) some = let rest = free-vacant cards place some in record { within = omega (arith, rest.within); free = rest.free }
+free-vacant (None ∷ cached_nodes) zero some = record { within = omega arith; free = refl }
+free-vacant (Some one ∷ cached_nodes) zero some = absurd (omega arith)
+free-vacant (one ∷ cached_nodes) (suc place) some = let rest = free-vacant cached_nodes place some in record { within = omega (arith, rest.within); free = rest.free }
 
-vacant-taken : (cards : List (Option CachedNode)) (place number : ℕ) → node_number_at cards place ≡ Some number → vacant place cards ≡ 0
+vacant-taken : (cached_nodes : List (Option CachedNode)) (place number : ℕ) → node_number_at cached_nodes place ≡ Some number → vacant place cached_nodes ≡ 0
 vacant-taken [] place number is = refl
-vacant-taken (None ∷ cards) zero number is = absurd (some≢none number (sym is))
-vacant-taken (Some one ∷ cards) zero number is = refl
-vacant-taken (one ∷ cards) (suc place) number is = vacant-taken cards place number is
+vacant-taken (None ∷ cached_nodes) zero number is = absurd (some≢none number (sym is))
+vacant-taken (Some one ∷ cached_nodes) zero number is = refl
+vacant-taken (one ∷ cached_nodes) (suc place) number is = vacant-taken cached_nodes place number is
 
 -- ---- numbers
 
-pub within-numbered : (cards : List (Option CachedNode)) (place number : ℕ) → node_number_at cards place ≡ Some number → place < length cards
-within-numbered cards place number is = elim (cases_lt place (length cards)) [
+pub within-numbered : (cached_nodes : List (Option CachedNode)) (place number : ℕ) → node_number_at cached_nodes place ≡ Some number → place < length cached_nodes
+within-numbered cached_nodes place number is = elim (cases_lt place (length cached_nodes)) [
   | inl low ↦ low
-  | inr high ↦ absurd (some≢none number (sym is ∙ ap node_number (get_or_past cards place None high)))
+  | inr high ↦ absurd (some≢none number (sym is ∙ ap node_number (get_or_past cached_nodes place None high)))
 ]
 
-number-here : (cards : List (Option CachedNode)) (place : ℕ) (card : Option CachedNode) → place < length cards → node_number_at (set cards place card) place ≡ node_number card
-number-here cards place card h = ap node_number (get_or-set_same cards place card None h)
+number-here : (cached_nodes : List (Option CachedNode)) (place : ℕ) (cached : Option CachedNode) → place < length cached_nodes → node_number_at (set cached_nodes place cached) place ≡ node_number cached
+number-here cached_nodes place cached h = ap node_number (get_or-set_same cached_nodes place cached None h)
 
-number-elsewhere : (cards : List (Option CachedNode)) (place : ℕ) (card : Option CachedNode) (n : ℕ) → n ≢ place → node_number_at (set cards place card) n ≡ node_number_at cards n
-number-elsewhere cards place card n off = ap node_number (get_or-set_other cards place n card None off)
+number-elsewhere : (cached_nodes : List (Option CachedNode)) (place : ℕ) (cached : Option CachedNode) (n : ℕ) → n ≢ place → node_number_at (set cached_nodes place cached) n ≡ node_number_at cached_nodes n
+number-elsewhere cached_nodes place cached n off = ap node_number (get_or-set_other cached_nodes place n cached None off)
 
-each-set : (cards : List (Option CachedNode)) (place : ℕ) (card : Option CachedNode) → place < length cards → ((one : CachedNode) → card ≡ Some one → length one.blocks ≤ 4096)
-    → ((p : ℕ) (one : CachedNode) → get_or cards p None ≡ Some one → length one.blocks ≤ 4096) → (p : ℕ) (one : CachedNode) → get_or (set cards place card) p None ≡ Some one → length one.blocks ≤ 4096
-each-set cards place card h few each p one is = elim (cases_eq p place) [
-  | inl here ↦ few one (sym (get_or-set_same cards place card None h) ∙ ap (λ (n : ℕ). get_or (set cards place card) n None) (sym here) ∙ is)
-  | inr off ↦ each p one (sym (get_or-set_other cards place p card None off) ∙ is)
+each-set : (cached_nodes : List (Option CachedNode)) (place : ℕ) (cached : Option CachedNode) → place < length cached_nodes → ((one : CachedNode) → cached ≡ Some one → length one.blocks ≤ 4096)
+    → ((p : ℕ) (one : CachedNode) → get_or cached_nodes p None ≡ Some one → length one.blocks ≤ 4096) → (p : ℕ) (one : CachedNode) → get_or (set cached_nodes place cached) p None ≡ Some one → length one.blocks ≤ 4096
+each-set cached_nodes place cached h few each p one is = elim (cases_eq p place) [
+  | inl here ↦ few one (sym (get_or-set_same cached_nodes place cached None h) ∙ ap (λ (n : ℕ). get_or (set cached_nodes place cached) n None) (sym here) ∙ is)
+  | inr off ↦ each p one (sym (get_or-set_other cached_nodes place p cached None off) ∙ is)
 ]
 
-counts : (cards : List (Option CachedNode)) (place : ℕ) (card : Option CachedNode)
-    → place < length cards
-    → count_of_all (set cards place card) + worth_there (λ c. 1) (get_or cards place None) ≡ count_of_all cards + worth_there (λ c. 1) card
+counts : (cached_nodes : List (Option CachedNode)) (place : ℕ) (cached : Option CachedNode)
+    → place < length cached_nodes
+    → count_of_all (set cached_nodes place cached) + worth_there (λ c. 1) (get_or cached_nodes place None) ≡ count_of_all cached_nodes + worth_there (λ c. 1) cached
 counts = sum-set (λ c. 1)
 
-count-there : (card : Option CachedNode) (number : ℕ) → node_number card ≡ Some number → worth_there (λ c. 1) card ≡ 1
+count-there : (cached : Option CachedNode) (number : ℕ) → node_number cached ≡ Some number → worth_there (λ c. 1) cached ≡ 1
 count-there None number is = absurd (some≢none number (sym is))
-count-there (Some card) number is = refl
+count-there (Some cached) number is = refl
 
 -- ---- a node is made
 
-module _ (cards : List (Option CachedNode)) (index : Keyed ℕ) (free : List ℕ) (charge place : ℕ) (card : CachedNode) (kept : IsIndexed cards index free charge) (is_free : IsFree cards place) (some : 0 < card.fields.number) (below : AreBelow cards card.fields.number) where
-  number_of_none : node_number_at cards place ≡ None
+module _ (cached_nodes : List (Option CachedNode)) (index : Keyed ℕ) (free : List ℕ) (charge place : ℕ) (cached : CachedNode) (kept : IsIndexed cached_nodes index free charge) (is_free : IsFree cached_nodes place) (some : 0 < cached.fields.number) (below : AreBelow cached_nodes cached.fields.number) where
+  number_of_none : node_number_at cached_nodes place ≡ None
   number_of_none = ap node_number is_free.free
 
-  fresh : (n : ℕ) → at card.fields.number index ≡ Some n → ⊥
-  fresh n is = let under : card.fields.number < card.fields.number = below n card.fields.number (kept.found card.fields.number n is) in omega arith
+  fresh : (n : ℕ) → at cached.fields.number index ≡ Some n → ⊥
+  fresh n is = let under : cached.fields.number < cached.fields.number = below n cached.fields.number (kept.found cached.fields.number n is) in omega arith
 
-  pushed : with index card.fields.number place ≡ index ++ (card.fields.number, place) ∷ []
-  pushed = with-last index 0 card.fields.number place kept.rising (λ k v is. below v k (kept.found k v is))
+  pushed : with index cached.fields.number place ≡ index ++ (cached.fields.number, place) ∷ []
+  pushed = with-last index 0 cached.fields.number place kept.rising (λ k v is. below v k (kept.found k v is))
 
-  found_made : (number n : ℕ) → at number (with index card.fields.number place) ≡ Some n → node_number_at (set cards place (Some card)) n ≡ Some number
-  found_made number n is = elim (cases_eq number card.fields.number) [
+  found_made : (number n : ℕ) → at number (with index cached.fields.number place) ≡ Some n → node_number_at (set cached_nodes place (Some cached)) n ≡ Some number
+  found_made number n is = elim (cases_eq number cached.fields.number) [
     | inl one ↦
-        let here : place ≡ n = same_Some place n (sym (at-with_same index card.fields.number place) ∙ ap (λ (k : ℕ). at k (with index card.fields.number place)) (sym one) ∙ is) in
-        ap (node_number_at (set cards place (Some card))) (sym here) ∙ number-here cards place (Some card) is_free.within ∙ ap (λ (k : ℕ). Some k) (sym one)
+        let here : place ≡ n = same_Some place n (sym (at-with_same index cached.fields.number place) ∙ ap (λ (k : ℕ). at k (with index cached.fields.number place)) (sym one) ∙ is) in
+        ap (node_number_at (set cached_nodes place (Some cached))) (sym here) ∙ number-here cached_nodes place (Some cached) is_free.within ∙ ap (λ (k : ℕ). Some k) (sym one)
     | inr off ↦
-        let there : node_number_at cards n ≡ Some number = kept.found number n (sym (at-with_other index card.fields.number number place off) ∙ is) in
-        number-elsewhere cards place (Some card) n (λ e. some≢none number (sym there ∙ ap (node_number_at cards) e ∙ number_of_none)) ∙ there
+        let there : node_number_at cached_nodes n ≡ Some number = kept.found number n (sym (at-with_other index cached.fields.number number place off) ∙ is) in
+        number-elsewhere cached_nodes place (Some cached) n (λ e. some≢none number (sym there ∙ ap (node_number_at cached_nodes) e ∙ number_of_none)) ∙ there
   ]
 
-  indexed_made : (number n : ℕ) → node_number_at (set cards place (Some card)) n ≡ Some number → at number (with index card.fields.number place) ≡ Some n
+  indexed_made : (number n : ℕ) → node_number_at (set cached_nodes place (Some cached)) n ≡ Some number → at number (with index cached.fields.number place) ≡ Some n
   indexed_made number n is = elim (cases_eq n place) [
     | inl here ↦
-        let one : card.fields.number ≡ number = same_Some card.fields.number number (sym (number-here cards place (Some card) is_free.within) ∙ ap (node_number_at (set cards place (Some card))) (sym here) ∙ is) in
-        ap (λ (k : ℕ). at k (with index card.fields.number place)) (sym one) ∙ at-with_same index card.fields.number place ∙ ap (λ (k : ℕ). Some k) (sym here)
+        let one : cached.fields.number ≡ number = same_Some cached.fields.number number (sym (number-here cached_nodes place (Some cached) is_free.within) ∙ ap (node_number_at (set cached_nodes place (Some cached))) (sym here) ∙ is) in
+        ap (λ (k : ℕ). at k (with index cached.fields.number place)) (sym one) ∙ at-with_same index cached.fields.number place ∙ ap (λ (k : ℕ). Some k) (sym here)
     | inr off ↦
-        let there : at number index ≡ Some n = kept.indexed number n (sym (number-elsewhere cards place (Some card) n off) ∙ is) in
-        at-with_other index card.fields.number number place (λ e. fresh n (ap (λ (k : ℕ). at k index) (sym e) ∙ there)) ∙ there
+        let there : at number index ≡ Some n = kept.indexed number n (sym (number-elsewhere cached_nodes place (Some cached) n off) ∙ is) in
+        at-with_other index cached.fields.number number place (λ e. fresh n (ap (λ (k : ℕ). at k index) (sym e) ∙ there)) ∙ there
   ]
 
-  pub made : (left : List ℕ) (charged : ℕ) → length card.blocks ≤ 4096 → ((n : ℕ) → times n left + times n (place ∷ []) ≡ times n free) → length left + 1 ≡ length free → charged ≡ charge + charge_of card
-      → IsIndexed (set cards place (Some card)) (index ++ (card.fields.number, place) ∷ []) left charged
+  pub made : (left : List ℕ) (charged : ℕ) → length cached.blocks ≤ 4096 → ((n : ℕ) → times n left + times n (place ∷ []) ≡ times n free) → length left + 1 ≡ length free → charged ≡ charge + charge_of cached
+      → IsIndexed (set cached_nodes place (Some cached)) (index ++ (cached.fields.number, place) ∷ []) left charged
   made left charged few taken len charged_is =
-      let none : get_or cards place None ≡ None = is_free.free in
-      let no_charge : charge_there (get_or cards place None) ≡ 0 = ap charge_there none in
-      let no_count : worth_there (λ c. 1) (get_or cards place None) ≡ 0 = ap (worth_there (λ c. 1)) none in
-      let longer = length-append index ((card.fields.number, place) ∷ []) in
+      let none : get_or cached_nodes place None ≡ None = is_free.free in
+      let no_charge : charge_there (get_or cached_nodes place None) ≡ 0 = ap charge_there none in
+      let no_count : worth_there (λ c. 1) (get_or cached_nodes place None) ≡ 0 = ap (worth_there (λ c. 1)) none in
+      let longer = length-append index ((cached.fields.number, place) ∷ []) in
       record {
-        few = omega (arith, length-set cards place (Some card), kept.few);
-        each = each-set cards place (Some card) is_free.within (λ one is. subst (λ (c : CachedNode). length c.blocks ≤ 4096) (same_Some card one is) few) kept.each;
-        rising = subst (IsAbove 0) pushed (IsAbove-with index card.fields.number 0 place kept.rising some);
+        few = omega (arith, length-set cached_nodes place (Some cached), kept.few);
+        each = each-set cached_nodes place (Some cached) is_free.within (λ one is. subst (λ (c : CachedNode). length c.blocks ≤ 4096) (same_Some cached one is) few) kept.each;
+        rising = subst (IsAbove 0) pushed (IsAbove-with index cached.fields.number 0 place kept.rising some);
         found = λ number n is. found_made number n (ap (at number) pushed ∙ is);
         indexed = λ number n is. ap (at number) (sym pushed) ∙ indexed_made number n is;
         places = λ n. elim (cases_eq n place) [
-          | inl e ↦ omega (arith, taken n, kept.places n, vacant-here cards place (Some card) is_free.within, vacant-free cards place is_free, ap (λ (k : ℕ). vacant k cards) e, ap (λ (k : ℕ). vacant k (set cards place (Some card))) e, ap once_if (eq-eqb n place e))
-          | inr off ↦ omega (arith, taken n, kept.places n, vacant-elsewhere cards place (Some card) n off, ap once_if (ne_eqb n place off))
+          | inl e ↦ omega (arith, taken n, kept.places n, vacant-here cached_nodes place (Some cached) is_free.within, vacant-free cached_nodes place is_free, ap (λ (k : ℕ). vacant k cached_nodes) e, ap (λ (k : ℕ). vacant k (set cached_nodes place (Some cached))) e, ap once_if (eq-eqb n place e))
+          | inr off ↦ omega (arith, taken n, kept.places n, vacant-elsewhere cached_nodes place (Some cached) n off, ap once_if (ne_eqb n place off))
         ];
-        whole = omega (arith, kept.whole, length-set cards place (Some card));
-        count_is = omega (arith, kept.count_is, counts cards place (Some card) is_free.within);
-        charge_is = omega (arith, kept.charge_is, charge-set cards place (Some card) is_free.within);
+        whole = omega (arith, kept.whole, length-set cached_nodes place (Some cached));
+        count_is = omega (arith, kept.count_is, counts cached_nodes place (Some cached) is_free.within);
+        charge_is = omega (arith, kept.charge_is, charge-set cached_nodes place (Some cached) is_free.within);
       }
 
 -- ---- a node is replaced
 
-pub replaced : (cards : List (Option CachedNode)) (index : Keyed ℕ) (free : List ℕ) (charge place charged : ℕ) (card : CachedNode) → IsIndexed cards index free charge → node_number_at cards place ≡ Some card.fields.number
-    → length card.blocks ≤ 4096 → charged + charge_there (get_or cards place None) ≡ charge + charge_of card → IsIndexed (set cards place (Some card)) index free charged
-replaced cards index free charge place charged card kept there few charged_is =
-    let within = within-numbered cards place card.fields.number there in
-    let same : (n : ℕ) → node_number_at (set cards place (Some card)) n ≡ node_number_at cards n = λ n. elim (cases_eq n place) [
-      | inl here ↦ ap (node_number_at (set cards place (Some card))) here ∙ number-here cards place (Some card) within ∙ sym there ∙ ap (node_number_at cards) (sym here)
-      | inr off ↦ number-elsewhere cards place (Some card) n off
+pub replaced : (cached_nodes : List (Option CachedNode)) (index : Keyed ℕ) (free : List ℕ) (charge place charged : ℕ) (cached : CachedNode) → IsIndexed cached_nodes index free charge → node_number_at cached_nodes place ≡ Some cached.fields.number
+    → length cached.blocks ≤ 4096 → charged + charge_there (get_or cached_nodes place None) ≡ charge + charge_of cached → IsIndexed (set cached_nodes place (Some cached)) index free charged
+replaced cached_nodes index free charge place charged cached kept there few charged_is =
+    let within = within-numbered cached_nodes place cached.fields.number there in
+    let same : (n : ℕ) → node_number_at (set cached_nodes place (Some cached)) n ≡ node_number_at cached_nodes n = λ n. elim (cases_eq n place) [
+      | inl here ↦ ap (node_number_at (set cached_nodes place (Some cached))) here ∙ number-here cached_nodes place (Some cached) within ∙ sym there ∙ ap (node_number_at cached_nodes) (sym here)
+      | inr off ↦ number-elsewhere cached_nodes place (Some cached) n off
     ] in
     record {
-      few = omega (arith, length-set cards place (Some card), kept.few);
-      each = each-set cards place (Some card) within (λ one is. subst (λ (c : CachedNode). length c.blocks ≤ 4096) (same_Some card one is) few) kept.each;
+      few = omega (arith, length-set cached_nodes place (Some cached), kept.few);
+      each = each-set cached_nodes place (Some cached) within (λ one is. subst (λ (c : CachedNode). length c.blocks ≤ 4096) (same_Some cached one is) few) kept.each;
       rising = kept.rising;
       found = λ number n is. same n ∙ kept.found number n is;
       indexed = λ number n is. kept.indexed number n (sym (same n) ∙ is);
       places = λ n. kept.places n ∙ elim (cases_eq n place) [
-        | inl e ↦ ap (λ (k : ℕ). vacant k cards) e ∙ vacant-taken cards place card.fields.number there ∙ sym (vacant-here cards place (Some card) within) ∙ ap (λ (k : ℕ). vacant k (set cards place (Some card))) (sym e)
-        | inr off ↦ sym (vacant-elsewhere cards place (Some card) n off)
+        | inl e ↦ ap (λ (k : ℕ). vacant k cached_nodes) e ∙ vacant-taken cached_nodes place cached.fields.number there ∙ sym (vacant-here cached_nodes place (Some cached) within) ∙ ap (λ (k : ℕ). vacant k (set cached_nodes place (Some cached))) (sym e)
+        | inr off ↦ sym (vacant-elsewhere cached_nodes place (Some cached) n off)
       ];
-      whole = omega (arith, kept.whole, length-set cards place (Some card));
-      count_is = omega (arith, kept.count_is, counts cards place (Some card) within, count-there (get_or cards place None) card.fields.number there);
-      charge_is = omega (arith, kept.charge_is, charge-set cards place (Some card) within);
+      whole = omega (arith, kept.whole, length-set cached_nodes place (Some cached));
+      count_is = omega (arith, kept.count_is, counts cached_nodes place (Some cached) within, count-there (get_or cached_nodes place None) cached.fields.number there);
+      charge_is = omega (arith, kept.charge_is, charge-set cached_nodes place (Some cached) within);
     }
 
 -- ---- a node is removed
 
-module _ (cards : List (Option CachedNode)) (index : Keyed ℕ) (free : List ℕ) (charge place number : ℕ) (kept : IsIndexed cards index free charge) (there : node_number_at cards place ≡ Some number) where
-  within : place < length cards
-  within = within-numbered cards place number there
+module _ (cached_nodes : List (Option CachedNode)) (index : Keyed ℕ) (free : List ℕ) (charge place number : ℕ) (kept : IsIndexed cached_nodes index free charge) (there : node_number_at cached_nodes place ≡ Some number) where
+  within : place < length cached_nodes
+  within = within-numbered cached_nodes place number there
 
-  gone : node_number_at (set cards place None) place ≡ None
-  gone = number-here cards place None within
+  gone : node_number_at (set cached_nodes place None) place ≡ None
+  gone = number-here cached_nodes place None within
 
-  found_removed : (other n : ℕ) → at other (without index number) ≡ Some n → node_number_at (set cards place None) n ≡ Some other
+  found_removed : (other n : ℕ) → at other (without index number) ≡ Some n → node_number_at (set cached_nodes place None) n ≡ Some other
   found_removed other n is = elim (cases_eq other number) [
     | inl one ↦ absurd (some≢none n (sym is ∙ ap (λ (k : ℕ). at k (without index number)) one ∙ at-without_same index number))
     | inr off ↦
-        let found : node_number_at cards n ≡ Some other = kept.found other n (sym (at-without_other index number other off) ∙ is) in
-        number-elsewhere cards place None n (λ e. off (same_Some other number (sym found ∙ ap (node_number_at cards) e ∙ there))) ∙ found
+        let found : node_number_at cached_nodes n ≡ Some other = kept.found other n (sym (at-without_other index number other off) ∙ is) in
+        number-elsewhere cached_nodes place None n (λ e. off (same_Some other number (sym found ∙ ap (node_number_at cached_nodes) e ∙ there))) ∙ found
   ]
 
-  indexed_removed : (other n : ℕ) → node_number_at (set cards place None) n ≡ Some other → at other (without index number) ≡ Some n
+  indexed_removed : (other n : ℕ) → node_number_at (set cached_nodes place None) n ≡ Some other → at other (without index number) ≡ Some n
   indexed_removed other n is = elim (cases_eq n place) [
-    | inl here ↦ absurd (some≢none other (sym is ∙ ap (node_number_at (set cards place None)) here ∙ gone))
+    | inl here ↦ absurd (some≢none other (sym is ∙ ap (node_number_at (set cached_nodes place None)) here ∙ gone))
     | inr off ↦
-        let at_n : at other index ≡ Some n = kept.indexed other n (sym (number-elsewhere cards place None n off) ∙ is) in
+        let at_n : at other index ≡ Some n = kept.indexed other n (sym (number-elsewhere cached_nodes place None n off) ∙ is) in
         at-without_other index number other (λ e. off (same_Some n place (sym at_n ∙ ap (λ (k : ℕ). at k index) e ∙ kept.indexed number place there))) ∙ at_n
   ]
 
-  pub removed : (i charged : ℕ) → i < length index → key_at index i ≡ number → charged + charge_there (get_or cards place None) ≡ charge
-      → IsIndexed (set cards place None) (remove index i) (free ++ place ∷ []) charged
+  pub removed : (i charged : ℕ) → i < length index → key_at index i ≡ number → charged + charge_there (get_or cached_nodes place None) ≡ charge
+      → IsIndexed (set cached_nodes place None) (remove index i) (free ++ place ∷ []) charged
   removed i charged h is charged_is =
       let left : without index number ≡ remove index i = ap (without index) (sym is) ∙ without-entry index 0 i kept.rising h in
       let longer = length-append free (place ∷ []) in
       record {
-        few = omega (arith, length-set cards place None, kept.few);
-        each = each-set cards place None within (λ one e. absurd (some≢none one (sym e))) kept.each;
+        few = omega (arith, length-set cached_nodes place None, kept.few);
+        each = each-set cached_nodes place None within (λ one e. absurd (some≢none one (sym e))) kept.each;
         rising = subst (IsAbove 0) left (IsAbove-without index number 0 kept.rising);
         found = λ other n e. found_removed other n (ap (at other) left ∙ e);
         indexed = λ other n e. ap (at other) (sym left) ∙ indexed_removed other n e;
         places = λ n. elim (cases_eq n place) [
-          | inl e ↦ omega (arith, times-push n free place, kept.places n, vacant-here cards place None within, vacant-taken cards place number there, ap (λ (k : ℕ). vacant k cards) e, ap (λ (k : ℕ). vacant k (set cards place None)) e, ap once_if (eq-eqb n place e))
-          | inr off ↦ omega (arith, times-push n free place, kept.places n, vacant-elsewhere cards place None n off, ap once_if (ne_eqb n place off))
+          | inl e ↦ omega (arith, times-push n free place, kept.places n, vacant-here cached_nodes place None within, vacant-taken cached_nodes place number there, ap (λ (k : ℕ). vacant k cached_nodes) e, ap (λ (k : ℕ). vacant k (set cached_nodes place None)) e, ap once_if (eq-eqb n place e))
+          | inr off ↦ omega (arith, times-push n free place, kept.places n, vacant-elsewhere cached_nodes place None n off, ap once_if (ne_eqb n place off))
         ];
-        whole = omega (arith, kept.whole, length-set cards place None, length-remove index i h);
-        count_is = omega (arith, kept.count_is, counts cards place None within, count-there (get_or cards place None) number there, length-remove index i h);
-        charge_is = omega (arith, kept.charge_is, charge-set cards place None within);
+        whole = omega (arith, kept.whole, length-set cached_nodes place None, length-remove index i h);
+        count_is = omega (arith, kept.count_is, counts cached_nodes place None within, count-there (get_or cached_nodes place None) number there, length-remove index i h);
+        charge_is = omega (arith, kept.charge_is, charge-set cached_nodes place None within);
       }
 
 -- ---- a table of free places
@@ -295,11 +295,11 @@ nones-more zero = refl
 nones-more (suc count) = let next : suc count + 1 ≡ suc (count + 1) = omega arith in ap (λ (l : List (Option CachedNode)). None ∷ l) (nones-more count) ∙ ap (λ (n : ℕ). replicate n None) (sym next)
 
 -- the last free place, if there is one
-pub free_found : (cards : List (Option CachedNode)) (index : Keyed ℕ) (free : List ℕ) (charge i : ℕ) (found : Option ℕ) → IsIndexed cards index free charge → found ≡ slice_get free i → IfSome found (IsFree cards)
-free_found cards index free charge i None kept is = tt
-free_found cards index free charge i (Some place) kept is =
+pub free_found : (cached_nodes : List (Option CachedNode)) (index : Keyed ℕ) (free : List ℕ) (charge i : ℕ) (found : Option ℕ) → IsIndexed cached_nodes index free charge → found ≡ slice_get free i → IfSome found (IsFree cached_nodes)
+free_found cached_nodes index free charge i None kept is = tt
+free_found cached_nodes index free charge i (Some place) kept is =
     let there = times-some place free i 0 (slice_get_within free i place (sym is)) (get_or_from_slice_get free i place 0 (sym is)) in
-    free-vacant cards place (omega (arith, kept.places place))
+    free-vacant cached_nodes place (omega (arith, kept.places place))
 
 none-worth : (worth : CachedNode → ℕ) (count : ℕ) → sum_over worth (replicate count None) ≡ 0
 none-worth worth zero = refl
@@ -308,7 +308,7 @@ none-worth worth (suc count) = none-worth worth count
 pub kept_none : (count : ℕ) (free : List ℕ) → count ≤ MAX_NODES → AreFirst count free → length free ≡ count → IsIndexed (replicate count None) [] free 0
 kept_none count free few are len = record {
   few = omega (arith, length-replicate {A = Option CachedNode} count None);
-  each = λ place card is. absurd (some≢none card (sym is ∙ nones-at count place));
+  each = λ place cached is. absurd (some≢none cached (sym is ∙ nones-at count place));
   rising = tt;
   found = λ number place is. absurd (some≢none place (sym is));
   indexed = λ number place is. absurd (some≢none number (sym is ∙ ap node_number (nones-at count place)));
@@ -319,6 +319,6 @@ kept_none count free few are len = record {
 }
 
 -- each number has one place, also among the cached nodes by their other name
-pub own-places : (cards : List (Option CachedNode)) (index : Keyed ℕ) (free : List ℕ) (charge : ℕ) (seen : List (Option CachedNode)) → IsIndexed cards index free charge → cards ≡ seen → HaveOwnPlaces seen
-own-places cards index free charge seen kept is =
+pub own-places : (cached_nodes : List (Option CachedNode)) (index : Keyed ℕ) (free : List ℕ) (charge : ℕ) (seen : List (Option CachedNode)) → IsIndexed cached_nodes index free charge → cached_nodes ≡ seen → HaveOwnPlaces seen
+own-places cached_nodes index free charge seen kept is =
     subst HaveOwnPlaces is (λ place other number here there. same_Some place other (sym (kept.indexed number place here) ∙ kept.indexed number other there))

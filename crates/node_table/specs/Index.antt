@@ -14,9 +14,9 @@ pub record IsAt (index : Keyed ℕ) (number i : ℕ) : Type 0 where
 -- the entries of the nodes in the order of their places, of which this is the first one
 abbrev pub entries_from : (first : ℕ) → List (Option CachedNode) → Keyed ℕ
 entries_from first [] = []
-entries_from first (None ∷ cards) = entries_from (first + 1) cards
-entries_from first (Some card ∷ cards) =
-    (card.fields.number, first) ∷ entries_from (first + 1) cards
+entries_from first (None ∷ cached_nodes) = entries_from (first + 1) cached_nodes
+entries_from first (Some cached ∷ cached_nodes) =
+    (cached.fields.number, first) ∷ entries_from (first + 1) cached_nodes
 
 -- no two neighbours have the same number
 abbrev pub AreDifferent : Keyed ℕ → Type 0

@@ -8,15 +8,15 @@ use Rattle.node_table.specs.Tables.{node_number_at, AreBelow}
 -- the cached nodes of a table, and the current ones
 pub record Overlaid : Type 0 where
   pub table : List (Option CachedNode)
-  pub cards : List (Option CachedNode)
+  pub cached_nodes : List (Option CachedNode)
 
 -- Changes: cached nodes, or none, by the places that they are for
 
 -- the cached nodes with these changes
 abbrev pub overlaid : List (Option CachedNode) → Keyed (Option CachedNode)
     → List (Option CachedNode)
-overlaid cards [] = cards
-overlaid cards (change ∷ changes) = set (overlaid cards changes) change.0 change.1
+overlaid cached_nodes [] = cached_nodes
+overlaid cached_nodes (change ∷ changes) = set (overlaid cached_nodes changes) change.0 change.1
 
 -- no place has two changes
 abbrev pub HaveOwnPlace : Keyed (Option CachedNode) → Type 0
@@ -40,9 +40,9 @@ pub record IsMade (old new : List (Option CachedNode)) (place number : ℕ) : Ty
   pub before : node_number_at old place ≢ Some number
 
 -- a number above 0 and above those of all nodes
-pub record IsFresh (cards : List (Option CachedNode)) (number : ℕ) : Type 0 where
+pub record IsFresh (cached_nodes : List (Option CachedNode)) (number : ℕ) : Type 0 where
   pub some : 0 < number
-  pub above : AreBelow cards number
+  pub above : AreBelow cached_nodes number
 
 -- nodes are removed and replaced, and at most one is made, with a fresh number
 pub record CanBecome (old new : List (Option CachedNode)) : Type 0 where

@@ -22,14 +22,14 @@ pub(crate) fn entry_of(index: &[(u64, u32)], number: u64) -> Option<usize>
 /// for each place.
 pub(crate) fn entries(
     alloc: Global,
-    cards: &[Option<CachedNode>],
+    cached_nodes: &[Option<CachedNode>],
 ) -> Result<Vec<(u64, u32)>, AllocError>
-    requires { length cards.now ≤ Table.MAX_NODES }
-    ensures entries { IfOk result (λ index. index.items ≡ entries_from 0 cards.now) }
-    ensures room { IfOk result (λ index. vec_capacity index ≡ length cards.now) }
+    requires { length cached_nodes.now ≤ Table.MAX_NODES }
+    ensures entries { IfOk result (λ index. index.items ≡ entries_from 0 cached_nodes.now) }
+    ensures room { IfOk result (λ index. vec_capacity index ≡ length cached_nodes.now) }
 {
-    let mut index = Vec::with_capacity(alloc, cards.len())?;
-    for (place, cached) in cards.iter().enumerate() {
+    let mut index = Vec::with_capacity(alloc, cached_nodes.len())?;
+    for (place, cached) in cached_nodes.iter().enumerate() {
         if let Some(cached) = cached {
             index.push_reserved((cached.inode.number, place as u32));
         }

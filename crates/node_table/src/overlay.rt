@@ -30,7 +30,7 @@ impl<'a> Model for Overlay<'a> {
 
     ghost view = { λ overlay. record {
       table = overlay.table.now;
-      cards = overlaid overlay.table.now overlay.changes.items;
+      cached_nodes = overlaid overlay.table.now overlay.changes.items;
     } };
 
     ghost invariant = { λ overlay. HaveOwnPlace overlay.changes.items
@@ -44,7 +44,7 @@ impl<'a> Overlay<'a> {
     /// The cached nodes of a table, none of them changed.
     pub fn new(alloc: Global, table: &'a Table) -> Result<Overlay<'a>, AllocError>
         ensures table { IfOk result (λ overlay. overlay.table ≡ table.now) }
-        ensures cards { IfOk result (λ overlay. overlay.cards ≡ table.now) }
+        ensures cached_nodes { IfOk result (λ overlay. overlay.cached_nodes ≡ table.now) }
     {
         let changes = Vec::with_capacity(alloc, Overlay::ROOM)?;
         Ok(Overlay {
@@ -56,7 +56,7 @@ impl<'a> Overlay<'a> {
 
     /// How many places there are.
     pub fn places(&self) -> u32
-        ensures { result ≡ length self.now.cards }
+        ensures { result ≡ length self.now.cached_nodes }
     {
         self.table.places()
     }
@@ -64,8 +64,8 @@ impl<'a> Overlay<'a> {
     /// The cached node at a place.
     pub fn cached(&self, place: u32) -> Option<&CachedNode>
         ensures some { IfSome result (λ cached.
-            slice_index_or self.now.cards place None ≡ Some cached.now) }
-        ensures none { IfNone result (slice_index_or self.now.cards place None ≡ None) }
+            slice_index_or self.now.cached_nodes place None ≡ Some cached.now) }
+        ensures none { IfNone result (slice_index_or self.now.cached_nodes place None ≡ None) }
     {
         match change_of(&self.changes, place) {
             Some(i) => self.changes[i].1.as_ref(),
@@ -75,8 +75,8 @@ impl<'a> Overlay<'a> {
 
     /// The place of the node with a number.
     pub fn find(&self, number: u64) -> Option<u32>
-        ensures some { IfSome result (λ place. node_number_at self.now.cards place ≡ Some number) }
-        ensures none { IfNone result (HasNoNode self.now.cards number) }
+        ensures some { IfSome result (λ place. node_number_at self.now.cached_nodes place ≡ Some number) }
+        ensures none { IfNone result (HasNoNode self.now.cached_nodes number) }
     {
         if let Some(i) = change_to(&self.changes, number) {
             return Some(self.changes[i].0);
@@ -91,8 +91,8 @@ impl<'a> Overlay<'a> {
     /// A free place, if there is one. It remains free. The places are searched only if the next
     /// free one of the table is taken.
     pub fn free_place(&self) -> Option<u32>
-        ensures some { IfSome result (λ place. IsFree self.now.cards place) }
-        ensures none { IfNone result (AreTaken self.now.cards) }
+        ensures some { IfSome result (λ place. IsFree self.now.cached_nodes place) }
+        ensures none { IfNone result (AreTaken self.now.cached_nodes) }
     {
         match self.table.free_place() {
             Some(place) if self.cached(place).is_none() => Some(place),
@@ -102,8 +102,8 @@ impl<'a> Overlay<'a> {
 
     /// The lowest free place.
     fn first_free(&self) -> Option<u32>
-        ensures some { IfSome result (λ place. IsFree self.now.cards place) }
-        ensures none { IfNone result (AreTaken self.now.cards) }
+        ensures some { IfSome result (λ place. IsFree self.now.cached_nodes place) }
+        ensures none { IfNone result (AreTaken self.now.cached_nodes) }
     {
         for place in 0..self.places() {
             if self.cached(place).is_none() {
@@ -116,10 +116,10 @@ impl<'a> Overlay<'a> {
     /// Takes the cached node out of a place, which then has none. It is a copy if it was the
     /// table's. An `Err` changes nothing.
     pub fn take(&mut self, place: u32) -> Result<Option<CachedNode>, AllocError>
-        ensures cached { IfOk result (λ cached. cached ≡ slice_index_or self.old.cards place None) }
-        ensures cards { OnOk result (self.new.cards ≡ set self.old.cards place None) }
+        ensures cached { IfOk result (λ cached. cached ≡ slice_index_or self.old.cached_nodes place None) }
+        ensures cached_nodes { OnOk result (self.new.cached_nodes ≡ set self.old.cached_nodes place None) }
         ensures table { self.new.table ≡ self.old.table }
-        ensures err { OnErr result (self.new.cards ≡ self.old.cards) }
+        ensures err { OnErr result (self.new.cached_nodes ≡ self.old.cached_nodes) }
     {
         if let Some(i) = change_of(&self.changes, place) {
             return Ok(take_from(&mut self.changes, i));
@@ -139,11 +139,11 @@ impl<'a> Overlay<'a> {
     /// `AllocError`, but never if what is at the place already differs from what the table has
     /// there.
     pub fn put(&mut self, place: u32, cached: Option<CachedNode>) -> Result<(), AllocError>
-        requires { place < length self.old.cards }
-        ensures cards { OnOk result (self.new.cards ≡ set self.old.cards place cached) }
+        requires { place < length self.old.cached_nodes }
+        ensures cached_nodes { OnOk result (self.new.cached_nodes ≡ set self.old.cached_nodes place cached) }
         ensures table { self.new.table ≡ self.old.table }
-        ensures err { OnErr result (self.new.cards ≡ self.old.cards) }
-        ensures again { slice_index_or self.old.cards place None
+        ensures err { OnErr result (self.new.cached_nodes ≡ self.old.cached_nodes) }
+        ensures again { slice_index_or self.old.cached_nodes place None
             ≢ slice_index_or self.old.table place None → IsOk result }
     {
         match change_of(&self.changes, place) {
@@ -155,7 +155,7 @@ impl<'a> Overlay<'a> {
 
     /// What is to be done to the table, which is no longer borrowed.
     pub fn into_changes(self) -> Changes
-        ensures { overlaid self.entry.table result ≡ self.entry.cards }
+        ensures { overlaid self.entry.table result ≡ self.entry.cached_nodes }
     {
         let Overlay { changes, .. } = self;
         Changes::new(changes)

@@ -18,7 +18,7 @@ use std::marker::Model;
 /// changes one place of each list; removing one moves each of the numbers after it.
 #[derive(Drop)]
 pub struct Table {
-    cards: Vec<Option<CachedNode>>,
+    cached_nodes: Vec<Option<CachedNode>>,
     /// The numbers of the nodes and their places, by rising number.
     index: Vec<(u64, u32)>,
     /// The free places; the last one is the next to be taken.
@@ -34,11 +34,11 @@ impl Model for Table {
 
     ghost Value = { List (Option layout.CachedNode) };
 
-    ghost view = { λ table. table.cards.items };
+    ghost view = { λ table. table.cached_nodes.items };
 
     ghost invariant = { λ table.
-        IsIndexed table.cards.items table.index.items table.free.items table.charge
-        × HasCapacity table.cards.items (vec_capacity table.index) (vec_capacity table.free) };
+        IsIndexed table.cached_nodes.items table.index.items table.free.items table.charge
+        × HasCapacity table.cached_nodes.items (vec_capacity table.index) (vec_capacity table.free) };
 }
 
 impl Table {
@@ -52,13 +52,13 @@ impl Table {
     {
         let index = Vec::with_capacity(alloc, places as usize)?;
         let mut free = Vec::with_capacity(alloc, places as usize)?;
-        let mut cards = Vec::with_capacity(alloc, places as usize)?;
+        let mut cached_nodes = Vec::with_capacity(alloc, places as usize)?;
         for place in 0..places {
             free.push_reserved(place);
-            cards.push_reserved(None);
+            cached_nodes.push_reserved(None);
         }
         Ok(Table {
-            cards,
+            cached_nodes,
             index,
             free,
             charge: 0,
@@ -72,22 +72,25 @@ impl Table {
     ///
     /// [`TableFault::SameNumber`] exactly if two cached nodes have the same number;
     /// [`TableFault::Memory`].
-    pub fn from_cards(alloc: Global, cards: Vec<Option<CachedNode>>) -> Result<Table, TableFault>
-        requires few { length cards.items ≤ Table.MAX_NODES }
-        requires numbered { AreNumbered cards.items }
-        ensures table { IfOk result (λ table. table ≡ cards.items) }
-        ensures apart { OnOk result (HaveOwnPlaces cards.items) }
-        ensures same { IsErrOf result TableFault.SameNumber → ¬ HaveOwnPlaces cards.items }
+    pub fn from_cached_nodes(
+        alloc: Global,
+        cached_nodes: Vec<Option<CachedNode>>,
+    ) -> Result<Table, TableFault>
+        requires few { length cached_nodes.items ≤ Table.MAX_NODES }
+        requires numbered { AreNumbered cached_nodes.items }
+        ensures table { IfOk result (λ table. table ≡ cached_nodes.items) }
+        ensures apart { OnOk result (HaveOwnPlaces cached_nodes.items) }
+        ensures same { IsErrOf result TableFault.SameNumber → ¬ HaveOwnPlaces cached_nodes.items }
     {
-        let mut index = index::entries(alloc, &cards)?;
+        let mut index = index::entries(alloc, &cached_nodes)?;
         index::sort(&mut index);
         if !index::are_different(&index) {
             return Err(TableFault::SameNumber);
         }
-        let free = free_places(alloc, &cards)?;
-        let charge = charge_of_cards(&cards);
+        let free = free_places(alloc, &cached_nodes)?;
+        let charge = charge_of_cached_nodes(&cached_nodes);
         Ok(Table {
-            cards,
+            cached_nodes,
             index,
             free,
             charge,
@@ -99,7 +102,7 @@ impl Table {
         ensures places { result ≡ length self.now }
         ensures few { result ≤ Table.MAX_NODES }
     {
-        self.cards.len() as u32
+        self.cached_nodes.len() as u32
     }
 
     /// The cached node at a place.
@@ -108,7 +111,7 @@ impl Table {
             (λ cached. slice_index_or self.now place None ≡ Some cached.now) }
         ensures none { IfNone result (slice_index_or self.now place None ≡ None) }
     {
-        match self.cards.get(place as usize) {
+        match self.cached_nodes.get(place as usize) {
             Some(Some(cached)) => Some(cached),
             _ => None,
         }
@@ -157,7 +160,7 @@ impl Table {
         take_free(&mut self.free, place);
         self.index.push_reserved((cached.inode.number, place));
         self.charge += blocks_charge(&cached.blocks);
-        put_card(&mut self.cards, place, Some(cached));
+        put_cached(&mut self.cached_nodes, place, Some(cached));
     }
 
     /// Puts a cached node into the place of the one with its number.
@@ -165,9 +168,9 @@ impl Table {
         requires { node_number_at self.old place ≡ Some cached.fields.number }
         ensures { self.new ≡ set self.old place (Some cached) }
     {
-        self.charge -= charge_at(&self.cards, place);
+        self.charge -= charge_at(&self.cached_nodes, place);
         self.charge += blocks_charge(&cached.blocks);
-        put_card(&mut self.cards, place, Some(cached));
+        put_cached(&mut self.cached_nodes, place, Some(cached));
     }
 
     /// Removes the node with a number from its place.
@@ -180,21 +183,21 @@ impl Table {
         };
         self.index.remove(i);
         self.free.push_reserved(place);
-        self.charge -= charge_at(&self.cards, place);
-        put_card(&mut self.cards, place, None);
+        self.charge -= charge_at(&self.cached_nodes, place);
+        put_cached(&mut self.cached_nodes, place, None);
     }
 }
 
 /// The places without a cached node, with room for all places.
-fn free_places(alloc: Global, cards: &[Option<CachedNode>]) -> Result<Vec<u32>, AllocError>
-    requires { length cards.now ≤ Table.MAX_NODES }
-    ensures times { IfOk result (λ free. (n : ℕ) → times n free.items ≡ vacant n cards.now) }
+fn free_places(alloc: Global, cached_nodes: &[Option<CachedNode>]) -> Result<Vec<u32>, AllocError>
+    requires { length cached_nodes.now ≤ Table.MAX_NODES }
+    ensures times { IfOk result (λ free. (n : ℕ) → times n free.items ≡ vacant n cached_nodes.now) }
     ensures count { IfOk result (λ free.
-        length free.items + count_of_all cards.now ≡ length cards.now) }
-    ensures room { IfOk result (λ free. vec_capacity free ≡ length cards.now) }
+        length free.items + count_of_all cached_nodes.now ≡ length cached_nodes.now) }
+    ensures room { IfOk result (λ free. vec_capacity free ≡ length cached_nodes.now) }
 {
-    let mut free = Vec::with_capacity(alloc, cards.len())?;
-    for (place, cached) in cards.iter().enumerate() {
+    let mut free = Vec::with_capacity(alloc, cached_nodes.len())?;
+    for (place, cached) in cached_nodes.iter().enumerate() {
         if cached.is_none() {
             free.push_reserved(place as u32);
         }
@@ -203,13 +206,13 @@ fn free_places(alloc: Global, cards: &[Option<CachedNode>]) -> Result<Vec<u32>, 
 }
 
 /// What cached nodes take of the data region.
-fn charge_of_cards(cards: &[Option<CachedNode>]) -> u64
-    requires { length cards.now ≤ Table.MAX_NODES }
-    ensures charge { result ≡ charge_of_all cards.now }
-    ensures few { AreFew cards.now }
+fn charge_of_cached_nodes(cached_nodes: &[Option<CachedNode>]) -> u64
+    requires { length cached_nodes.now ≤ Table.MAX_NODES }
+    ensures charge { result ≡ charge_of_all cached_nodes.now }
+    ensures few { AreFew cached_nodes.now }
 {
     let mut charge = 0;
-    for cached in cards {
+    for cached in cached_nodes {
         if let Some(cached) = cached {
             charge += blocks_charge(&cached.blocks);
         }
@@ -256,19 +259,19 @@ fn blocks_charge(blocks: &BlockList) -> u64
 }
 
 /// What the cached node at a place takes of the data region.
-fn charge_at(cards: &[Option<CachedNode>], place: u32) -> u64
-    ensures { result ≡ charge_there (slice_index_or cards.now place None) }
+fn charge_at(cached_nodes: &[Option<CachedNode>], place: u32) -> u64
+    ensures { result ≡ charge_there (slice_index_or cached_nodes.now place None) }
 {
-    match cards.get(place as usize) {
+    match cached_nodes.get(place as usize) {
         Some(Some(cached)) => blocks_charge(&cached.blocks),
         _ => 0,
     }
 }
 
 /// Puts a cached node, or none, into a place.
-fn put_card(cards: &mut Vec<Option<CachedNode>>, place: u32, cached: Option<CachedNode>)
-    requires { place < length cards.old.items }
-    ensures { cards.new.items ≡ set cards.old.items place cached }
+fn put_cached(cached_nodes: &mut Vec<Option<CachedNode>>, place: u32, cached: Option<CachedNode>)
+    requires { place < length cached_nodes.old.items }
+    ensures { cached_nodes.new.items ≡ set cached_nodes.old.items place cached }
 {
-    cards[place as usize] = cached;
+    cached_nodes[place as usize] = cached;
 }

@@ -70,8 +70,8 @@ abbrev pub opened_stateid : (run : ℕ) → states.Opened → StateId
 opened_stateid run opened = open_stateid run opened.serial opened.state.seqid
 
 -- the context of the operation that a stateid is an argument of
-pub record StandsAt (standing : StateIdContext) (context : Context) : Type 0 where
-  pub client : context.client ≡ standing.client
-  pub run : context.run ≡ standing.run
-  pub number : current_number context ≡ standing.number
-  pub state : carried context.current ≡ option_map state_view standing.state
+pub record StandsAt (id_context : StateIdContext) (context : Context) : Type 0 where
+  pub client : context.client ≡ id_context.client
+  pub run : context.run ≡ id_context.run
+  pub number : current_number context ≡ id_context.number
+  pub state : carried context.current ≡ option_map state_view id_context.state

@@ -82,10 +82,10 @@ impl Entry {
     }
 
     /// Whether it is an open of the client on the file of the context.
-    pub(crate) fn is_of(&self, standing: &StateIdContext) -> bool
-        ensures { result ≡ (self.now.state.client == standing.now.client
-            && self.now.state.number == standing.now.number) }
+    pub(crate) fn is_of(&self, id_context: &StateIdContext) -> bool
+        ensures { result ≡ (self.now.state.client == id_context.now.client
+            && self.now.state.number == id_context.now.number) }
     {
-        self.state.client == standing.client && self.state.number == standing.number
+        self.state.client == id_context.client && self.state.number == id_context.number
     }
 }

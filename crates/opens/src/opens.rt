@@ -139,18 +139,18 @@ impl Opens {
     }
 
     /// What a stateid means in its context (RFC 8881, section 8.2.4).
-    pub fn find(&self, standing: &StateIdContext, state: &StateId) -> Found<'_>
-        ensures { (context : Context) → StandsAt standing.now context
+    pub fn find(&self, id_context: &StateIdContext, state: &StateId) -> Found<'_>
+        ensures { (context : Context) → StandsAt id_context.now context
             → found_of result ≡ found (opens_of self.now) context (state_view state.now) }
     {
-        let Some(state) = standing.meant(state) else {
+        let Some(state) = id_context.meant(state) else {
             return Found::Refused(Status::BadStateId);
         };
         if is_anonymous(&state) {
             return Found::Anonymous;
         }
-        match self.named(standing.run, &state.other) {
-            Some(entry) if entry.is_of(standing) => by_seqid(&state, entry),
+        match self.named(id_context.run, &state.other) {
+            Some(entry) if entry.is_of(id_context) => by_seqid(&state, entry),
             _ => Found::Refused(Status::BadStateId),
         }
     }

@@ -371,7 +371,7 @@ gives_then {S = S} {h = h} {new = new} before mid after reply result one same in
         consumed = rw (sends.same.2, same) (consumes_none (h.coming before.stream));
         fed = sends.same.1 ∙ inbox ∙ sym (append-nil before.inbox);
         appended = subst (λ (stream : S). Appends (h.gone stream) (h.gone after.stream) sends.written) same sends.appended;
-        sent = sends.sent ∙ left ∙ ap (λ front. front ++ reply.items) (sym none);
+        sent = sends.sent ∙ left ∙ ap (λ prefix. prefix ++ reply.items) (sym none);
         conn = sends.same.0 ∙ conn;
         ends = λ is. absurd (sends.stays is);
       };

@@ -36,7 +36,7 @@ are-on-any few many connection shows (call ∷ calls) on =
 pub all-append : {A : Type 0} (by : ServerCall → List A) (more calls : List ServerCall) → all_by by (more ++ calls) ≡ all_by by calls ++ all_by by more
 all-append by [] calls = sym (append-nil (all_by by calls))
 all-append by (call ∷ more) calls =
-    ap (λ front. front ++ by call) (all-append by more calls) ∙ append_assoc (all_by by calls) (all_by by more) (by call)
+    ap (λ prefix. prefix ++ by call) (all-append by more calls) ∙ append_assoc (all_by by calls) (all_by by more) (by call)
 
 count-append : (by : ServerCall → ℕ) (more calls : List ServerCall) → count_by by (more ++ calls) ≡ count_by by calls + count_by by more
 count-append by [] calls = omega arith
@@ -176,9 +176,9 @@ appends_then None between new first more one two = tt
 appends_then (Some old) None new first more one two = absurd one
 appends_then (Some old) (Some between) None first more one two = absurd two
 appends_then (Some old) (Some between) (Some new) first more one two =
-    two ∙ ap (λ front. front ++ more) one ∙ append_assoc old first more
+    two ∙ ap (λ prefix. prefix ++ more) one ∙ append_assoc old first more
 
 -- what goes in and what comes out, first and then
 pub in_order : (a b x y z p q : List ℕ) → a ++ y ≡ x ++ p → b ++ z ≡ y ++ q → (a ++ b) ++ z ≡ x ++ (p ++ q)
 in_order a b x y z p q one two =
-    append_assoc a b z ∙ ap (λ rest. a ++ rest) two ∙ sym (append_assoc a y q) ∙ ap (λ front. front ++ q) one ∙ append_assoc x p q
+    append_assoc a b z ∙ ap (λ rest. a ++ rest) two ∙ sym (append_assoc a y q) ∙ ap (λ prefix. prefix ++ q) one ∙ append_assoc x p q

@@ -3,7 +3,7 @@ use Rattle.std.proofs.Common.{◌≡◌, ℕ, ◌+◌, ◌-◌, ◌<◌, ◌≤�
 use Rattle.std.proofs.lemmas.List.{length-drop, length-take-le, drop-drop, append-nil, take-append-drop}
 use Rattle.std.proofs.lemmas.List.Edits.{length-paste, take-paste, drop-paste}
 use Rattle.std.specs.List.{copy_within}
-use Rattle.model.specs.Wire.Record.{RecordTooBig, TooManyFragments, Gathered, nothing_gathered, Partial, Refused, Whole, front, front_from}
+use Rattle.model.specs.Wire.Record.{RecordTooBig, TooManyFragments, Gathered, nothing_gathered, Partial, Refused, Whole, prefix, prefix_from}
 use Rattle.rpc.specs.declared.fragment.Place.{Place}
 use Rattle.rpc.specs.declared.fragment.Fragment.{Fragment}
 use Rattle.rpc.specs.declared.fragment.Fragment.TheVariants as fragments
@@ -27,9 +27,9 @@ begins bytes place at size fragments =
     record {
       fuel = length bytes;
       walks = record {
-        on = ap (λ (n : ℕ). front_from record_limits (length bytes) (record { bytes = []; fragments = 0 }) (drop n bytes)) (sym at)
-            ∙ ap (λ (n : ℕ). front_from record_limits (length bytes) (record { bytes = take n bytes; fragments = 0 }) (drop place.at bytes)) (sym size)
-            ∙ ap (λ (n : ℕ). front_from record_limits (length bytes) (record { bytes = take place.size bytes; fragments = n }) (drop place.at bytes)) (sym fragments);
+        on = ap (λ (n : ℕ). prefix_from record_limits (length bytes) (record { bytes = []; fragments = 0 }) (drop n bytes)) (sym at)
+            ∙ ap (λ (n : ℕ). prefix_from record_limits (length bytes) (record { bytes = take n bytes; fragments = 0 }) (drop place.at bytes)) (sym size)
+            ∙ ap (λ (n : ℕ). prefix_from record_limits (length bytes) (record { bytes = take place.size bytes; fragments = n }) (drop place.at bytes)) (sym fragments);
         enough = omega (arith, length-drop place.at bytes);
         size = none;
         fragments = refl;
@@ -54,10 +54,10 @@ not_many old bytes place whole j is = let never : Refused TooManyFragments ≡ W
 moved : (bytes : List ℕ) (place : Place) (size : ℕ) → List ℕ
 moved bytes place size = copy_within bytes (place.at + 4) (place.at + 4 + size) place.size
 
-moved_front : (bytes : List ℕ) (place : Place) (size : ℕ) → place.size ≤ place.at → place.at + 4 + size ≤ length bytes
+moved_prefix : (bytes : List ℕ) (place : Place) (size : ℕ) → place.size ≤ place.at → place.at + 4 + size ≤ length bytes
     → take (place.size + size) (moved bytes place size) ≡ take place.size bytes ++ part_of size (drop place.at bytes)
 unfolding moved
-moved_front bytes place size behind whole =
+moved_prefix bytes place size behind whole =
     let n = place.at + 4 + size - (place.at + 4) in
     let is : n ≡ size = omega arith in
     ap (λ (m : ℕ). take (place.size + m) (moved bytes place size)) (sym is)
@@ -132,13 +132,13 @@ joins_on old bytes after place behind size is_last last_is j found after_is at_i
     let room : place.at + 4 + size ≤ length bytes = omega (arith, length-drop place.at bytes) in
     let taken : length (take place.size bytes) ≡ place.size = length-take-le place.size bytes (omega arith) in
     let walks = next behind size j.walks is size_is fragments_is in
-    let front_is : take place.size bytes ++ part_of size (drop place.at bytes) ≡ take behind.size after =
-    sym (moved_front bytes place size before room) ∙ ap (λ (n : ℕ). take n (moved bytes place size)) (sym size_is) ∙ ap (take behind.size) (sym after_is) in
+    let prefix_is : take place.size bytes ++ part_of size (drop place.at bytes) ≡ take behind.size after =
+    sym (moved_prefix bytes place size before room) ∙ ap (λ (n : ℕ). take n (moved bytes place size)) (sym size_is) ∙ ap (take behind.size) (sym after_is) in
     let rest_is : behind_part size (drop place.at bytes) ≡ drop behind.at after =
     sym (moved_rest bytes place size before room) ∙ ap (λ (n : ℕ). drop n (moved bytes place size)) (sym at_is) ∙ ap (drop behind.at) (sym after_is) in
     let long : length after ≡ length bytes = ap length after_is ∙ moved_length bytes place size before room in
     let there = subst (λ (rest : List ℕ). Walks old (record { bytes = take place.size bytes ++ part_of size (drop place.at bytes); fragments = place.fragments + 1 }) (j.fuel - 1) rest behind) rest_is walks in
-    let joined = subst (λ (all : List ℕ). Walks old (record { bytes = all; fragments = place.fragments + 1 }) (j.fuel - 1) (drop behind.at after) behind) front_is there in
+    let joined = subst (λ (all : List ℕ). Walks old (record { bytes = all; fragments = place.fragments + 1 }) (j.fuel - 1) (drop behind.at after) behind) prefix_is there in
     record {
       fuel = j.fuel - 1;
       walks = subst (λ (n : ℕ). Walks old (record { bytes = take behind.size after; fragments = n }) (j.fuel - 1) (drop behind.at after) behind) (sym fragments_is) joined;
@@ -148,7 +148,7 @@ joins_on old bytes after place behind size is_last last_is j found after_is at_i
     }
 
 pub joined : (old bytes after : List ℕ) (place : Place) (size : ℕ) (is_last : Bool) → is_last ≡ true → IsWhole old → (j : Joins old bytes place) → Found bytes place (fragments.Brings size is_last)
-    → after ≡ copy_within bytes (place.at + 4) (place.at + 4 + size) place.size → front record_limits old ≡ Whole (take (place.size + size) after) []
+    → after ≡ copy_within bytes (place.at + 4) (place.at + 4 + size) place.size → prefix record_limits old ≡ Whole (take (place.size + size) after) []
 unfolding moved
 joined old bytes after place size is_last last_is whole j found after_is =
     let is = subst (λ (b : Bool). Finds (gathered_in bytes place) (drop place.at bytes) (fragments.Brings size b)) last_is (seen old bytes place (fragments.Brings size is_last) j found) in
@@ -160,10 +160,10 @@ joined old bytes after place size is_last last_is whole j found after_is =
     let both : Whole (take place.size bytes ++ part_of size (drop place.at bytes)) (behind_part size (drop place.at bytes)) ≡ Whole whole.0 [] = sym e ∙ whole.1 in
     let none : behind_part size (drop place.at bytes) ≡ [] = cc in
     e ∙ ap (λ (rest : List ℕ). Whole (take place.size bytes ++ part_of size (drop place.at bytes)) rest) none
-    ∙ ap (λ (all : List ℕ). Whole all []) (sym (moved_front bytes place size before room) ∙ ap (take (place.size + size)) (sym after_is))
+    ∙ ap (λ (all : List ℕ). Whole all []) (sym (moved_prefix bytes place size before room) ∙ ap (take (place.size + size)) (sym after_is))
 
 -- a record of one fragment
-pub one_fragment : (bytes : List ℕ) (size : ℕ) → IsWhole bytes → Finds nothing_gathered bytes (fragments.Brings size true) → front record_limits bytes ≡ Whole (drop 4 bytes) []
+pub one_fragment : (bytes : List ℕ) (size : ℕ) → IsWhole bytes → Finds nothing_gathered bytes (fragments.Brings size true) → prefix record_limits bytes ≡ Whole (drop 4 bytes) []
 one_fragment bytes size whole is =
     let e = last size (begins bytes (record { at = 0; size = 0; fragments = 0 }) refl refl refl).walks is in
     let both : Whole (part_of size bytes) (behind_part size bytes) ≡ Whole whole.0 [] = sym e ∙ whole.1 in

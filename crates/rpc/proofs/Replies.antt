@@ -14,13 +14,13 @@ use Rattle.model.specs.Wire.Record.{framed}
 use Rattle.model.specs.Wire.Rpc.{Success, compound_text, reply_text}
 use Rattle.rpc.specs.declared.reply.Reply.{Reply}
 use Rattle.rpc.specs.declared.reply.Reply.TheVariants as replies
-use Rattle.rpc.specs.Views.{success_head, compound_front, frame_header, front_of, tail_of, reply_view}
+use Rattle.rpc.specs.Views.{success_head, compound_prefix, frame_header, prefix_of, tail_of, reply_view}
 
 pub framed_parts : (text : List ℕ) → framed text ≡ frame_header (length text) ++ text
 unfolding framed number
 framed_parts text = refl
 
-pub compound_parts : (status : Status) (tag : List ℕ) (count : ℕ) (results : List ℕ) → compound_text status tag count results ≡ compound_front status tag count ++ results
+pub compound_parts : (status : Status) (tag : List ℕ) (count : ℕ) (results : List ℕ) → compound_text status tag count results ≡ compound_prefix status tag count ++ results
 unfolding compound_text
 compound_parts status tag count results = simp append_assoc
 
@@ -28,7 +28,7 @@ success_parts : (xid : ℕ) (result : List ℕ) → reply_text xid (Success resu
 unfolding reply_text number
 success_parts xid result = refl
 
-pub reply_parts : (xid : ℕ) (reply : Reply) → reply_text xid (reply_view reply) ≡ front_of xid reply ++ tail_of reply
+pub reply_parts : (xid : ℕ) (reply : Reply) → reply_text xid (reply_view reply) ≡ prefix_of xid reply ++ tail_of reply
 unfolding reply_text number
 reply_parts xid replies.VersionRefused = refl
 reply_parts xid (replies.AuthRefused stat) = refl
@@ -39,18 +39,18 @@ reply_parts xid replies.GarbageArguments = refl
 reply_parts xid (replies.Success result) = refl
 reply_parts xid (replies.Compound compound) =
     ap (λ (result : List ℕ). reply_text xid (Success result)) (compound_parts compound.status compound.tag.bytes.now compound.count compound.results.now)
-    ∙ success_parts xid (compound_front compound.status compound.tag.bytes.now compound.count ++ compound.results.now)
-    ∙ sym (append_assoc (success_head xid) (compound_front compound.status compound.tag.bytes.now compound.count) compound.results.now)
+    ∙ success_parts xid (compound_prefix compound.status compound.tag.bytes.now compound.count ++ compound.results.now)
+    ∙ sym (append_assoc (success_head xid) (compound_prefix compound.status compound.tag.bytes.now compound.count) compound.results.now)
 
 -- the record of a reply, after other bytes
-pub record_parts : (before after tail : List ℕ) (size xid : ℕ) (reply : Reply) → after ≡ before ++ (frame_header size ++ front_of xid reply) → tail ≡ tail_of reply
+pub record_parts : (before after tail : List ℕ) (size xid : ℕ) (reply : Reply) → after ≡ before ++ (frame_header size ++ prefix_of xid reply) → tail ≡ tail_of reply
     → size ≡ length (reply_text xid (reply_view reply)) → after ++ tail ≡ before ++ framed (reply_text xid (reply_view reply))
 record_parts before after tail size xid reply after_is tail_is size_is =
     let text = reply_text xid (reply_view reply) in
-    ap (λ (front : List ℕ). front ++ tail) after_is
-    ∙ append_assoc before (frame_header size ++ front_of xid reply) tail
-    ∙ ap (λ (all : List ℕ). before ++ all) (append_assoc (frame_header size) (front_of xid reply) tail)
-    ∙ ap (λ (rest : List ℕ). before ++ (frame_header size ++ (front_of xid reply ++ rest))) tail_is
+    ap (λ (prefix : List ℕ). prefix ++ tail) after_is
+    ∙ append_assoc before (frame_header size ++ prefix_of xid reply) tail
+    ∙ ap (λ (all : List ℕ). before ++ all) (append_assoc (frame_header size) (prefix_of xid reply) tail)
+    ∙ ap (λ (rest : List ℕ). before ++ (frame_header size ++ (prefix_of xid reply ++ rest))) tail_is
     ∙ ap (λ (all : List ℕ). before ++ (frame_header size ++ all)) (sym (reply_parts xid reply))
     ∙ ap (λ (n : ℕ). before ++ (frame_header n ++ text)) size_is
     ∙ ap (λ (all : List ℕ). before ++ all) (sym (framed_parts text))
@@ -66,10 +66,10 @@ err_any (Ok x) P h = tt
 err_any (Err e) P h = h
 
 -- the beginning of a record is no longer than the record
-pub front_fits : (size xid : ℕ) (reply : Reply) → size ≡ length (reply_text xid (reply_view reply)) → length (frame_header size ++ front_of xid reply) ≤ length (framed (reply_text xid (reply_view reply)))
-front_fits size xid reply size_is =
-    let whole = record_parts [] (frame_header size ++ front_of xid reply) (tail_of reply) size xid reply refl refl size_is in
-    omega (arith, ap length whole, length-append (frame_header size ++ front_of xid reply) (tail_of reply))
+pub prefix_fits : (size xid : ℕ) (reply : Reply) → size ≡ length (reply_text xid (reply_view reply)) → length (frame_header size ++ prefix_of xid reply) ≤ length (framed (reply_text xid (reply_view reply)))
+prefix_fits size xid reply size_is =
+    let whole = record_parts [] (frame_header size ++ prefix_of xid reply) (tail_of reply) size xid reply refl refl size_is in
+    omega (arith, ap length whole, length-append (frame_header size ++ prefix_of xid reply) (tail_of reply))
 
 -- what is written of a reply is short
 
@@ -88,7 +88,7 @@ head_length : (xid : ℕ) → length (success_head xid) ≡ 24
 unfolding number
 head_length xid = refl
 
-compound_short : (xid : ℕ) (compound : CompoundResult) → length (front_of xid (replies.Compound compound)) ≤ 512
+compound_short : (xid : ℕ) (compound : CompoundResult) → length (prefix_of xid (replies.Compound compound)) ≤ 512
 compound_short xid compound =
     let status = code_of compound.status in
     let tag = compound.tag.bytes.now in
@@ -104,16 +104,16 @@ compound_short xid compound =
       length-counted tag,
     )
 
-front_short : (xid : ℕ) (reply : Reply) → length (front_of xid reply) ≤ 512
+prefix_short : (xid : ℕ) (reply : Reply) → length (prefix_of xid reply) ≤ 512
 unfolding number
-front_short xid replies.VersionRefused = omega arith
-front_short xid (replies.AuthRefused stat) = omega arith
-front_short xid replies.ProgramUnavailable = omega arith
-front_short xid replies.ProgramMismatch = omega arith
-front_short xid replies.ProcedureUnavailable = omega arith
-front_short xid replies.GarbageArguments = omega arith
-front_short xid (replies.Success result) = omega arith
-front_short xid (replies.Compound compound) = compound_short xid compound
+prefix_short xid replies.VersionRefused = omega arith
+prefix_short xid (replies.AuthRefused stat) = omega arith
+prefix_short xid replies.ProgramUnavailable = omega arith
+prefix_short xid replies.ProgramMismatch = omega arith
+prefix_short xid replies.ProcedureUnavailable = omega arith
+prefix_short xid replies.GarbageArguments = omega arith
+prefix_short xid (replies.Success result) = omega arith
+prefix_short xid (replies.Compound compound) = compound_short xid compound
 
 pub reply_short : (xid : ℕ) (reply : Reply) → length (reply_text xid (reply_view reply)) ≤ 512 + length (tail_of reply)
-reply_short xid reply = omega (arith, ap length (reply_parts xid reply), length-append (front_of xid reply) (tail_of reply), front_short xid reply)
+reply_short xid reply = omega (arith, ap length (reply_parts xid reply), length-append (prefix_of xid reply) (tail_of reply), prefix_short xid reply)

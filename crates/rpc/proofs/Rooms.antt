@@ -2,7 +2,7 @@
 use Rattle.std.proofs.Common.{◌≡◌, ℕ, zero, suc, ◌+◌, ◌*◌, ◌-◌, ◌%◌, ◌^◌, ◌<◌, ◌≤◌, Bool, true, false, cond, nat_lt, nat_le, List, ◌++◌, length, take, drop, refl, subst, arith, length-append, length-take, ltb-true, ltb-false, leb-false}
 use Rattle.std.proofs.lemmas.List.{length-drop}
 use Rattle.std.specs.Int.{w32, from_be_bytes}
-use Rattle.model.specs.Wire.Record.{Gathered, nothing_gathered, Fragment, Waits, Refuses, Brings, behind_header, fragment, Front, Partial, Refused, Whole, gathered_with, front_from, front, behind_fragment}
+use Rattle.model.specs.Wire.Record.{Gathered, nothing_gathered, Fragment, Waits, Refuses, Brings, behind_header, fragment, Prefix, Partial, Refused, Whole, gathered_with, prefix_from, prefix, behind_fragment}
 use Rattle.rpc.specs.Assembly.{record_limits, max_received}
 
 by_test : (P : Fragment → Type 0) (b : Bool) (x y : Fragment) → (b ≡ true → P x) → (b ≡ false → P y) → P (cond b x y)
@@ -48,14 +48,14 @@ measured gathered bytes b =
     (λ long. measured_behind gathered (from_be_bytes w32 (take 4 bytes)) bytes (ltb-false (length bytes) 4 long))
 
 -- of a record that is not whole, and of a whole one
-abbrev Fits : (came : ℕ) → Front → Type 0
+abbrev Fits : (came : ℕ) → Prefix → Type 0
 Fits came Partial = came < max_received
 Fits came (Refused fault) = Unit {0}
 Fits came (Whole request rest) = came ≤ 16640 + length rest
 
 fits_behind : (n : ℕ) (gathered : Gathered) (bytes : List ℕ) (found : Fragment) → Measured gathered bytes found → length bytes ≤ suc n
-    → ((further : Gathered) (rest : List ℕ) → Bounded further → length rest ≤ n → Fits (came further rest) (front_from record_limits n further rest))
-    → Fits (came gathered bytes) (behind_fragment (front_from record_limits n) gathered found)
+    → ((further : Gathered) (rest : List ℕ) → Bounded further → length rest ≤ n → Fits (came further rest) (prefix_from record_limits n further rest))
+    → Fits (came gathered bytes) (behind_fragment (prefix_from record_limits n) gathered found)
 fits_behind n gathered bytes Waits is enough step = is
 fits_behind n gathered bytes (Refuses fault) is enough step = _
 fits_behind n gathered bytes (Brings part true rest) is enough step =
@@ -68,37 +68,37 @@ fits_behind n gathered bytes (Brings part false rest) is enough step =
     let parts = is.0 in
     let both = length-append gathered.bytes part in
     let same : came (gathered_with gathered part) rest ≡ came gathered bytes = omega arith in
-    subst (λ (size : ℕ). Fits size (front_from record_limits n (gathered_with gathered part) rest)) same (step (gathered_with gathered part) rest is.1 (omega arith))
+    subst (λ (size : ℕ). Fits size (prefix_from record_limits n (gathered_with gathered part) rest)) same (step (gathered_with gathered part) rest is.1 (omega arith))
 
-fits_from : (n : ℕ) (gathered : Gathered) (bytes : List ℕ) → Bounded gathered → length bytes ≤ n → Fits (came gathered bytes) (front_from record_limits n gathered bytes)
-unfolding front_from
+fits_from : (n : ℕ) (gathered : Gathered) (bytes : List ℕ) → Bounded gathered → length bytes ≤ n → Fits (came gathered bytes) (prefix_from record_limits n gathered bytes)
+unfolding prefix_from
 fits_from zero gathered bytes b enough = let size = b.size in let number = b.number in omega arith
 fits_from (suc n) gathered bytes b enough =
     fits_behind n gathered bytes (fragment record_limits gathered bytes) (measured gathered bytes b) enough (λ further rest c less. fits_from n further rest c less)
 
-fits : (bytes : List ℕ) → Fits (length bytes) (front record_limits bytes)
+fits : (bytes : List ℕ) → Fits (length bytes) (prefix record_limits bytes)
 fits bytes =
     let same : came nothing_gathered bytes ≡ length bytes = omega arith in
-    subst (λ (size : ℕ). Fits size (front record_limits bytes)) same
+    subst (λ (size : ℕ). Fits size (prefix record_limits bytes)) same
     (fits_from (length bytes) nothing_gathered bytes (record { size = omega arith; number = omega arith }) (omega arith))
 
-pub partial_fits : (bytes : List ℕ) → front record_limits bytes ≡ Partial → length bytes < max_received
+pub partial_fits : (bytes : List ℕ) → prefix record_limits bytes ≡ Partial → length bytes < max_received
 partial_fits bytes is = subst (Fits (length bytes)) is (fits bytes)
 
-pub whole_fits : (bytes request rest : List ℕ) → front record_limits bytes ≡ Whole request rest → length bytes ≤ 16640 + length rest
+pub whole_fits : (bytes request rest : List ℕ) → prefix record_limits bytes ≡ Whole request rest → length bytes ≤ 16640 + length rest
 whole_fits bytes request rest is = subst (Fits (length bytes)) is (fits bytes)
 
 -- there is room for what is taken of a piece
-pub room_for_piece : (old piece : List ℕ) (spare : ℕ) → front record_limits (old ++ piece) ≡ Partial → max_received ≤ length old + spare → length piece ≤ spare
+pub room_for_piece : (old piece : List ℕ) (spare : ℕ) → prefix record_limits (old ++ piece) ≡ Partial → max_received ≤ length old + spare → length piece ≤ spare
 room_for_piece old piece spare is room =
     let fits = partial_fits (old ++ piece) is in
     let both = length-append old piece in
     omega arith
 
-pub room_for_front : (old piece rest request : List ℕ) (count spare : ℕ) → front record_limits (old ++ piece) ≡ Whole request rest → max_received ≤ length old + spare
+pub room_for_prefix : (old piece rest request : List ℕ) (count spare : ℕ) → prefix record_limits (old ++ piece) ≡ Whole request rest → max_received ≤ length old + spare
     → count ≡ length piece - length rest → length (take count piece) ≤ spare
-room_for_front old piece rest request count spare is room count_is =
+room_for_prefix old piece rest request count spare is room count_is =
     let fits = whole_fits (old ++ piece) request rest is in
     let both = length-append old piece in
-    let front_size = length-take count piece in
+    let prefix_size = length-take count piece in
     omega arith

@@ -1,53 +1,53 @@
 -- Going from fragment to fragment.
 use Rattle.std.proofs.Common.{◌≡◌, ℕ, zero, suc, ◌+◌, ◌-◌, ◌<◌, ◌≤◌, true, false, List, ◌++◌, length, take, drop, refl, ap, sym, subst, ◌∙◌, arith}
 use Rattle.std.proofs.lemmas.List.{length-append, length-drop, length-take-le, drop-drop}
-use Rattle.model.specs.Wire.Record.{RecordFault, Gathered, nothing_gathered, gathered_with, Waits, Refuses, Brings, fragment, Partial, Refused, Whole, behind_fragment, front_from, front}
+use Rattle.model.specs.Wire.Record.{RecordFault, Gathered, nothing_gathered, gathered_with, Waits, Refuses, Brings, fragment, Partial, Refused, Whole, behind_fragment, prefix_from, prefix}
 use Rattle.rpc.specs.declared.fragment.Place.{Place}
 use Rattle.rpc.specs.declared.fragment.Fragment.TheVariants as found
 use Rattle.rpc.specs.declared.scan.Scan.TheVariants as scans
 use Rattle.rpc.specs.Assembly.{record_limits, Finds, scan_of}
 
--- One step of `front_from`
+-- One step of `prefix_from`
 
-at_waits : (n : ℕ) (gathered : Gathered) (bytes : List ℕ) → fragment record_limits gathered bytes ≡ Waits → front_from record_limits n gathered bytes ≡ Partial
-unfolding front_from
+at_waits : (n : ℕ) (gathered : Gathered) (bytes : List ℕ) → fragment record_limits gathered bytes ≡ Waits → prefix_from record_limits n gathered bytes ≡ Partial
+unfolding prefix_from
 at_waits zero gathered bytes is = refl
-at_waits (suc n) gathered bytes is = ap (behind_fragment (front_from record_limits n) gathered) is
+at_waits (suc n) gathered bytes is = ap (behind_fragment (prefix_from record_limits n) gathered) is
 
 at_refuses : (n : ℕ) (gathered : Gathered) (bytes : List ℕ) (fault : RecordFault) → 0 < n → fragment record_limits gathered bytes ≡ Refuses fault
-    → front_from record_limits n gathered bytes ≡ Refused fault
-unfolding front_from
+    → prefix_from record_limits n gathered bytes ≡ Refused fault
+unfolding prefix_from
 at_refuses zero gathered bytes fault some is = absurd (omega arith)
-at_refuses (suc n) gathered bytes fault some is = ap (behind_fragment (front_from record_limits n) gathered) is
+at_refuses (suc n) gathered bytes fault some is = ap (behind_fragment (prefix_from record_limits n) gathered) is
 
 at_last : (n : ℕ) (gathered : Gathered) (bytes part rest : List ℕ) → 0 < n → fragment record_limits gathered bytes ≡ Brings part true rest
-    → front_from record_limits n gathered bytes ≡ Whole (gathered.bytes ++ part) rest
-unfolding front_from
+    → prefix_from record_limits n gathered bytes ≡ Whole (gathered.bytes ++ part) rest
+unfolding prefix_from
 at_last zero gathered bytes part rest some is = absurd (omega arith)
-at_last (suc n) gathered bytes part rest some is = ap (behind_fragment (front_from record_limits n) gathered) is
+at_last (suc n) gathered bytes part rest some is = ap (behind_fragment (prefix_from record_limits n) gathered) is
 
 at_other : (n : ℕ) (gathered : Gathered) (bytes part rest : List ℕ) → 0 < n → fragment record_limits gathered bytes ≡ Brings part false rest
-    → front_from record_limits n gathered bytes ≡ front_from record_limits (n - 1) (gathered_with gathered part) rest
-unfolding front_from
+    → prefix_from record_limits n gathered bytes ≡ prefix_from record_limits (n - 1) (gathered_with gathered part) rest
+unfolding prefix_from
 at_other zero gathered bytes part rest some is = absurd (omega arith)
 at_other (suc n) gathered bytes part rest some is =
     let less : n ≡ suc n - 1 = omega arith in
-    ap (behind_fragment (front_from record_limits n) gathered) is
-    ∙ ap (λ (m : ℕ). front_from record_limits m (gathered_with gathered part) rest) less
+    ap (behind_fragment (prefix_from record_limits n) gathered) is
+    ∙ ap (λ (m : ℕ). prefix_from record_limits m (gathered_with gathered part) rest) less
 
 -- What is known at a place: the fragments before it are gathered, and the record goes on there
 
 pub record Walks (all : List ℕ) (gathered : Gathered) (fuel : ℕ) (rest : List ℕ) (place : Place) : Type 0 where
-  pub on : front record_limits all ≡ front_from record_limits fuel gathered rest
+  pub on : prefix record_limits all ≡ prefix_from record_limits fuel gathered rest
   pub enough : length rest ≤ fuel
   pub size : length gathered.bytes ≡ place.size
   pub fragments : gathered.fragments ≡ place.fragments
 
-pub waits : {all rest : List ℕ} {gathered : Gathered} {fuel : ℕ} {place : Place} → Walks all gathered fuel rest place → Finds gathered rest found.Waits → front record_limits all ≡ Partial
+pub waits : {all rest : List ℕ} {gathered : Gathered} {fuel : ℕ} {place : Place} → Walks all gathered fuel rest place → Finds gathered rest found.Waits → prefix record_limits all ≡ Partial
 waits {rest = rest} {gathered = gathered} {fuel = fuel} w is = w.on ∙ at_waits fuel gathered rest is
 
 pub refuses : {all rest : List ℕ} {gathered : Gathered} {fuel : ℕ} {place : Place} (fault : RecordFault) → Walks all gathered fuel rest place
-    → 4 ≤ length rest → fragment record_limits gathered rest ≡ Refuses fault → front record_limits all ≡ Refused fault
+    → 4 ≤ length rest → fragment record_limits gathered rest ≡ Refuses fault → prefix record_limits all ≡ Refused fault
 refuses {rest = rest} {gathered = gathered} {fuel = fuel} fault w long is =
     let enough = w.enough in
     w.on ∙ at_refuses fuel gathered rest fault (omega arith) is
@@ -60,7 +60,7 @@ abbrev pub behind_part : (size : ℕ) → (rest : List ℕ) → List ℕ
 behind_part size rest = drop size (drop 4 rest)
 
 pub last : {all rest : List ℕ} {gathered : Gathered} {fuel : ℕ} {place : Place} (size : ℕ) → Walks all gathered fuel rest place → Finds gathered rest (found.Brings size true)
-    → front record_limits all ≡ Whole (gathered.bytes ++ part_of size rest) (behind_part size rest)
+    → prefix record_limits all ≡ Whole (gathered.bytes ++ part_of size rest) (behind_part size rest)
 last {rest = rest} {gathered = gathered} {fuel = fuel} size w is =
     let enough = w.enough in
     let long = is.0 in
@@ -97,7 +97,7 @@ begins all place at size fragments = record {
   gathered = nothing_gathered;
   fuel = length all;
   walks = record {
-    on = ap (λ (n : ℕ). front_from record_limits (length all) nothing_gathered (drop n all)) (sym at);
+    on = ap (λ (n : ℕ). prefix_from record_limits (length all) nothing_gathered (drop n all)) (sym at);
     enough = omega (arith, length-drop place.at all);
     size = sym size;
     fragments = sym fragments;
@@ -125,7 +125,7 @@ searches_on all place behind size s is at_is size_is fragments_is =
     }
 
 pub ended : (all : List ℕ) (place : Place) (size : ℕ) (s : Searches all place) → Finds s.gathered (drop place.at all) (found.Brings size true)
-    → scans.Whole (place.at + 4 + size) ≡ scan_of all (front record_limits all)
+    → scans.Whole (place.at + 4 + size) ≡ scan_of all (prefix record_limits all)
 ended all place size s is =
     let inside = s.within in
     let whole = is.0 in

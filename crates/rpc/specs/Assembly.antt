@@ -2,7 +2,7 @@
 -- the stream changes it.
 use Rattle.std.specs.Prelude.{◌≡◌, ℕ, ◌+◌, ◌-◌, ◌≤◌, ◌<◌, Bool, true, false, List, [], ◌++◌, length, take, drop, Option, Some, None, if◌then◌else◌}
 use Rattle.model.specs.Wire.Record as spec
-use Rattle.model.specs.Wire.Record.{RecordLimits, Gathered, Front, Partial, Refused, Whole, front, fragment}
+use Rattle.model.specs.Wire.Record.{RecordLimits, Gathered, Prefix, Partial, Refused, Whole, prefix, fragment}
 use Rattle.model.specs.Wire.Rpc.{read_call, is_call_read}
 use Rattle.model.specs.Server.World.{Connection, Quiet, Waiting, Closed, arrives_at, taken_at}
 use Rattle.rpc.specs.declared.fault.RecordFault.{RecordFault}
@@ -55,7 +55,7 @@ fault_of spec.RecordTooBig = faults.RecordTooBig
 fault_of spec.TooManyFragments = faults.TooManyFragments
 
 -- why the bytes that have come are refused: by a header, or as a whole record that is no call
-abbrev pub fault_in : Front → Option RecordFault
+abbrev pub fault_in : Prefix → Option RecordFault
 fault_in Partial = None
 fault_in (Refused fault) = Some (fault_of fault)
 fault_in (Whole request rest) =
@@ -63,7 +63,7 @@ fault_in (Whole request rest) =
 
 -- why a piece is refused, now or before
 abbrev pub fault_at : (piece : List ℕ) → Assembly → Option RecordFault
-fault_at piece (Gathers bytes) = fault_in (front record_limits (bytes ++ piece))
+fault_at piece (Gathers bytes) = fault_in (prefix record_limits (bytes ++ piece))
 fault_at piece (Holds request) = None
 fault_at piece (Refuses fault) = Some fault
 
@@ -75,13 +75,13 @@ pub record RefusesPiece (piece : List ℕ) (old new : Assembly) (fault : RecordF
   pub closes : arrives_at record_limits piece (connection_of old) ≡ Closed
 
 -- no more has come than a part of a record, and a whole one holds a call
-abbrev pub is_partial : Front → Bool
+abbrev pub is_partial : Prefix → Bool
 is_partial Partial = true
 is_partial (Refused fault) = false
 is_partial (Whole request rest) = false
 
 abbrev pub is_sound : Assembly → Bool
-is_sound (Gathers bytes) = is_partial (front record_limits bytes)
+is_sound (Gathers bytes) = is_partial (prefix record_limits bytes)
 is_sound (Holds request) = is_call_read (read_call request)
 is_sound (Refuses fault) = true
 
@@ -117,22 +117,22 @@ Finds gathered bytes (found.Brings size is_last) =
     ≡ spec.Brings (take size (drop 4 bytes)) is_last (drop size (drop 4 bytes)))
 
 -- the end of the record that the bytes begin with
-abbrev pub scan_of : List ℕ → Front → Scan
+abbrev pub scan_of : List ℕ → Prefix → Scan
 scan_of bytes Partial = scans.Partial
 scan_of bytes (Refused fault) = scans.Refused (fault_of fault)
 scan_of bytes (Whole request rest) = scans.Whole (length bytes - length rest)
 
 -- the bytes are one whole record
 abbrev pub IsWhole : List ℕ → Type 0
-IsWhole bytes = (request : List ℕ) × (front record_limits bytes ≡ Whole request [])
+IsWhole bytes = (request : List ℕ) × (prefix record_limits bytes ≡ Whole request [])
 
 -- how a piece changes the bytes before
 abbrev pub Receives : (old piece : List ℕ) → Progress → (new : List ℕ) → Type 0
 Receives old piece progress.More new =
-    (front record_limits (old ++ piece) ≡ Partial) × (new ≡ old ++ piece)
+    (prefix record_limits (old ++ piece) ≡ Partial) × (new ≡ old ++ piece)
 Receives old piece (progress.Whole taken start) new =
-    (rest : List ℕ) × (front record_limits (old ++ piece) ≡ Whole (drop start new) rest)
+    (rest : List ℕ) × (prefix record_limits (old ++ piece) ≡ Whole (drop start new) rest)
     × (taken ≡ length piece - length rest)
     × (is_call_read (read_call (drop start new)) ≡ true) × (start ≤ length new)
 Receives old piece (progress.Refused fault) new =
-    fault_in (front record_limits (old ++ piece)) ≡ Some fault
+    fault_in (prefix record_limits (old ++ piece)) ≡ Some fault

@@ -78,24 +78,24 @@ abbrev pub success_head : (xid : ℕ) → List ℕ
 success_head xid = spec.words (xid ∷ 1 ∷ 0 ∷ 0 ∷ 0 ∷ 0 ∷ [])
 
 -- a COMPOUND's result up to the results of its operations
-abbrev pub compound_front : Status → (tag : List ℕ) → (count : ℕ) → List ℕ
-compound_front status tag count = number w32 (code_of status) ++ (counted tag ++ number w32 count)
+abbrev pub compound_prefix : Status → (tag : List ℕ) → (count : ℕ) → List ℕ
+compound_prefix status tag count = number w32 (code_of status) ++ (counted tag ++ number w32 count)
 
 -- the header of a record of `size` bytes, as it is sent: one fragment
 abbrev pub frame_header : (size : ℕ) → List ℕ
 frame_header size = number w32 (2 ^ 31 + size)
 
 -- a reply up to the bytes that it has as they are, and those bytes
-abbrev pub front_of : (xid : ℕ) → Reply → List ℕ
-front_of xid replies.VersionRefused = spec.words (xid ∷ 1 ∷ 1 ∷ 0 ∷ 2 ∷ 2 ∷ [])
-front_of xid (replies.AuthRefused stat) = spec.words (xid ∷ 1 ∷ 1 ∷ 1 ∷ auth_stat_of stat ∷ [])
-front_of xid replies.ProgramUnavailable = spec.words (xid ∷ 1 ∷ 0 ∷ 0 ∷ 0 ∷ 1 ∷ [])
-front_of xid replies.ProgramMismatch = spec.words (xid ∷ 1 ∷ 0 ∷ 0 ∷ 0 ∷ 2 ∷ 4 ∷ 4 ∷ [])
-front_of xid replies.ProcedureUnavailable = spec.words (xid ∷ 1 ∷ 0 ∷ 0 ∷ 0 ∷ 3 ∷ [])
-front_of xid replies.GarbageArguments = spec.words (xid ∷ 1 ∷ 0 ∷ 0 ∷ 0 ∷ 4 ∷ [])
-front_of xid (replies.Success result) = success_head xid
-front_of xid (replies.Compound compound) =
-    success_head xid ++ compound_front compound.status compound.tag.bytes.now compound.count
+abbrev pub prefix_of : (xid : ℕ) → Reply → List ℕ
+prefix_of xid replies.VersionRefused = spec.words (xid ∷ 1 ∷ 1 ∷ 0 ∷ 2 ∷ 2 ∷ [])
+prefix_of xid (replies.AuthRefused stat) = spec.words (xid ∷ 1 ∷ 1 ∷ 1 ∷ auth_stat_of stat ∷ [])
+prefix_of xid replies.ProgramUnavailable = spec.words (xid ∷ 1 ∷ 0 ∷ 0 ∷ 0 ∷ 1 ∷ [])
+prefix_of xid replies.ProgramMismatch = spec.words (xid ∷ 1 ∷ 0 ∷ 0 ∷ 0 ∷ 2 ∷ 4 ∷ 4 ∷ [])
+prefix_of xid replies.ProcedureUnavailable = spec.words (xid ∷ 1 ∷ 0 ∷ 0 ∷ 0 ∷ 3 ∷ [])
+prefix_of xid replies.GarbageArguments = spec.words (xid ∷ 1 ∷ 0 ∷ 0 ∷ 0 ∷ 4 ∷ [])
+prefix_of xid (replies.Success result) = success_head xid
+prefix_of xid (replies.Compound compound) =
+    success_head xid ++ compound_prefix compound.status compound.tag.bytes.now compound.count
 
 abbrev pub tail_of : Reply → List ℕ
 tail_of replies.VersionRefused = []

@@ -1,7 +1,7 @@
 //! The caller, as AUTH_SYS encodes it (RFC 5531, appendix A).
 
 ghost use Rattle.std.specs.Prelude.{◌≡◌, Some, None, MatchOption};
-ghost use Rattle.model.specs.Wire.Rpc.{cred_told, credential_in};
+ghost use Rattle.model.specs.Wire.Rpc.{encoded_cred, credential_in};
 ghost use Rattle.wire.specs.SmallViews.{credential_view};
 
 use model_tree::acl::Cred;
@@ -23,7 +23,7 @@ pub(crate) fn read_auth_sys(body: &[u8]) -> Option<SystemCredential<'_>>
 
 /// The caller that the credential names.
 pub fn cred_from(found: SystemCredential<'_>) -> Cred
-    ensures { result ≡ cred_told (credential_view found.entry) }
+    ensures { result ≡ encoded_cred (credential_view found.entry) }
 {
     Cred {
         uid: found.uid,

@@ -1,7 +1,7 @@
 //! Joining the fragments of a record in place.
 
 ghost use Rattle.std.specs.Prelude.{◌≡◌, ◌≤◌, ◌+◌, [], length, take, drop};
-ghost use Rattle.model.specs.Wire.Record.{Whole, front};
+ghost use Rattle.model.specs.Wire.Record.{Whole, prefix};
 ghost use Rattle.rpc.specs.Assembly.{record_limits, IsWhole};
 
 use crate::fragment::{Fragment, HEADER_BYTES, Place, fragment_at};
@@ -11,7 +11,7 @@ use bytes::BytesMut;
 /// ends with the bytes. If there is one fragment, no byte is moved.
 pub fn drop_headers(bytes: &mut BytesMut) -> usize
     requires { IsWhole bytes.old.items }
-    ensures request { front record_limits bytes.old.items ≡ Whole (drop result bytes.new.items) [] }
+    ensures request { prefix record_limits bytes.old.items ≡ Whole (drop result bytes.new.items) [] }
     ensures within { result ≤ length bytes.new.items }
     ensures room { length bytes.new.items + bytes.new.spare
         ≡ length bytes.old.items + bytes.old.spare }
@@ -30,7 +30,7 @@ pub fn drop_headers(bytes: &mut BytesMut) -> usize
 /// bytes.
 fn join_fragments(bytes: &mut [u8]) -> usize
     requires { IsWhole bytes.old }
-    ensures { front record_limits bytes.old ≡ Whole (take result bytes.new) [] }
+    ensures { prefix record_limits bytes.old ≡ Whole (take result bytes.new) [] }
 {
     let mut place = Place::START;
     loop {

@@ -1,7 +1,7 @@
 //! How a piece changes the bytes before it.
 
 ghost use Rattle.std.specs.Prelude.{◌≡◌, ◌≤◌, ◌+◌, length};
-ghost use Rattle.model.specs.Wire.Record.{Partial, front};
+ghost use Rattle.model.specs.Wire.Record.{Partial, prefix};
 ghost use Rattle.rpc.specs.Assembly.{record_limits, max_received, Receives};
 
 use crate::call::read_call;
@@ -24,7 +24,7 @@ pub enum Progress {
 /// Appends a prefix of the piece, up to the end of the record, in memory that is there. Of a whole
 /// record only what its fragments hold is left.
 pub fn receive_piece(bytes: &mut BytesMut, piece: &[u8]) -> Progress
-    requires partial { front record_limits bytes.old.items ≡ Partial }
+    requires partial { prefix record_limits bytes.old.items ≡ Partial }
     requires room { max_received ≤ length bytes.old.items + bytes.old.spare }
     ensures received { Receives bytes.old.items piece.now result bytes.new.items }
     ensures kept { length bytes.new.items + bytes.new.spare

@@ -7,7 +7,7 @@ ghost use Rattle.xdr.specs.Clauses.{Wrote};
 ghost use Rattle.xdr.specs.declared.refusal.Refusal.TheVariants.{Memory};
 ghost use Rattle.model.specs.Wire.Record.{framed};
 ghost use Rattle.model.specs.Wire.Rpc.{words, reply_text};
-ghost use Rattle.rpc.specs.Views.{reply_view, result_text, success_head, compound_front, frame_header, front_of, tail_of};
+ghost use Rattle.rpc.specs.Views.{reply_view, result_text, success_head, compound_prefix, frame_header, prefix_of, tail_of};
 
 use crate::numbers::{LAST_FRAGMENT, NFS_VERSION, REPLY, RPC_VERSION};
 use crate::tag::Tag;
@@ -129,7 +129,7 @@ pub fn write_reply(out: Writer, xid: u32, reply: &Reply<'_>) -> Result<Vec<u8>, 
     ensures err { IfErr result (λ refusal. refusal ≡ Memory) }
 {
     let mut out = out;
-    write_front(&mut out, reply.size() as u32, xid, reply)?;
+    write_prefix(&mut out, reply.size() as u32, xid, reply)?;
     append_to(out, reply.tail())
 }
 
@@ -146,16 +146,16 @@ fn append_to(out: Writer, tail: &[u8]) -> Result<Vec<u8>, Refusal>
 
 /// Writes a record's header, and the reply up to the bytes that it has as they are.
 #[tactic(auto, using(xdr::proofs::Writing::wrote_on, xdr::proofs::Writing::wrote_exit, xdr::proofs::Writing::wrote_end))]
-fn write_front(w: &mut Writer, size: u32, xid: u32, reply: &Reply<'_>) -> Result<(), Refusal>
+fn write_prefix(w: &mut Writer, size: u32, xid: u32, reply: &Reply<'_>) -> Result<(), Refusal>
     requires { size < 2 ^ 31 }
-    ensures { Wrote w.old w.new result (frame_header size ++ front_of xid reply.now) }
+    ensures { Wrote w.old w.new result (frame_header size ++ prefix_of xid reply.now) }
 {
     write_frame_header(w, size)?;
     write_body(w, xid, reply)
 }
 
 fn write_body(w: &mut Writer, xid: u32, reply: &Reply<'_>) -> Result<(), Refusal>
-    ensures { Wrote w.old w.new result (front_of xid reply.now) }
+    ensures { Wrote w.old w.new result (prefix_of xid reply.now) }
 {
     match reply {
         Reply::VersionRefused => write_words(w, &[xid, REPLY, 1, 0, RPC_VERSION, RPC_VERSION]),
@@ -168,7 +168,7 @@ fn write_body(w: &mut Writer, xid: u32, reply: &Reply<'_>) -> Result<(), Refusal
         Reply::ProcedureUnavailable => write_accepted(w, xid, PROC_UNAVAIL),
         Reply::GarbageArguments => write_accepted(w, xid, GARBAGE_ARGS),
         Reply::Success(_) => write_success(w, xid),
-        Reply::Compound(compound) => write_compound_front(w, xid, compound),
+        Reply::Compound(compound) => write_compound_prefix(w, xid, compound),
     }
 }
 
@@ -187,7 +187,7 @@ fn write_compound_head(
     tag: Tag<'_>,
     count: u32,
 ) -> Result<(), Refusal>
-    ensures { Wrote w.old w.new result (compound_front status tag.entry.bytes.now count) }
+    ensures { Wrote w.old w.new result (compound_prefix status tag.entry.bytes.now count) }
 {
     w.write_u32(status.code())?;
     w.write_opaque(tag.bytes)?;
@@ -204,13 +204,13 @@ pub fn write_frame_header(w: &mut Writer, size: u32) -> Result<(), Refusal>
 }
 
 #[tactic(auto, using(xdr::proofs::Writing::wrote_on, xdr::proofs::Writing::wrote_exit, xdr::proofs::Writing::wrote_end))]
-fn write_compound_front(
+fn write_compound_prefix(
     w: &mut Writer,
     xid: u32,
     compound: &CompoundResult<'_>,
 ) -> Result<(), Refusal>
     ensures { Wrote w.old w.new result
-        (success_head xid ++ compound_front compound.now.status compound.now.tag.bytes.now
+        (success_head xid ++ compound_prefix compound.now.status compound.now.tag.bytes.now
         compound.now.count) }
 {
     write_success(w, xid)?;

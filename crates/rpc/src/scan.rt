@@ -2,7 +2,7 @@
 
 ghost use Rattle.std.specs.Prelude.{◌≡◌, ◌++◌};
 ghost use Rattle.xdr.specs.Laws.{IsBytes};
-ghost use Rattle.model.specs.Wire.Record.{front};
+ghost use Rattle.model.specs.Wire.Record.{prefix};
 ghost use Rattle.rpc.specs.Assembly.{record_limits, scan_of};
 
 use crate::fault::RecordFault;
@@ -23,7 +23,7 @@ pub enum Scan {
 /// from header to header, of which there are at most 65.
 pub fn scan_record(old: &[u8], piece: &[u8]) -> Scan
     ensures end { result ≡ scan_of (old.now ++ piece.now)
-        (front record_limits (old.now ++ piece.now)) }
+        (prefix record_limits (old.now ++ piece.now)) }
     ensures old_bytes { IsBytes old.now }
     ensures piece_bytes { IsBytes piece.now }
 {

@@ -6,7 +6,7 @@ use Rattle.std.specs.Int.{w32, to_be_bytes}
 use Rattle.std.proofs.lemmas.List.{get_or-set_same, get_or-set_other, length-set}
 use Rattle.model_tree.specs.Seats.Seats.{HeldReply, Seat, with_held}
 use Rattle.model_tree.specs.Seats.SeatEdits.{Holds, HasSlot, edited_seat}
-use Rattle.seats.specs.Spelling.{head_sector, part_of, seat_sector, slot_text}
+use Rattle.seats.specs.Encoding.{head_sector, part_of, seat_sector, slot_text}
 use Rattle.seats.proofs.Parts.{first_sector, slot_sector_at}
 
 pub held_sector : (slot : ℕ) (held : HeldReply) (place : Option Seat) (k : ℕ) → HasSlot slot place → 1 ≤ k → (k - 1) / 4 ≡ slot

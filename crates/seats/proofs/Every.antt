@@ -6,7 +6,7 @@ use Rattle.std.proofs.lemmas.List.{length-map}
 use Rattle.model_tree.specs.Seats.SeatViews.{held_view, seat_view, place_view}
 use Rattle.model_tree.specs.declared.seats.HeldReply.{HeldReply}
 use Rattle.model_tree.specs.declared.seats.Seat.{Seat}
-use Rattle.seats.specs.Spelling.{IsHeld, IsSeatPlace, IsSeat, IsSlot}
+use Rattle.seats.specs.Encoding.{IsHeld, IsSeatPlace, IsSeat, IsSlot}
 
 pub every_held : (held : HeldReply) → IsHeld (held_view held)
 every_held held = record { number = held.number_fits; uid = held.uid_fits; result = held.short }

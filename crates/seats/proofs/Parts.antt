@@ -5,7 +5,7 @@ use Rattle.std.proofs.lemmas.Bool.{ne_eqb}
 use Rattle.std.proofs.Math.Seq.{drop-append-add}
 use Rattle.model_tree.specs.Seats.Seats.{HeldReply, Seat}
 use Rattle.seats.specs.Padding.{padded}
-use Rattle.seats.specs.Spelling.{head_front, head_sector, held_front, part_of, seat_sector, slot_at, slot_text}
+use Rattle.seats.specs.Encoding.{head_prefix, head_sector, held_prefix, part_of, seat_sector, slot_at, slot_text}
 
 pub take-padded : (m z : ℕ) (ys : List ℕ) → m ≤ length ys + z → take m (ys ++ replicate z 0) ≡ padded m ys
 take-padded m z [] h =
@@ -39,20 +39,20 @@ drop_past p q n m e = ap (λ (i : ℕ). drop i (p ++ q)) e ∙ drop-append-add p
 abbrev pub body_of : HeldReply → List ℕ
 body_of held = held.result ++ replicate (16360 - length held.result) 0
 
-pub text_apart : (held : HeldReply) → slot_text (Some held) ≡ held_front held ++ body_of held
+pub text_apart : (held : HeldReply) → slot_text (Some held) ≡ held_prefix held ++ body_of held
 unfolding slot_text
-text_apart held = append_assoc (held_front held) held.result (replicate (16360 - length held.result) 0)
+text_apart held = append_assoc (held_prefix held) held.result (replicate (16360 - length held.result) 0)
 
-pub first_part_is : (held : HeldReply) → length held.result ≤ 16360 → part_of 0 (slot_text (Some held)) ≡ held_front held ++ padded 4072 held.result
+pub first_part_is : (held : HeldReply) → length held.result ≤ 16360 → part_of 0 (slot_text (Some held)) ≡ held_prefix held ++ padded 4072 held.result
 first_part_is held short =
     ap (take 4096) (text_apart held)
-    ∙ ap (λ (rest : List ℕ). held_front held ++ rest) (take-padded 4072 (16360 - length held.result) held.result (omega arith))
+    ∙ ap (λ (rest : List ℕ). held_prefix held ++ rest) (take-padded 4072 (16360 - length held.result) held.result (omega arith))
 
 pub later_part_is : (held : HeldReply) (k : ℕ) → length held.result ≤ 16360 → 0 < k → k < 4
     → part_of k (slot_text (Some held)) ≡ padded 4096 (drop (4096 * k - 24) held.result)
 later_part_is held k short some few =
     ap (λ (text : List ℕ). take 4096 (drop (4096 * k) text)) (text_apart held)
-    ∙ ap (take 4096) (drop_past (held_front held) (body_of held) (4096 * k) (4096 * k - 24) (omega arith))
+    ∙ ap (take 4096) (drop_past (held_prefix held) (body_of held) (4096 * k) (4096 * k - 24) (omega arith))
     ∙ window (4096 * k - 24) 4096 (16360 - length held.result) held.result (omega arith)
 
 padded_owner : (owner : List ℕ) → length owner ≤ 1024 → padded 4064 owner ≡ owner ++ (replicate (1024 - length owner) 0 ++ replicate 3040 0)
@@ -61,12 +61,12 @@ padded_owner owner short =
     ap₂ (λ (a : List ℕ) (n : ℕ). a ++ replicate n 0) (take_all 4064 owner (omega arith)) more
     ∙ ap (λ (zeros : List ℕ). owner ++ zeros) (sym (replicate-append-replicate (1024 - length owner) 3040 0))
 
-pub head_is : (seat : Seat) → length seat.owner ≤ 1024 → head_front seat ++ padded 4064 seat.owner ≡ head_sector seat
+pub head_is : (seat : Seat) → length seat.owner ≤ 1024 → head_prefix seat ++ padded 4064 seat.owner ≡ head_sector seat
 unfolding head_sector
 head_is seat short =
     let zeros : List ℕ = replicate (1024 - length seat.owner) 0 in
-    ap (λ (rest : List ℕ). head_front seat ++ rest) (padded_owner seat.owner short)
-    ∙ sym (append_assoc (head_front seat ++ seat.owner) zeros (replicate 3040 0) ∙ append_assoc (head_front seat) seat.owner (zeros ++ replicate 3040 0))
+    ap (λ (rest : List ℕ). head_prefix seat ++ rest) (padded_owner seat.owner short)
+    ∙ sym (append_assoc (head_prefix seat ++ seat.owner) zeros (replicate 3040 0) ∙ append_assoc (head_prefix seat) seat.owner (zeros ++ replicate 3040 0))
 
 -- the sectors of a slot for which nothing is held
 pub part_of_none : (k : ℕ) → k < 4 → part_of k (slot_text None) ≡ replicate 4096 0

@@ -8,7 +8,7 @@ use Rattle.std.proofs.lemmas.List.{take_at}
 use Rattle.std.proofs.lemmas.Nat.{from_be_bytes-to_be_bytes_4}
 use Rattle.model_tree.specs.Seats.Seats.{HeldReply, Seat, Seats}
 use Rattle.seats.specs.declared.fault.SeatFault.{SeatFault}
-use Rattle.seats.specs.Spelling.{AreSectorsOf, ArePlaces, IsHeld, IsSeatPlace, IsSeat, IsSlot, held_front, seat_sector, seats_sector, slot_text}
+use Rattle.seats.specs.Encoding.{AreSectorsOf, ArePlaces, IsHeld, IsSeatPlace, IsSeat, IsSlot, held_prefix, seat_sector, seats_sector, slot_text}
 use Rattle.seats.specs.Reading.{SeatsReadBack, held_in, seat_from, seat_in, seats_in, slot_in, slots_in, taken_from, text_from}
 use Rattle.seats.proofs.Parts.{body_of, text_apart, free_sector}
 use Rattle.seats.proofs.Sectors.{number_zero, mark_there, session_there, principal_there, count_there, owner_there, head_there, first_there, second_there}
@@ -33,7 +33,7 @@ same_held number uid result held a b c = rw (a, b, c) refl
 
 held-back : (held : HeldReply) → IsHeld held → held_in (slot_text (Some held)) ≡ held
 held-back held is =
-    let text : List ℕ = held_front held ++ body_of held in
+    let text : List ℕ = held_prefix held ++ body_of held in
     let count : from_be_bytes w32 (drop 12 text) ≡ length held.result = from_be_bytes-to_be_bytes_4 (length held.result) (omega (arith, is.result)) in
     ap held_in (text_apart held)
     ∙ same_held (from_be_bytes w32 (drop 4 text)) (from_be_bytes w32 (drop 8 text)) (take (from_be_bytes w32 (drop 12 text)) (drop 24 text)) held
@@ -72,15 +72,15 @@ pub same_seat : (session owner : List ℕ) (principal : ℕ) (slots : List (Opti
 same_seat session owner principal slots seat a b c d = rw (a, b, c, d) refl
 
 taken-back : (seat : Seat) (sectors : ℕ → List ℕ) → IsSeat seat → AreSectorsOf sectors (Some seat) → taken_from sectors ≡ seat
-taken-back seat sectors is spelled =
-    let head = head_there seat is sectors spelled in
+taken-back seat sectors is encoded =
+    let head = head_there seat is sectors encoded in
     let count : from_be_bytes w32 (drop 24 (sectors 0)) ≡ length seat.slots = ap (λ (h : List ℕ). from_be_bytes w32 (drop 24 h)) head ∙ count_there seat is in
     same_seat (take 16 (drop 4 (sectors 0))) (take (from_be_bytes w32 (drop 28 (sectors 0))) (drop 32 (sectors 0))) (from_be_bytes w32 (drop 20 (sectors 0))) (slots_in (from_be_bytes w32 (drop 24 (sectors 0))) sectors) seat
     (ap (λ (h : List ℕ). take 16 (drop 4 h)) head ∙ session_there seat is)
     (ap (λ (h : List ℕ). take (from_be_bytes w32 (drop 28 h)) (drop 32 h)) head ∙ owner_there seat is)
     (ap (λ (h : List ℕ). from_be_bytes w32 (drop 20 h)) head ∙ principal_there seat is)
     (ap (λ (n : ℕ). slots_in n sectors) count
-    ∙ slots-back seat.slots (text_from sectors 1) (text_from sectors 5) is.some is.few is.slots (first_there seat is sectors spelled) (second_there seat is sectors spelled))
+    ∙ slots-back seat.slots (text_from sectors 1) (text_from sectors 5) is.some is.few is.slots (first_there seat is sectors encoded) (second_there seat is sectors encoded))
 
 pub place_none : (sectors : ℕ → List ℕ) → (slice_index (sectors 0) 0 ≡ 83 → ⊥) → seat_in sectors ≡ None
 unfolding seat_in
@@ -96,22 +96,22 @@ place_some sectors e =
 
 -- the sectors of a free place begin with no S
 pub no_mark : (sectors : ℕ → List ℕ) → AreSectorsOf sectors None → slice_index (sectors 0) 0 ≡ 83 → ⊥
-no_mark sectors spelled e =
-    let zeros : sectors 0 ≡ replicate 4096 0 = spelled 0 (omega arith) ∙ free_sector 0 in
+no_mark sectors encoded e =
+    let zeros : sectors 0 ≡ replicate 4096 0 = encoded 0 (omega arith) ∙ free_sector 0 in
     let none : slice_index (sectors 0) 0 ≡ 0 = ap (λ (s : List ℕ). slice_index s 0) zeros in
     absurd (omega arith)
 
 pub place-back : (place : Option Seat) (sectors : ℕ → List ℕ) → IsSeatPlace place → AreSectorsOf sectors place → seat_in sectors ≡ place
-place-back None sectors is spelled = place_none sectors (no_mark sectors spelled)
-place-back (Some seat) sectors is spelled =
-    let mark : slice_index (sectors 0) 0 ≡ 83 = ap (λ (h : List ℕ). slice_index h 0) (head_there seat is sectors spelled) ∙ mark_there seat is in
-    place_some sectors mark ∙ ap (λ (s : Seat). Some s) (taken-back seat sectors is spelled)
+place-back None sectors is encoded = place_none sectors (no_mark sectors encoded)
+place-back (Some seat) sectors is encoded =
+    let mark : slice_index (sectors 0) 0 ≡ 83 = ap (λ (h : List ℕ). slice_index h 0) (head_there seat is sectors encoded) ∙ mark_there seat is in
+    place_some sectors mark ∙ ap (λ (s : Seat). Some s) (taken-back seat sectors is encoded)
 
 -- if no seat has these sectors, no place has them
 pub no_place : (sectors : ℕ → List ℕ) → slice_index (sectors 0) 0 ≡ 83 → ((seat : Seat) → IsSeat seat → AreSectorsOf sectors (Some seat) → ⊥)
     → (place : Option Seat) → IsSeatPlace place → AreSectorsOf sectors place → ⊥
-no_place sectors mark none None is spelled = no_mark sectors spelled mark
-no_place sectors mark none (Some seat) is spelled = none seat is spelled
+no_place sectors mark none None is encoded = no_mark sectors encoded mark
+no_place sectors mark none (Some seat) is encoded = none seat is encoded
 
 -- All places
 
@@ -130,19 +130,19 @@ place_is [] k all = tt
 place_is (place ∷ seats) zero all = all.0
 place_is (place ∷ seats) (suc k) all = place_is seats k all.1
 
-module _ (seats : Seats) (sectors : ℕ → List ℕ) (are : ArePlaces seats) (spelled : (n : ℕ) → n < 45 → sectors n ≡ seats_sector n seats) where
+module _ (seats : Seats) (sectors : ℕ → List ℕ) (are : ArePlaces seats) (encoded : (n : ℕ) → n < 45 → sectors n ≡ seats_sector n seats) where
   one-back : (place first : ℕ) → place < 5 → first ≡ 9 * place → seat_from sectors first ≡ get_or seats place None
   one-back place first few e = place-back (get_or seats place None) (λ (k : ℕ). sectors (first + k)) (place_is seats place are.each)
       (λ k h.
       let rest : (first + k) % 9 ≡ k = omega arith in
       let whole : (first + k) / 9 ≡ place = omega arith in
-      spelled (first + k) (omega arith) ∙ ap₂ (λ (i j : ℕ). seat_sector i (get_or seats j None)) rest whole)
+      encoded (first + k) (omega arith) ∙ ap₂ (λ (i j : ℕ). seat_sector i (get_or seats j None)) rest whole)
 
 pub seats-back : SeatsReadBack
 unfolding seats_in
-seats-back seats sectors are spelled = five-back (seat_from sectors 0) (seat_from sectors 9) (seat_from sectors 18) (seat_from sectors 27) (seat_from sectors 36) seats are.five
-    (one-back seats sectors are spelled 0 0 (omega arith) (omega arith)) (one-back seats sectors are spelled 1 9 (omega arith) (omega arith)) (one-back seats sectors are spelled 2 18 (omega arith) (omega arith))
-    (one-back seats sectors are spelled 3 27 (omega arith) (omega arith)) (one-back seats sectors are spelled 4 36 (omega arith) (omega arith))
+seats-back seats sectors are encoded = five-back (seat_from sectors 0) (seat_from sectors 9) (seat_from sectors 18) (seat_from sectors 27) (seat_from sectors 36) seats are.five
+    (one-back seats sectors are encoded 0 0 (omega arith) (omega arith)) (one-back seats sectors are encoded 1 9 (omega arith) (omega arith)) (one-back seats sectors are encoded 2 18 (omega arith) (omega arith))
+    (one-back seats sectors are encoded 3 27 (omega arith) (omega arith)) (one-back seats sectors are encoded 4 36 (omega arith) (omega arith))
 
 -- a result has only one fault
 pub err_is : {A : Type 0} (x y : SeatFault) → (let r : Result A SeatFault = Err x in r ≡ Err y) → x ≡ y

@@ -6,7 +6,7 @@ use Rattle.std.specs.List.{AllByRecursion, flat_map}
 use Rattle.std.proofs.lemmas.List.{append-nil, length-append, length-drop, length-replicate, get_or-drop, get_or_append_left, get_or-replicate, take_all, take_at, drop_at, drop-drop, drop_more, take-append-drop}
 use Rattle.std.proofs.lemmas.Nat.{from_be_bytes-to_be_bytes_4}
 use Rattle.model_tree.specs.Seats.Seats.{HeldReply, Seat}
-use Rattle.seats.specs.Spelling.{AreSectorsOf, IsSeat, IsSlot, head_sector, held_front, part_of, sector_of, slot_at, slot_text}
+use Rattle.seats.specs.Encoding.{AreSectorsOf, IsSeat, IsSlot, head_sector, held_prefix, part_of, sector_of, slot_at, slot_text}
 use Rattle.seats.specs.Reading.{text_from}
 use Rattle.seats.proofs.Parts.{body_of, first_sector, slot_sector_at}
 
@@ -21,8 +21,8 @@ same_number a b same =
     rw (e0, e1, e2, e3) refl
 
 -- a number that lies in the first of two parts
-pub number_front : (head rest : List ℕ) (at : ℕ) → at + 4 ≤ length head → from_be_bytes w32 (drop at (head ++ rest)) ≡ from_be_bytes w32 (drop at head)
-number_front head rest at h = same_number (drop at (head ++ rest)) (drop at head)
+pub number_prefix : (head rest : List ℕ) (at : ℕ) → at + 4 ≤ length head → from_be_bytes w32 (drop at (head ++ rest)) ≡ from_be_bytes w32 (drop at head)
+number_prefix head rest at h = same_number (drop at (head ++ rest)) (drop at head)
     (λ i few. get_or-drop at (head ++ rest) i 0 ∙ get_or_append_left head rest 0 (at + i) (omega arith) ∙ sym (get_or-drop at head i 0))
 
 pub number_zero : (n at : ℕ) → at + 4 ≤ n → from_be_bytes w32 (drop at (replicate n 0)) ≡ 0
@@ -38,7 +38,7 @@ text_numbers sectors first at len h =
     append_assoc (sectors first ++ sectors (first + 1)) (sectors (first + 2)) (sectors (first + 3))
     ∙ append_assoc (sectors first) (sectors (first + 1)) (sectors (first + 2) ++ sectors (first + 3)) in
     ap (λ (text : List ℕ). from_be_bytes w32 (drop at text)) apart
-    ∙ number_front (sectors first) (sectors (first + 1) ++ (sectors (first + 2) ++ sectors (first + 3))) at (omega arith)
+    ∙ number_prefix (sectors first) (sectors (first + 1) ++ (sectors (first + 2) ++ sectors (first + 3))) at (omega arith)
 
 -- four sectors of a list, end to end
 module _ (sectors : List (List ℕ)) (first : ℕ) (h : first + 4 ≤ length sectors) where
@@ -64,8 +64,8 @@ pub length-slot_text : (slot : Option HeldReply) → IsSlot slot → length (slo
 unfolding slot_text
 length-slot_text None is = length-replicate {A = ℕ} 16384 0
 length-slot_text (Some held) is =
-    ap length (append_assoc (held_front held) held.result (replicate (16360 - length held.result) 0))
-    ∙ omega (arith, is.result, length-append held.result (replicate (16360 - length held.result) 0), length-replicate {A = ℕ} (16360 - length held.result) 0, length-append (held_front held) (body_of held))
+    ap length (append_assoc (held_prefix held) held.result (replicate (16360 - length held.result) 0))
+    ∙ omega (arith, is.result, length-append held.result (replicate (16360 - length held.result) 0), length-replicate {A = ℕ} (16360 - length held.result) 0, length-append (held_prefix held) (body_of held))
 
 -- The parts of a text, end to end
 
@@ -140,15 +140,15 @@ slot_is [] k all = tt
 slot_is (slot ∷ slots) zero all = all.0
 slot_is (slot ∷ slots) (suc k) all = slot_is slots k all.1
 
-module _ (seat : Seat) (is : IsSeat seat) (sectors : ℕ → List ℕ) (spelled : AreSectorsOf sectors (Some seat)) where
+module _ (seat : Seat) (is : IsSeat seat) (sectors : ℕ → List ℕ) (encoded : AreSectorsOf sectors (Some seat)) where
   pub head_there : sectors 0 ≡ head_sector seat
-  head_there = spelled 0 (omega arith) ∙ first_sector seat
+  head_there = encoded 0 (omega arith) ∙ first_sector seat
 
   pub slot_at_is : (k : ℕ) → IsSlot (slot_at k seat)
   slot_at_is k = slot_is seat.slots k is.slots
 
   there : (k : ℕ) → 0 < k → k < 9 → sectors k ≡ part_of ((k - 1) % 4) (slot_text (slot_at ((k - 1) / 4) seat))
-  there k some few = spelled k few ∙ slot_sector_at k seat some
+  there k some few = encoded k few ∙ slot_sector_at k seat some
 
   joined : (text : List ℕ) (first : ℕ) → sectors first ≡ part_of 0 text → sectors (first + 1) ≡ part_of 1 text → sectors (first + 2) ≡ part_of 2 text → sectors (first + 3) ≡ part_of 3 text
       → length text ≡ 16384 → text_from sectors first ≡ text

@@ -1,3 +1,3 @@
 pub mod Padding
 pub mod Reading
-pub mod Spelling
+pub mod Encoding

@@ -3,7 +3,7 @@
 use Rattle.std.specs.Prelude.{◌≡◌, ◌<◌, ◌+◌, ◌==◌, ◌++◌, ℕ, List, [], ◌∷◌, Option, Some, None, drop, slice_index, take, if◌then◌else◌}
 use Rattle.std.specs.Int.{w32, from_be_bytes}
 use Rattle.model_tree.specs.Seats.Seats.{HeldReply, Seat, Seats}
-use Rattle.seats.specs.Spelling.{ArePlaces, seats_sector}
+use Rattle.seats.specs.Encoding.{ArePlaces, seats_sector}
 
 abbrev pub held_in : List ℕ → HeldReply
 held_in text = record {

@@ -4,7 +4,7 @@ ghost use Rattle.std.specs.Prelude.{◌≡◌, ◌<◌, ◌+◌, ◌≤◌, ℕ,
 ghost use Rattle.std.specs.Option.{option_map};
 ghost use Rattle.model_tree.specs.Seats.Seats as kept;
 ghost use Rattle.model_tree.specs.Seats.SeatViews.{held_view, seat_view, place_view};
-ghost use Rattle.seats.specs.Spelling.{AreSectorsOf, IsSeatPlace, IsSeat, IsSlot, sector_of, slot_text};
+ghost use Rattle.seats.specs.Encoding.{AreSectorsOf, IsSeatPlace, IsSeat, IsSlot, sector_of, slot_text};
 ghost use Rattle.seats.specs.Reading.{taken_from, text_from, seat_in};
 ghost use Rattle.seats.specs.Reading as total;
 

@@ -4,8 +4,8 @@ ghost use Rattle.std.specs.Prelude.{◌≡◌, ◌≤◌, ◌<◌, ◌-◌, ◌+
 ghost use Rattle.std.specs.Option.{option_map};
 ghost use Rattle.model_tree.specs.Seats.SeatViews.{held_view, seat_view, place_view};
 ghost use Rattle.seats.specs.Padding.{padded};
-ghost use Rattle.seats.specs.Spelling.{head_front, held_front, part_of, slot_at, slot_text};
-ghost use Rattle.seats.specs.Spelling as spelled;
+ghost use Rattle.seats.specs.Encoding.{head_prefix, held_prefix, part_of, slot_at, slot_text};
+ghost use Rattle.seats.specs.Encoding as encoded;
 
 use model_tree::seats::{HeldReply, Seat};
 use sector::{SIZE, put_bytes, put_u32, put_zeros};
@@ -34,8 +34,8 @@ fn fill(sector: &mut [u8; SIZE], at: usize, bytes: &[u8])
     put_zeros(sector, at + count, SIZE - at - count);
 }
 
-fn put_held_front(held: &HeldReply, sector: &mut [u8; SIZE])
-    ensures front { take RESULT sector.new ≡ held_front (held_view held.now) }
+fn put_held_prefix(held: &HeldReply, sector: &mut [u8; SIZE])
+    ensures prefix { take RESULT sector.new ≡ held_prefix (held_view held.now) }
     ensures len { length sector.new ≡ SIZE }
 {
     put_u32(sector, 0, 1);
@@ -49,7 +49,7 @@ fn first_part(held: &HeldReply) -> [u8; SIZE]
     ensures { result ≡ part_of 0 (slot_text (Some (held_view held.now))) }
 {
     let mut sector = [0; SIZE];
-    put_held_front(held, &mut sector);
+    put_held_prefix(held, &mut sector);
     fill(&mut sector, RESULT, &held.result);
     sector
 }
@@ -77,8 +77,8 @@ pub fn slot_sector(held: &HeldReply, part: usize) -> [u8; SIZE]
     }
 }
 
-fn put_head_front(seat: &Seat, sector: &mut [u8; SIZE])
-    ensures front { take OWNER sector.new ≡ head_front (seat_view seat.now) }
+fn put_head_prefix(seat: &Seat, sector: &mut [u8; SIZE])
+    ensures prefix { take OWNER sector.new ≡ head_prefix (seat_view seat.now) }
     ensures len { length sector.new ≡ SIZE }
 {
     put_bytes(sector, 0, b"SESS");
@@ -89,10 +89,10 @@ fn put_head_front(seat: &Seat, sector: &mut [u8; SIZE])
 }
 
 fn head_sector(seat: &Seat) -> [u8; SIZE]
-    ensures { result ≡ spelled.head_sector (seat_view seat.now) }
+    ensures { result ≡ encoded.head_sector (seat_view seat.now) }
 {
     let mut sector = [0; SIZE];
-    put_head_front(seat, &mut sector);
+    put_head_prefix(seat, &mut sector);
     fill(&mut sector, OWNER, &seat.owner);
     sector
 }
@@ -122,7 +122,7 @@ fn part_of_slot(seat: &Seat, slot: usize, part: usize) -> [u8; SIZE]
 /// One of the nine sectors of a place that this seat has.
 pub fn taken_sector(seat: &Seat, k: usize) -> [u8; SIZE]
     requires { k < 9 }
-    ensures { result ≡ spelled.seat_sector k (Some (seat_view seat.now)) }
+    ensures { result ≡ encoded.seat_sector k (Some (seat_view seat.now)) }
 {
     if k == 0 {
         return head_sector(seat);
@@ -133,7 +133,7 @@ pub fn taken_sector(seat: &Seat, k: usize) -> [u8; SIZE]
 /// One of the nine sectors of a place for a seat.
 pub fn seat_sector(place: &Option<Seat>, k: usize) -> [u8; SIZE]
     requires { k < 9 }
-    ensures { result ≡ spelled.seat_sector k (place_view place.now) }
+    ensures { result ≡ encoded.seat_sector k (place_view place.now) }
 {
     match place {
         None => zeros(),

@@ -16,7 +16,7 @@ use Rattle.model.specs.Operations.Access.{access_of}
 use Rattle.model.specs.Operations.Directory.{change_of}
 use Rattle.model.specs.Operations.Need.{granted_on}
 use Rattle.model.specs.Operations.Operation.{Attributes}
-use Rattle.model.specs.Operations.SetAttr.{shown_set, attributes_at}
+use Rattle.model.specs.Operations.SetAttr.{metadata_set, attributes_at}
 use Rattle.secrecy.specs.Blind.{blank, hidden_if, hidden}
 use Rattle.secrecy.proofs.Hiding.{at-hidden}
 
@@ -95,14 +95,14 @@ module _ (secret : ℕ → Bool) (tree : Tree) where
       by_if true node = refl
       by_if false node = refl
 
-  pub same_shown : (given : Attributes) (stamp now number : ℕ) → shown_set (at number (hidden secret tree)) given stamp now ≡ shown_set (at number tree) given stamp now
-  same_shown given stamp now = same_at (λ (there : Option Node). shown_set there given stamp now) by_if
+  pub same_shown : (given : Attributes) (stamp now number : ℕ) → metadata_set (at number (hidden secret tree)) given stamp now ≡ metadata_set (at number tree) given stamp now
+  same_shown given stamp now = same_at (λ (there : Option Node). metadata_set there given stamp now) by_if
     where
-      by_if : Overlooks (λ (there : Option Node). shown_set there given stamp now)
+      by_if : Overlooks (λ (there : Option Node). metadata_set there given stamp now)
       by_if false node = refl
       by_if true node = by_content node.content
         where
-          by_content : (content : Content) → shown_set (Some (with_content node (blank content))) given stamp now ≡ shown_set (Some (with_content node content)) given stamp now
+          by_content : (content : Content) → metadata_set (Some (with_content node (blank content))) given stamp now ≡ metadata_set (Some (with_content node content)) given stamp now
           by_content (File bytes) = refl
           by_content (Directory names) = refl
 

@@ -16,7 +16,7 @@ use Rattle.model_tree.specs.Rights.Acl.{read_data, read_acl, write_data, append_
 use Rattle.model_tree.specs.Trees.Ancestors.{is_below}
 use Rattle.model_tree.specs.Trees.Changes.{touch, removal, moving, made_edits, removed_edits, renamed_edits, acl_of}
 use Rattle.model_tree.specs.Trees.Charge.{fits}
-use Rattle.model_tree.specs.Trees.Edit.{Edit, PutNode, PutName, PutBytes, SetSize, Show, Shown, edited}
+use Rattle.model_tree.specs.Trees.Edit.{Edit, PutNode, PutName, PutBytes, SetSize, Show, Metadata, edited}
 use Rattle.model_tree.specs.Trees.Keyed.{Keyed, at}
 use Rattle.model_tree.specs.Trees.Stamp.{is_stamp_left, handle_number, is_filehandle}
 use Rattle.model_tree.specs.Trees.Tree.{Tree, Node, Content, File, Directory, DirEntry, bytes_of, bytes_at, bytes_of_node, is_directory_at, names_at, entry_of, number_of_entry, number_named, is_named}
@@ -37,7 +37,7 @@ use Rattle.model.specs.Operations.State.{State, Stepped, current, saved, stamp_o
 use Rattle.model.specs.Operations.Step.{early, need_first, middle, need_then, late, alters, effect, refusals, without_rights, change_refusals, unless_refused, does}
 use Rattle.model.specs.Sessions.Opens.{Open, Opens}
 use Rattle.model.specs.Sessions.StateIds.{state_refusals, write_access, new_open, Opened, opened, is_table_full, without_number}
-use Rattle.model.proofs.Operations.RefusalLaws.{none_after, none_in_front, none_before}
+use Rattle.model.proofs.Operations.RefusalLaws.{none_after, none_earlier, none_before}
 use Rattle.secrecy.specs.Blind.{blank, hidden_if, hidden, hiding, hiding_after, MayReadNone, EachIsBlind, EachAnswersAlike}
 use Rattle.secrecy.proofs.Alike.{same_at, same_key, same_directory, same_names, same_grant, same_touch, same_acl, same_change, same_shown, same_access, same_attributes}
 use Rattle.secrecy.proofs.Hiding.{at-hidden, hidden-twice, fits-hidden, parent-hidden, below-hidden, edits-hidden}
@@ -369,7 +369,7 @@ module _ (limits : Limits) (secret : ℕ → Bool) (state : State) where
   edits_same one other same = ap (λ (edits : List Edit). hidden secret (edited edits (hidden secret here_is))) same ∙ edits-hidden secret other here_is
 
   touch_same : (number stamp now : ℕ) → touch (hidden secret here_is) number stamp now ≡ touch here_is number stamp now
-  touch_same number stamp now = ap (λ (shown : Shown). Show number shown) (same_touch secret here_is stamp now number)
+  touch_same number stamp now = ap (λ (shown : Metadata). Show number shown) (same_touch secret here_is stamp now number)
 
   made_same : (name : List ℕ) (node : Node) (stamp now : ℕ) → made_edits (hidden secret here_is) (current state) name node stamp now ≡ made_edits here_is (current state) name node stamp now
   made_same name node stamp now =
@@ -427,7 +427,7 @@ module _ (limits : Limits) (secret : ℕ → Bool) (state : State) where
   sets_as_if true now arguments = record {
     outcome = refl;
     tree = edits_same _ (set_edits here_is (current state) arguments.attributes (stamp_of state) now)
-        (ap (λ (shown : Shown). size_edits (current state) (size_given arguments.attributes) ++ (Show (current state) shown ∷ []))
+        (ap (λ (shown : Metadata). size_edits (current state) (size_given arguments.attributes) ++ (Show (current state) shown ∷ []))
         (same_shown secret here_is arguments.attributes (stamp_of state) now (current state)));
     changes = refl;
     opens = refl;
@@ -609,7 +609,7 @@ module _ (limits : Limits) (secret : ℕ → Bool) (state : State) where
   read_refused arguments change denied none =
       let tests = none_before (refusals limits state (Argument.Read arguments)) change none in
       let behind = none_after (early limits state (Argument.Read arguments)) _ tests in
-      let rights = (none_in_front (without_rights state (here state.context read_data)) status.Access _ behind).0 in
+      let rights = (none_earlier (without_rights state (here state.context read_data)) status.Access _ behind).0 in
       true≢false (sym (ap (λ (b : Bool). not ((b || false) && true)) denied) ∙ rights)
 
   read_as_if : (now : ℕ) (arguments : ReadArguments) → granted_on (at (current state) here_is) state.context.cred read_data ≡ false

@@ -24,7 +24,7 @@ use Rattle.model.specs.Server.World.{World, InProgress, Connection, Quiet, Waiti
 use Rattle.model.specs.Sessions.Session as sessions
 use Rattle.model.specs.Sessions.Session.{Session, Slot, Table, holds_reply}
 use Rattle.model.specs.Sessions.StateIds.{has_opens, without_clients}
-use Rattle.model.specs.Wire.Record.{front, framed}
+use Rattle.model.specs.Wire.Record.{prefix, framed}
 use Rattle.model.specs.Wire.Rpc.{CallRead, NoCall, OtherVersion, Calls, read_call, Request, Answers, Runs, request_of, Success, compound_text, reply_text, words}
 use Rattle.secrecy.specs.Blind.{hidden, MayReadNone}
 use Rattle.model_tree.specs.Rights.Acl.{read_data}
@@ -40,8 +40,8 @@ use Rattle.secrecy.proofs.SeenTables.{seen-length, seen-same, seen-twice, table-
 pub appended : {A : Type 0} (a b c d : List A) → length a ≡ length c → length b ≡ length d → length (a ++ b) ≡ length (c ++ d)
 appended a b c d first second = length-append a b ∙ (ap₂ (λ (n m : ℕ). n + m) first second ∙ sym (length-append c d))
 
-long-behind : {A : Type 0} (front one other : List A) → length one ≡ length other → length (front ++ one) ≡ length (front ++ other)
-long-behind front one other long = appended front one front other refl long
+long-behind : {A : Type 0} (prefix one other : List A) → length one ≡ length other → length (prefix ++ one) ≡ length (prefix ++ other)
+long-behind prefix one other long = appended prefix one prefix other refl long
 
 counted-long : (one other : List ℕ) → length one ≡ length other → length (counted one) ≡ length (counted other)
 unfolding counted padded

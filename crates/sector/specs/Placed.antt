@@ -11,7 +11,7 @@ placed sector at bytes = take at sector ++ bytes ++ drop (at + length bytes) sec
 -- its parts end to end.
 pub record Places (old new : List ℕ) (at : ℕ) (bytes : List ℕ) : Type 0 where
   pub whole : new ≡ placed old at bytes
-  pub front : take (at + length bytes) new ≡ take at old ++ bytes
+  pub prefix : take (at + length bytes) new ≡ take at old ++ bytes
   pub len : length new ≡ 4096
 
 -- if the `width` bytes at offset `at` encode a number, the highest byte first, it is `number`

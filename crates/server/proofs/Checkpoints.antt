@@ -9,7 +9,7 @@ use Rattle.fs.specs.Changes.{FsChanges, FsFlushes, fs_ending}
 use Rattle.fs.specs.FileSystem.{FileSystem}
 use Rattle.fs.specs.declared.fault.FsFault.{FsFault}
 use Rattle.fs.specs.declared.fault.FsFault.TheVariants as faults
-use Rattle.volume.proofs.FrontLaws.{among_more}
+use Rattle.volume.proofs.PrefixLaws.{among_more}
 use Rattle.layout.specs.Stands.{Kept}
 use Rattle.volume.specs.Changes.{Stays, LeavesKept, LeavesOnCrash}
 use Rattle.volume.specs.VolumeState.{VolumeState, MakesAtMost, IsSameVolume, IsRecent, KeepsRecent, AddsKept, StandsForOne, MayAdd, kept_of}

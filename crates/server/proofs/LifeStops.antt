@@ -21,7 +21,7 @@ use Rattle.model.proofs.Sessions.SeatsSit.{every_session_sits}
 use Rattle.model.proofs.Sessions.SlotLaw.{others_between}
 use Rattle.volume.proofs.RemountLaws.{seen_left}
 use Rattle.server.specs.Headline.{Stopped, Follows, executed_in}
-use Rattle.server.specs.LifeLaws.{history_in, stored_in, freed_in, settled_by, stored_when_taken, IsSettled, EveryTaken, LeavesSeats, OnMap, OnMount, WasUp, EveryHeld, EveryStays, EveryFollows, EveryDead, EverySits, EveryStored, EveryAsked, EveryEnded, AreRuns, last_of, numbers_over, EveryOnce, WasFreed, table_in, IsGivenAgain, EveryRetried}
+use Rattle.server.specs.LifeLaws.{history_in, stored_in, freed_in, settled_by, stored_when_taken, IsSettled, EveryTaken, LeavesSeats, OnImage, OnMount, WasUp, EveryHeld, EveryStays, EveryFollows, EveryDead, EverySits, EveryStored, EveryAsked, EveryEnded, AreRuns, last_of, numbers_over, EveryOnce, WasFreed, table_in, IsGivenAgain, EveryRetried}
 use Rattle.server.specs.Seen.{left_of}
 use Rattle.server.specs.Views.{server_limits}
 use Rattle.server.proofs.SeatsEnd.{frees_ended}
@@ -72,7 +72,7 @@ its_settled stopped i settled waits = subst (λ (n : ℕ). i < n) (its_counted s
 -- The seats that its crash left are such
 
 pub may_be_left : (stopped : Stopped) (left : Seats) → LeavesSeats stopped left → ∥ MayHold stopped left ∥₁
-may_be_left stopped _ (OnMap {image = image} {nodes = nodes} {run = run} {kept = kept} left stands) =
+may_be_left stopped _ (OnImage {image = image} {nodes = nodes} {run = run} {kept = kept} left stands) =
     let is = every_stop stopped image left in
     ∣ subst (λ (k : Kept). MayHold stopped k.seats) (sym (is.no_other nodes run kept stands).0) (is.kept.tree, is.good.left) ∣₁
 may_be_left stopped _ (OnMount {device = device} {from = from} {again = again} remounts found) =

@@ -29,10 +29,10 @@ use Rattle.model.specs.Sessions.Session.{Table, loaded_table, Settings}
 use Rattle.model.specs.Server.World.{World, Connection, mounted_world}
 use Rattle.server.specs.Headline.{IsMounted}
 use Rattle.server.specs.Views.{world_by, server_limits, serving_by}
-use Rattle.server.specs.Seen.{Seen, kept_by, left_of, IsReady, LeavesNow, MayKeepDuring, Moves, Said, event_told, Does}
+use Rattle.server.specs.Seen.{Seen, kept_by, left_of, IsReady, LeavesNow, MayKeepDuring, Moves, Said, event_said, Does}
 use Rattle.server.proofs.Pairs.{among_left}
 use Rattle.server.proofs.Worlds.{happened_quietly}
-use Rattle.volume.proofs.FrontLaws.{among_rest}
+use Rattle.volume.proofs.PrefixLaws.{among_rest}
 use Rattle.volume.proofs.LoadLaws.{any_limits}
 use Rattle.disk.proofs.MomentLemmas.{AddsOnly-same}
 
@@ -102,7 +102,7 @@ broken_leaves held after_held after recent is adds same image left = ⊎_elim
 
 -- a call that does an event without the device
 pub does_quietly : (held : VolumeState) (old new : World) (down waits : Bool) (event : Event) (said : Said) → executed_of old event ≡ None → down ≡ false → new ≡ effect_of old event
-    → (effect_of old event).table ≡ old.table → said ≡ event_told old event → MayBeTaken waits event → (recent : List runs.Left) → IsReady held recent → (after : List runs.Left)
+    → (effect_of old event).table ≡ old.table → said ≡ event_said old event → MayBeTaken waits event → (recent : List runs.Left) → IsReady held recent → (after : List runs.Left)
     × (does : Does (record { serving = serving_by old recent down waits; volume = held }) event said (record { serving = serving_by new after down waits; volume = held }))
     × (does.happens.defers ≡ false)
 unfolding happened_quietly

@@ -7,7 +7,7 @@ use Rattle.layout.specs.Stands.{Kept}
 use Rattle.model.specs.Server.Runs.{Left}
 use Rattle.model_tree.specs.Seats.Seats.{Seats}
 use Rattle.volume.specs.VolumeState.{VolumeState, IsRecent}
-use Rattle.volume.proofs.FrontLaws.{among_rest}
+use Rattle.volume.proofs.PrefixLaws.{among_rest}
 use Rattle.server.specs.Seen.{kept_by, left_of}
 
 -- What a volume leaves, as the machine has it

@@ -4,7 +4,7 @@ use Rattle.std.specs.Prelude.{map}
 use Rattle.disk.specs.Moments.{History, AddsOnly}
 use Rattle.disk.proofs.MomentLemmas.{AddsOnly-weaken}
 use Rattle.compound.specs.States.{Agrees, SharedState, HasState, with_state}
-use Rattle.compound.specs.Volumes.{TurnGives, fault_ending, kept_of_world, lasts, undone_step_ending}
+use Rattle.compound.specs.Volumes.{TurnGives, fault_ending, kept_of_world, lasts, failed_step_ending}
 use Rattle.compound.specs.declared.fault.Fault.{Fault}
 use Rattle.compound.specs.declared.fault.Fault.TheVariants as faults
 use Rattle.compound.specs.declared.step.StepError.{StepError}
@@ -62,9 +62,9 @@ module _ (state left : SharedState) (old new : Keyed world.Connection) (number n
       (sym made.0, here ∙ sym made.1)
 
 -- a turn that was not done leaves the world
-pub undone : (state left : SharedState) (old new : Keyed world.Connection) → left.files ≡ state.files
+pub failed : (state left : SharedState) (old new : Keyed world.Connection) → left.files ≡ state.files
     → left ≡ record state { files = left.files } → new ≡ old → world_by left new ≡ world_by state old
-undone state left old new files stays connections =
+failed state left old new files stays connections =
     ap (λ (s : SharedState). world_by s new) (stays ∙ ap (λ (f : FileSystem). record state { files = f }) files) ∙ ap (world_by state) connections
 
 -- and if the device failed, all of it except the tree
@@ -153,8 +153,8 @@ not_done keeps_word given old new before after was is faults.Memory changes same
     subst (Agrees new) (sym same) (agrees_on old new was changes.volume_changes.same.run (ap (λ (h : VolumeState). h.seats) changes.volume_changes.ends) agrees)
 
 pub agrees_after : (keeps_word : Type 0) (given : Given) (old new : FileSystem) (before after : ℕ) (was is : Table) (others : Type 0) (result : Result Stepped StepError)
-    → FsChanges keeps_word given old new before after (undone_step_ending result) → IfOk result (λ done. Agrees new is) → OnErr result ((is ≡ was) × others)
+    → FsChanges keeps_word given old new before after (failed_step_ending result) → IfOk result (λ done. Agrees new is) → OnErr result ((is ≡ was) × others)
     → Agrees old was → new.volume.is_down ≡ false → Agrees new is
 agrees_after keeps_word given old new before after was is others (Ok done) changes agreed same agrees up = agreed
-agrees_after keeps_word given old new before after was is others (Err undone) changes agreed same agrees up =
-    not_done keeps_word given old new before after was is undone.fault changes same.0 agrees up
+agrees_after keeps_word given old new before after was is others (Err failed) changes agreed same agrees up =
+    not_done keeps_word given old new before after was is failed.fault changes same.0 agrees up

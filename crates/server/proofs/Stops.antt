@@ -25,7 +25,7 @@ use Rattle.volume.specs.Formats.{IsFresh}
 use Rattle.volume.specs.Remounts.{StandsForGood, LeavesGood}
 use Rattle.server.specs.Headline.{IsMounted, IsGoodKept, EveryStop, EveryRun, EveryFirst, IsNewVolume, Formatted, Powers, NeverLost, IsNotLost, EveryTrace, Stopped, executed_in, Follows, IsLater, Next, Then, EveryLife, EveryStamping, EveryAnswer}
 use Rattle.volume.specs.VolumeState.{StandsForOne}
-use Rattle.server.specs.Seen.{Seen, left_of, LeavesNow, MayKeepDuring, Moves, ServerCall, IsServed, Begins, Goes_on, Fails_at, Stays_down, Keeps_on, Flushed, world_after, history_of, AreTold, event_told}
+use Rattle.server.specs.Seen.{Seen, left_of, LeavesNow, MayKeepDuring, Moves, ServerCall, IsServed, Begins, Goes_on, Fails_at, Stays_down, Keeps_on, Flushed, world_after, history_of, AreTold, event_said}
 use Rattle.server.specs.LifeLaws.{settled_by, stored_when_taken}
 use Rattle.server.specs.Views.{server_limits}
 use Rattle.server.proofs.Moves.{left_now}
@@ -302,13 +302,13 @@ traced : (first last : Seen) (calls : List ServerCall) → IsServed first calls 
 traced first last calls Begins = (refl, tt)
 traced first last calls (Goes_on {calls = earlier} {old = old} {new = new} event said before does) =
     let was = traced first old earlier before in
-    (does.happens.world ∙ ap (λ (w : World). effect_of w event) was.0, (does.says ∙ ap (λ (w : World). event_told w event) was.0, was.1))
+    (does.happens.world ∙ ap (λ (w : World). effect_of w event) was.0, (does.says ∙ ap (λ (w : World). event_said w event) was.0, was.1))
 traced first last calls (Fails_at {calls = earlier} {old = old} {new = new} event before breaks) =
     let was = traced first old earlier before in
     (breaks.fails.world ∙ was.0, was.1)
 traced first last calls (Stays_down {calls = earlier} {old = old} {new = new} connection said before gives) =
     let was = traced first old earlier before in
-    (gives.stays.world ∙ ap (λ (w : World). effect_of w (Takes connection)) was.0, (gives.says ∙ ap (λ (w : World). event_told w (Takes connection)) was.0, was.1))
+    (gives.stays.world ∙ ap (λ (w : World). effect_of w (Takes connection)) was.0, (gives.says ∙ ap (λ (w : World). event_said w (Takes connection)) was.0, was.1))
 traced first last calls (Keeps_on {old = old} {new = new} before keeps) =
     let was = traced first old calls before in
     (ap (λ (s : Serving). s.world) keeps.serving ∙ was.0, was.1)

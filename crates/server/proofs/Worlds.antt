@@ -5,7 +5,7 @@ use Rattle.std.specs.Prelude.{map}
 use Rattle.std.proofs.lemmas.Bool.{cases_eq, false≢true}
 use Rattle.layout.specs.Stands.{Kept}
 use Rattle.model_tree.specs.Trees.Keyed.{Keyed, at, with, without}
-use Rattle.model.specs.Wire.Record.{RecordLimits, Front, Partial, Refused, Whole, front}
+use Rattle.model.specs.Wire.Record.{RecordLimits, Prefix, Partial, Refused, Whole, prefix}
 use Rattle.model.specs.Wire.Rpc.{is_call_read, read_call}
 use Rattle.model.specs.Server.Runs.{Event, Happens, TakesNone, MayBeTaken, DeviceFails, StaysDown, effect_of, executed_of, executed_by, Left, left_after, MayBeLeft, IsAfterEvent, Serving, is_durable}
 use Rattle.model.specs.Server.World as world
@@ -16,7 +16,7 @@ use Rattle.compound.specs.States.{SharedState}
 use Rattle.compound.specs.Volumes.{kept_of_world, lasts}
 use Rattle.volume.specs.Changes.{LeavesOnCrash}
 use Rattle.volume.specs.VolumeState.{VolumeState}
-use Rattle.volume.proofs.FrontLaws.{among_more}
+use Rattle.volume.proofs.PrefixLaws.{among_more}
 use Rattle.model.proofs.Server.RuledOutLaws.{dropped}
 use Rattle.model.proofs.Server.RunLaws.{EntryFits, event_fits}
 use Rattle.rpc.specs.Assembly.{record_limits}
@@ -212,7 +212,7 @@ taken_of_run run (world.Busy request) here = here
 taken_of_run run (world.Replied reply) here = quiet_of_run run []
 taken_of_run run world.Closed here = here
 
-arrived_quiet : (bytes : List ℕ) (found : Front) → is_busy (Some (arrived bytes found)) ≡ false
+arrived_quiet : (bytes : List ℕ) (found : Prefix) → is_busy (Some (arrived bytes found)) ≡ false
 arrived_quiet bytes Partial = refl
 arrived_quiet bytes (Refused fault) = refl
 arrived_quiet bytes (Whole request rest) = by_call (is_call_read (read_call request))
@@ -222,7 +222,7 @@ arrived_quiet bytes (Whole request rest) = by_call (is_call_read (read_call requ
     by_call false = refl
 
 pub arrived_of_run : (run : ℕ) (limits : RecordLimits) (piece : List ℕ) (connection : world.Connection) → IsOfRun run connection → IsOfRun run (arrives_at limits piece connection)
-arrived_of_run run limits piece (world.Quiet bytes) here = not_busy_of_run run _ (arrived_quiet (bytes ++ piece) (front limits (bytes ++ piece)))
+arrived_of_run run limits piece (world.Quiet bytes) here = not_busy_of_run run _ (arrived_quiet (bytes ++ piece) (prefix limits (bytes ++ piece)))
 arrived_of_run run limits piece (world.Waiting request) here = here
 arrived_of_run run limits piece (world.Busy request) here = here
 arrived_of_run run limits piece (world.Replied reply) here = here

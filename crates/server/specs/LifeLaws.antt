@@ -77,7 +77,7 @@ EveryTaken = (stopped : Stopped) → stored_when_taken stopped.served ≤ settle
 -- Seats that its crash left: those that an image of it represents, or that a mount since then
 -- serves
 pub data LeavesSeats (stopped : Stopped) : Seats → Type 0 where
-  OnMap : {image : Image} {nodes run : ℕ} {kept : Kept} → LeftBy stopped image
+  OnImage : {image : Image} {nodes run : ℕ} {kept : Kept} → LeftBy stopped image
       → StandsFor stopped.first.volume.sectors nodes run kept image → LeavesSeats stopped kept.seats
   OnMount : {device : History} {from : ℕ} {again : VolumeState} → IsMountedAfter stopped device from
       → IsFound stopped.first.volume.sectors device again → LeavesSeats stopped again.seats

@@ -70,13 +70,13 @@ taken_on world piece None = None
 taken_on world piece (Some connection) = taken_at world.limits.records piece connection
 
 -- by the definition
-abbrev pub event_told : World → Event → Said
-event_told world (Arrives connection piece) =
+abbrev pub event_said : World → Event → Said
+event_said world (Arrives connection piece) =
     Took (taken_on world piece (at connection world.connections))
-event_told world (Turns connection now) = Turned (one world connection now).turn
-event_told world (HangsUp connection) = Done
-event_told world (Connects connection) = Done
-event_told world (Takes connection) = Gave (reply_at world connection)
+event_said world (Turns connection now) = Turned (one world connection now).turn
+event_said world (HangsUp connection) = Done
+event_said world (Connects connection) = Done
+event_said world (Takes connection) = Gave (reply_at world connection)
 
 -- Calls
 
@@ -84,7 +84,7 @@ event_told world (Takes connection) = Gave (reply_at world connection)
 -- down
 pub record Does (old : Seen) (event : Event) (said : Said) (new : Seen) : Type 0 where
   pub happens : Happens old.serving event new.serving
-  pub says : said ≡ event_told old.serving.world event
+  pub says : said ≡ event_said old.serving.world event
   pub moves : Moves old event new
   pub ready : IsSeenReady new
 
@@ -94,7 +94,7 @@ pub record Breaks (old : Seen) (event : Event) (new : Seen) : Type 0 where
 
 pub record GivesDown (old : Seen) (connection : ℕ) (said : Said) (new : Seen) : Type 0 where
   pub stays : StaysDown old.serving connection new.serving
-  pub says : said ≡ event_told old.serving.world (Takes connection)
+  pub says : said ≡ event_said old.serving.world (Takes connection)
   pub moves : Moves old (Takes connection) new
 
 -- A checkpoint is no event: content was moved on the device. A crash within it leaves what it may
@@ -158,7 +158,7 @@ history_of start (Failed event ∷ calls) =
 abbrev pub AreTold : World → List ServerCall → Type 0
 AreTold start [] = Unit {0}
 AreTold start (Did event said ∷ calls) =
-    (said ≡ event_told (world_after start calls) event) × AreTold start calls
+    (said ≡ event_said (world_after start calls) event) × AreTold start calls
 AreTold start (Failed event ∷ calls) = AreTold start calls
 
 -- A hang-up: the further turns of a request that has begun, and then the connection goes

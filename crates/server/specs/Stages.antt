@@ -14,7 +14,7 @@ use Rattle.server.specs.declared.begun.Begun.{Begun}
 use Rattle.server.specs.declared.begun.TurnEnd.{TurnEnd}
 use Rattle.server.specs.declared.begun.TurnEnd.TheVariants as left
 use Rattle.server.specs.declared.begun.KeptCall.{KeptCall}
-use Rattle.server.specs.declared.begun.Undone.{Undone}
+use Rattle.server.specs.declared.begun.FailedStep.{FailedStep}
 use Rattle.server.specs.declared.stage.Stage.{Stage}
 use Rattle.server.specs.declared.stage.Stage.TheVariants as stage
 
@@ -90,6 +90,6 @@ abbrev pub IsLeftInRun : (run : ℕ) → TurnEnd → Type 0
 IsLeftInRun run (left.Begun begun) = begun.progress.run ≡ run
 IsLeftInRun run (left.Answered reply) = Unit {0}
 
-abbrev pub undone_turn_ending : {T : Type 0} → Result T Undone → Ending
-undone_turn_ending (Ok done) = Done
-undone_turn_ending (Err undone) = fault_ending undone.fault
+abbrev pub failed_turn_ending : {T : Type 0} → Result T FailedStep → Ending
+failed_turn_ending (Ok done) = Done
+failed_turn_ending (Err failed) = fault_ending failed.fault

@@ -34,7 +34,7 @@ pub enum TurnEnd {
 
 /// A COMPOUND of which a turn was not done, as it was before, and why.
 #[derive(Drop)]
-pub struct Undone {
+pub struct FailedStep {
     pub fault: Fault,
     pub begun: Begun,
 }
@@ -45,7 +45,7 @@ impl Begun {
     ghost use Rattle.compound.specs.Volumes.{TurnGives};
     ghost use Rattle.server.specs.Connections.{RecordGoesOn, RecordSteps};
     ghost use Rattle.server.specs.Engines.{AltersFiles, BorrowsSame, KeepsRest, files_in, state_in};
-    ghost use Rattle.server.specs.Stages.{CanGoOn, in_progress_at, undone_turn_ending};
+    ghost use Rattle.server.specs.Stages.{CanGoOn, in_progress_at, failed_turn_ending};
 
     /// A turn of the COMPOUND whose call is in this record.
     ///
@@ -56,7 +56,7 @@ impl Begun {
         request: &[u8],
         engine: &mut Engine<'_, D>,
         results_buffer: &mut Writer,
-    ) -> Result<TurnEnd, Undone>
+    ) -> Result<TurnEnd, FailedStep>
         requires goes_on { CanGoOn (files_in engine.old).volume.run request.now self }
         requires up { (files_in engine.old).volume.is_down ≡ false }
         // If it succeeds
@@ -66,12 +66,12 @@ impl Begun {
         ensures goes_on { IfOk result
             (RecordGoesOn (files_in engine.old).volume.run request.now self) }
         // If it fails
-        ensures back { IfErr result (λ undone. undone.begun ≡ self) }
+        ensures back { IfErr result (λ failed. failed.begun ≡ self) }
         ensures others { OnErr result (KeepsRest engine.old engine.new) }
         // However it ends
         ensures volume { AltersFiles engine.old engine.new (TurnGives (state_in engine.old)
             (λ world number. stepped_on world number engine.old.moment
-            (in_progress_at request.now self))) (undone_turn_ending result) }
+            (in_progress_at request.now self))) (failed_turn_ending result) }
         ensures same { BorrowsSame engine.old engine.new }
     {
         let Begun { call, progress } = self;
@@ -83,11 +83,11 @@ impl Begun {
             results_buffer,
         ) {
             Ok(done) => Ok(call.left(done)),
-            Err(undone) => Err(Undone {
-                fault: undone.fault,
+            Err(failed) => Err(FailedStep {
+                fault: failed.fault,
                 begun: Begun {
                     call,
-                    progress: undone.progress,
+                    progress: failed.progress,
                 },
             }),
         }

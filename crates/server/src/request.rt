@@ -64,9 +64,9 @@ pub fn first_turn<D: Device>(
         Opened::Answers(reply) => Ok(TurnEnd::Answered(reply)),
         Opened::Begins(begun) => match begun.step(request, engine, results_buffer) {
             Ok(done) => Ok(done),
-            Err(undone) => {
-                *results_buffer = undone.begun.progress.into_memory();
-                Err(undone.fault)
+            Err(failed) => {
+                *results_buffer = failed.begun.progress.into_memory();
+                Err(failed.fault)
             }
         },
     }

@@ -92,9 +92,9 @@ impl Connection {
         };
         match begun.step(record, engine, &mut self.results_buffer) {
             Ok(done) => Ok(self.settle(done)),
-            Err(undone) => {
-                self.stage = Stage::Running(undone.begun);
-                Err(undone.fault)
+            Err(failed) => {
+                self.stage = Stage::Running(failed.begun);
+                Err(failed.fault)
             }
         }
     }

@@ -14,25 +14,25 @@ use Rattle.session.specs.Rooms.{argument_refusals, room_refusals}
 
 -- Tests one after the other
 
-front_head : (test : Bool) (reason s : Status) (others rest : Option Status) → (others ≡ Some s → rest ≡ Some s) → refused_or test reason others ≡ Some s → refused_or test reason rest ≡ Some s
-front_head true reason s others rest step e = e
-front_head false reason s others rest step e = step e
+prefix_head : (test : Bool) (reason s : Status) (others rest : Option Status) → (others ≡ Some s → rest ≡ Some s) → refused_or test reason others ≡ Some s → refused_or test reason rest ≡ Some s
+prefix_head true reason s others rest step e = e
+prefix_head false reason s others rest step e = step e
 
-first_front : (front rest : Refusals) (s : Status) → first_refusal front ≡ Some s → first_refusal (front ++ rest) ≡ Some s
-first_front [] rest s e = cc
-first_front (test ∷ front) rest s e = front_head test.0 test.1 s (first_refusal front) (first_refusal (front ++ rest)) (first_front front rest s) e
+first_prefix : (prefix rest : Refusals) (s : Status) → first_refusal prefix ≡ Some s → first_refusal (prefix ++ rest) ≡ Some s
+first_prefix [] rest s e = cc
+first_prefix (test ∷ prefix) rest s e = prefix_head test.0 test.1 s (first_refusal prefix) (first_refusal (prefix ++ rest)) (first_prefix prefix rest s) e
 
 back_head : (test : Bool) (reason : Status) (others rest back : Option Status) → (others ≡ None → rest ≡ back) → refused_or test reason others ≡ None → refused_or test reason rest ≡ back
 back_head true reason others rest back step e = cc
 back_head false reason others rest back step e = step e
 
-first_back : (front rest : Refusals) → first_refusal front ≡ None → first_refusal (front ++ rest) ≡ first_refusal rest
+first_back : (prefix rest : Refusals) → first_refusal prefix ≡ None → first_refusal (prefix ++ rest) ≡ first_refusal rest
 first_back [] rest e = refl
-first_back (test ∷ front) rest e = back_head test.0 test.1 (first_refusal front) (first_refusal (front ++ rest)) (first_refusal rest) (first_back front rest) e
+first_back (test ∷ prefix) rest e = back_head test.0 test.1 (first_refusal prefix) (first_refusal (prefix ++ rest)) (first_refusal rest) (first_back prefix rest) e
 
 pub refused_by_arguments : (arguments : CreateSessionArguments) (client : Client) (table : Table) (s : Status)
     → first_refusal (argument_refusals client.sequence arguments) ≡ Some s → first_refusal (create_refusals served arguments client table) ≡ Some s
-refused_by_arguments arguments client table s e = first_front (argument_refusals client.sequence arguments) (room_refusals client table) s e
+refused_by_arguments arguments client table s e = first_prefix (argument_refusals client.sequence arguments) (room_refusals client table) s e
 
 pub refused_by_room : (arguments : CreateSessionArguments) (client : Client) (table : Table)
     → first_refusal (argument_refusals client.sequence arguments) ≡ None → first_refusal (create_refusals served arguments client table) ≡ first_refusal (room_refusals client table)

@@ -81,9 +81,9 @@ where
         Ok(opened) => opened,
         Err(error) => return Err(open_refusal(error.kind())),
     };
-    let mut front = [0; MAGIC.len()];
-    match opened.read_exact_at(&mut front, 0) {
-        Ok(()) => Ok(front == MAGIC),
+    let mut prefix = [0; MAGIC.len()];
+    match opened.read_exact_at(&mut prefix, 0) {
+        Ok(()) => Ok(prefix == MAGIC),
         Err(error) if error.kind() == ErrorKind::UnexpectedEof => Ok(false),
         Err(error) => Err(error.into()),
     }

@@ -7,12 +7,12 @@ use Rattle.model_tree.specs.Trees.Tree.{Tree, Node, DirEntry, names_of}
 use Rattle.model_tree.specs.Trees.WellFormed.{IsBefore}
 use Rattle.directory.specs.Records.{Record}
 use Rattle.layout.specs.CachedNodes.{CachedNode, tree_of, node_of}
-use Rattle.layout.specs.Known.{AreCards}
+use Rattle.layout.specs.Known.{AreCached}
 use Rattle.layout.proofs.Answering.{tree_answers}
-use Rattle.layout.proofs.Knowing.{laid_are_cards}
+use Rattle.layout.proofs.Knowing.{laid_are_cached_nodes}
 use Rattle.tree_check.specs.Ages.{AreBefore, AreNamesBefore}
 use Rattle.tree_check.specs.ShapeLaws.{EachAge}
-use Rattle.tree_check.proofs.TreeLaws.{There, Nowhere, at-stamp, find, is_card, node-names, stamped-content}
+use Rattle.tree_check.proofs.TreeLaws.{There, Nowhere, at-stamp, find, is_cached, node-names, stamped-content}
 
 pub not_before : (stamp : ℕ) (names : List Record) (i : ℕ) (one : Record) → ((d : Record) → get_or names i d ≡ one) → i < length names → stamp ≤ one.0
     → AreNamesBefore stamp names → ⊥
@@ -41,12 +41,12 @@ all-before : (stamp : ℕ) (names : List Record) → ((i : ℕ) (d : Record) →
 all-before stamp [] each = tt
 all-before stamp (x ∷ names) each = (each 0 x (omega arith), all-before stamp names (λ i d h. each (suc i) d (omega arith)))
 
-module _ (nodes : ℕ) (image : Image) (mark : ℕ → ℕ) (cards : List (Option CachedNode)) (known : AreCards nodes mark cards) (stamp : ℕ) where
+module _ (nodes : ℕ) (image : Image) (mark : ℕ → ℕ) (cached_nodes : List (Option CachedNode)) (known : AreCached nodes mark cached_nodes) (stamp : ℕ) where
   abbrev tree : Tree
-  tree = tree_of image cards
+  tree = tree_of image cached_nodes
 
-  pub node-is : (number : ℕ) (node : Node) (place : ℕ) (card : CachedNode) → at number tree ≡ Some node → get_or cards place None ≡ Some card → card.fields.number ≡ number → node ≡ node_of image card
-  node-is number node place card e there is = some_node node (node_of image card) (sym e ∙ (tree_answers image cards known.apart number).found place card there is)
+  pub node-is : (number : ℕ) (node : Node) (place : ℕ) (cached : CachedNode) → at number tree ≡ Some node → get_or cached_nodes place None ≡ Some cached → cached.fields.number ≡ number → node ≡ node_of image cached
+  node-is number node place cached e there is = some_node node (node_of image cached) (sym e ∙ (tree_answers image cached_nodes known.apart number).found place cached there is)
     where
       some_node : (a b : Node) → (let one : Option Node = Some a in one ≡ Some b) → a ≡ b
       some_node a b e = cc
@@ -57,46 +57,46 @@ module _ (nodes : ℕ) (image : Image) (mark : ℕ → ℕ) (cards : List (Optio
       none_some : (node : Node) → (let none : Option Node = None in none ≡ Some node) → ⊥
       none_some node e = cc
 
-  change-is : (card : CachedNode) → (node_of image card).change ≡ card.fields.change
+  change-is : (cached : CachedNode) → (node_of image cached).change ≡ cached.fields.change
   unfolding node_of
-  change-is card = refl
+  change-is cached = refl
 
-  names-are : (place : ℕ) (card : CachedNode) → get_or cards place None ≡ Some card → (key : ℕ) → at key (names_of (node_of image card).content) ≡ at key card.names
+  names-are : (place : ℕ) (cached : CachedNode) → get_or cached_nodes place None ≡ Some cached → (key : ℕ) → at key (names_of (node_of image cached).content) ≡ at key cached.names
   unfolding node_of
-  names-are place card there key = node-names nodes image mark cards known card.fields.kind card (is_card nodes image mark cards known place card there).content key
+  names-are place cached there key = node-names nodes image mark cached_nodes known cached.fields.kind cached (is_cached nodes image mark cached_nodes known place cached there).content key
 
-  before-tree : AreBefore stamp cards → IsBefore stamp tree
+  before-tree : AreBefore stamp cached_nodes → IsBefore stamp tree
   before-tree before = record {
-    number = λ number node e. elim (find cards number) [
-      | There place card there is ↦ subst (λ n. n < stamp) is (before place card there).number
-      | Nowhere none ↦ absurd (none-node number node e ((tree_answers image cards known.apart number).none none))
+    number = λ number node e. elim (find cached_nodes number) [
+      | There place cached there is ↦ subst (λ n. n < stamp) is (before place cached there).number
+      | Nowhere none ↦ absurd (none-node number node e ((tree_answers image cached_nodes known.apart number).none none))
     ];
-    change = λ number node e. elim (find cards number) [
-      | There place card there is ↦
-          subst (λ n. n < stamp) (sym (ap (λ (node : Node). node.change) (node-is number node place card e there is) ∙ change-is card)) (before place card there).change
-      | Nowhere none ↦ absurd (none-node number node e ((tree_answers image cards known.apart number).none none))
+    change = λ number node e. elim (find cached_nodes number) [
+      | There place cached there is ↦
+          subst (λ n. n < stamp) (sym (ap (λ (node : Node). node.change) (node-is number node place cached e there is) ∙ change-is cached)) (before place cached there).change
+      | Nowhere none ↦ absurd (none-node number node e ((tree_answers image cached_nodes known.apart number).none none))
     ];
-    entry = λ number node key entry e has. elim (find cards number) [
-      | There place card there is ↦
-          at-before stamp card.names key entry (before place card there).names
-          (sym (names-are place card there key) ∙ (ap (λ (node : Node). at key (names_of node.content)) (sym (node-is number node place card e there is)) ∙ has))
-      | Nowhere none ↦ absurd (none-node number node e ((tree_answers image cards known.apart number).none none))
+    entry = λ number node key entry e has. elim (find cached_nodes number) [
+      | There place cached there is ↦
+          at-before stamp cached.names key entry (before place cached there).names
+          (sym (names-are place cached there key) ∙ (ap (λ (node : Node). at key (names_of node.content)) (sym (node-is number node place cached e there is)) ∙ has))
+      | Nowhere none ↦ absurd (none-node number node e ((tree_answers image cached_nodes known.apart number).none none))
     ];
   }
 
-  tree-before : IsBefore stamp tree → AreBefore stamp cards
-  tree-before before place card there =
-      let has = (tree_answers image cards known.apart card.fields.number).found place card there refl in
-      let stamped = stamped-content nodes image mark cards known card.fields.kind card (is_card nodes image mark cards known place card there).content in
+  tree-before : IsBefore stamp tree → AreBefore stamp cached_nodes
+  tree-before before place cached there =
+      let has = (tree_answers image cached_nodes known.apart cached.fields.number).found place cached there refl in
+      let stamped = stamped-content nodes image mark cached_nodes known cached.fields.kind cached (is_cached nodes image mark cached_nodes known place cached there).content in
       record {
-        number = before.number card.fields.number (node_of image card) has;
-        change = subst (λ n. n < stamp) (change-is card) (before.change card.fields.number (node_of image card) has);
-        names = all-before stamp card.names (λ i d h. before.entry card.fields.number (node_of image card) (get_or card.names i d).0 (get_or card.names i d).1 has
-            (names-are place card there (get_or card.names i d).0 ∙ at-stamp card.names stamped i d h));
+        number = before.number cached.fields.number (node_of image cached) has;
+        change = subst (λ n. n < stamp) (change-is cached) (before.change cached.fields.number (node_of image cached) has);
+        names = all-before stamp cached.names (λ i d h. before.entry cached.fields.number (node_of image cached) (get_or cached.names i d).0 (get_or cached.names i d).1 has
+            (names-are place cached there (get_or cached.names i d).0 ∙ at-stamp cached.names stamped i d h));
       }
 
-pub known_age : (nodes : ℕ) (image : Image) (mark : ℕ → ℕ) (cards : List (Option CachedNode)) → AreCards nodes mark cards → (stamp : ℕ) → AreBefore stamp cards ↔ IsBefore stamp (tree_of image cards)
-known_age nodes image mark cards known stamp = (before-tree nodes image mark cards known stamp, tree-before nodes image mark cards known stamp)
+pub known_age : (nodes : ℕ) (image : Image) (mark : ℕ → ℕ) (cached_nodes : List (Option CachedNode)) → AreCached nodes mark cached_nodes → (stamp : ℕ) → AreBefore stamp cached_nodes ↔ IsBefore stamp (tree_of image cached_nodes)
+known_age nodes image mark cached_nodes known stamp = (before-tree nodes image mark cached_nodes known stamp, tree-before nodes image mark cached_nodes known stamp)
 
 pub each_age : EachAge
-each_age nodes image mark cards laid = known_age nodes image mark cards (laid_are_cards nodes image mark cards laid)
+each_age nodes image mark cached_nodes laid = known_age nodes image mark cached_nodes (laid_are_cached_nodes nodes image mark cached_nodes laid)

@@ -16,19 +16,19 @@ use Rattle.directory.specs.Listing.{by_stamp}
 use Rattle.directory.specs.Records.{Record, name_of, NamesApart, NamesStamped}
 use Rattle.directory.proofs.ByStamp.{at-by_stamp}
 use Rattle.layout.specs.CachedNodes.{CachedNode, tree_of, node_of, content_of, bytes_in, byte_at}
-use Rattle.layout.specs.Known.{HasContent, AreCards}
+use Rattle.layout.specs.Known.{HasContent, AreCached}
 use Rattle.layout.specs.Marks.{times, times_set, namings_of}
 use Rattle.layout.proofs.Answering.{tree_answers}
 use Rattle.layout.proofs.Changing.{named-at}
 use Rattle.layout.proofs.ChargeLaws.{above_by_stamp}
 use Rattle.layout.proofs.Frame.{bytes-kept}
-use Rattle.layout.proofs.Knowing.{laid_are_cards}
+use Rattle.layout.proofs.Knowing.{laid_are_cached_nodes}
 use Rattle.layout.proofs.Linking.{bytes_fit}
 use Rattle.layout.proofs.Summing.{names_total}
 use Rattle.tree_check.specs.Nodes.{IsNameAllowed, AreNamesAllowed, IsContentAllowed, IsNodeAllowed, HasRootDirectory, AreNodesAllowed}
 use Rattle.tree_check.specs.ShapeLaws.{HoldBytes, HasAllowedNodes, EachNode}
 use Rattle.tree_check.proofs.AgeLaws.{node-is, none-node}
-use Rattle.tree_check.proofs.TreeLaws.{There, Nowhere, at-stamp, find, is_card}
+use Rattle.tree_check.proofs.TreeLaws.{There, Nowhere, at-stamp, find, is_cached}
 
 -- Names
 
@@ -102,116 +102,116 @@ marked-same : (n : ℕ) (content : List ℕ) → 0 < n → content ≡ marked_by
 marked-same zero content h = absurd (omega arith)
 marked-same (suc n) content h = refl
 
-module _ (nodes : ℕ) (image : Image) (mark : ℕ → ℕ) (cards : List (Option CachedNode)) (known : AreCards nodes mark cards) (bytes : HoldBytes image mark) where
+module _ (nodes : ℕ) (image : Image) (mark : ℕ → ℕ) (cached_nodes : List (Option CachedNode)) (known : AreCached nodes mark cached_nodes) (bytes : HoldBytes image mark) where
   abbrev marked : Image
   marked n = marked_by (mark n) (image n)
 
-  named_there : (n place : ℕ) (card : CachedNode) → get_or cards place None ≡ Some card → 0 < times_set n card.blocks → 0 < mark n
+  named_there : (n place : ℕ) (cached_node : CachedNode) → get_or cached_nodes place None ≡ Some cached_node → 0 < times_set n cached_node.blocks → 0 < mark n
   unfolding namings_of
-  named_there n place card there some =
-      let least = named-at n cards place in
-      let is : namings_of n (get_or cards place None) ≡ times n card.fields.run_sectors + times_set n card.blocks = ap (namings_of n) there in
+  named_there n place cached_node there some =
+      let least = named-at n cached_nodes place in
+      let is : namings_of n (get_or cached_nodes place None) ≡ times n cached_node.fields.run_sectors + times_set n cached_node.blocks = ap (namings_of n) there in
       omega (arith, known.marks n)
 
-  file-bytes : (place : ℕ) (card : CachedNode) → get_or cards place None ≡ Some card → All (λ byte. byte < 256) (bytes_in image card.blocks card.fields.size)
-  file-bytes place card there =
-      let same : bytes_in image card.blocks card.fields.size ≡ bytes_in marked card.blocks card.fields.size =
-      bytes-kept marked image card.blocks (λ n some. marked-same (mark n) (image n) (named_there n place card there some)) card.fields.size in
+  file-bytes : (place : ℕ) (cached_node : CachedNode) → get_or cached_nodes place None ≡ Some cached_node → All (λ byte. byte < 256) (bytes_in image cached_node.blocks cached_node.fields.size)
+  file-bytes place cached_node there =
+      let same : bytes_in image cached_node.blocks cached_node.fields.size ≡ bytes_in marked cached_node.blocks cached_node.fields.size =
+      bytes-kept marked image cached_node.blocks (λ n some. marked-same (mark n) (image n) (named_there n place cached_node there some)) cached_node.fields.size in
       subst (λ (file : List ℕ). All (λ byte. byte < 256) file) (sym same)
-      (bytes_fit marked card.blocks card.fields.size (λ n. marked-bytes (mark n) (image n) (bytes n)))
+      (bytes_fit marked cached_node.blocks cached_node.fields.size (λ n. marked-bytes (mark n) (image n) (bytes n)))
 
 -- One node
 
 module _ (image : Image) (limits : Limits) where
-  kind-is : (kind : NodeKind) (card : CachedNode) → kind_of (content_of image kind card) ≡ kind
-  kind-is kind.File card = refl
-  kind-is kind.Directory card = refl
+  kind-is : (kind : NodeKind) (cached_node : CachedNode) → kind_of (content_of image kind cached_node) ≡ kind
+  kind-is kind.File cached_node = refl
+  kind-is kind.Directory cached_node = refl
 
-  size-is : (card : CachedNode)
-      → length (bytes_in image card.blocks card.fields.size) ≡ card.fields.size
+  size-is : (cached_node : CachedNode)
+      → length (bytes_in image cached_node.blocks cached_node.fields.size) ≡ cached_node.fields.size
   unfolding bytes_in
-  size-is card = length-map-range_with_len (byte_at image card.blocks) 0 card.fields.size
+  size-is cached_node = length-map-range_with_len (byte_at image cached_node.blocks) 0 cached_node.fields.size
 
-  content-allowed : (kind : NodeKind) (card : CachedNode) → All (λ byte. byte < 256) (bytes_in image card.blocks card.fields.size) → HasContent kind card → IsContentAllowed limits kind card → IsContent limits (content_of image kind card)
-  content-allowed kind.File card bytes has allowed = (bytes, omega (arith, size-is card))
-  content-allowed kind.Directory card bytes has allowed = names-allowed limits card.names has.stamped has.names.apart allowed
+  content-allowed : (kind : NodeKind) (cached_node : CachedNode) → All (λ byte. byte < 256) (bytes_in image cached_node.blocks cached_node.fields.size) → HasContent kind cached_node → IsContentAllowed limits kind cached_node → IsContent limits (content_of image kind cached_node)
+  content-allowed kind.File cached_node bytes has allowed = (bytes, omega (arith, size-is cached_node))
+  content-allowed kind.Directory cached_node bytes has allowed = names-allowed limits cached_node.names has.stamped has.names.apart allowed
 
-  allowed-content : (kind : NodeKind) (card : CachedNode) → HasContent kind card → IsContent limits (content_of image kind card) → IsContentAllowed limits kind card
-  allowed-content kind.File card has is = let few = is.1 in omega (arith, size-is card)
-  allowed-content kind.Directory card has is = allowed-names limits card.names has.stamped is
+  allowed-content : (kind : NodeKind) (cached_node : CachedNode) → HasContent kind cached_node → IsContent limits (content_of image kind cached_node) → IsContentAllowed limits kind cached_node
+  allowed-content kind.File cached_node has is = let few = is.1 in omega (arith, size-is cached_node)
+  allowed-content kind.Directory cached_node has is = allowed-names limits cached_node.names has.stamped is
 
-  node-allowed : (card : CachedNode) → All (λ byte. byte < 256) (bytes_in image card.blocks card.fields.size) → HasContent card.fields.kind card → IsNodeAllowed limits card → IsNode limits (node_of image card)
+  node-allowed : (cached_node : CachedNode) → All (λ byte. byte < 256) (bytes_in image cached_node.blocks cached_node.fields.size) → HasContent cached_node.fields.kind cached_node → IsNodeAllowed limits cached_node → IsNode limits (node_of image cached_node)
   unfolding node_of
-  node-allowed card bytes has allowed = record {
-    entries = subst (λ (kind : NodeKind). IsTrue (is_list_for limits.aces_set limits.aces kind card.fields.acl)) (sym (kind-is card.fields.kind card)) allowed.entries;
-    content = content-allowed card.fields.kind card bytes has allowed.content;
+  node-allowed cached_node bytes has allowed = record {
+    entries = subst (λ (kind : NodeKind). IsTrue (is_list_for limits.aces_set limits.aces kind cached_node.fields.acl)) (sym (kind-is cached_node.fields.kind cached_node)) allowed.entries;
+    content = content-allowed cached_node.fields.kind cached_node bytes has allowed.content;
   }
 
-  allowed-node : (card : CachedNode) → HasContent card.fields.kind card → IsNode limits (node_of image card) → IsNodeAllowed limits card
+  allowed-node : (cached_node : CachedNode) → HasContent cached_node.fields.kind cached_node → IsNode limits (node_of image cached_node) → IsNodeAllowed limits cached_node
   unfolding node_of
-  allowed-node card has is = record {
-    entries = subst (λ (kind : NodeKind). IsTrue (is_list_for limits.aces_set limits.aces kind card.fields.acl)) (kind-is card.fields.kind card) is.entries;
-    content = allowed-content card.fields.kind card has is.content;
+  allowed-node cached_node has is = record {
+    entries = subst (λ (kind : NodeKind). IsTrue (is_list_for limits.aces_set limits.aces kind cached_node.fields.acl)) (kind-is cached_node.fields.kind cached_node) is.entries;
+    content = allowed-content cached_node.fields.kind cached_node has is.content;
   }
 
-  directory-content : (of : NodeKind) (card : CachedNode) → of ≡ kind.Directory → is_directory (content_of image of card) ≡ true
-  directory-content kind.File card is = absurd cc
-  directory-content kind.Directory card is = refl
+  directory-content : (of : NodeKind) (cached_node : CachedNode) → of ≡ kind.Directory → is_directory (content_of image of cached_node) ≡ true
+  directory-content kind.File cached_node is = absurd cc
+  directory-content kind.Directory cached_node is = refl
 
-  content-directory : (of : NodeKind) (card : CachedNode) → is_directory (content_of image of card) ≡ true → of ≡ kind.Directory
-  content-directory kind.File card is = absurd (true≢false (sym is))
-  content-directory kind.Directory card is = refl
+  content-directory : (of : NodeKind) (cached_node : CachedNode) → is_directory (content_of image of cached_node) ≡ true → of ≡ kind.Directory
+  content-directory kind.File cached_node is = absurd (true≢false (sym is))
+  content-directory kind.Directory cached_node is = refl
 
-  directory-is : (card : CachedNode) → card.fields.kind ≡ kind.Directory → is_directory_node (Some (node_of image card)) ≡ true
+  directory-is : (cached_node : CachedNode) → cached_node.fields.kind ≡ kind.Directory → is_directory_node (Some (node_of image cached_node)) ≡ true
   unfolding node_of
-  directory-is card is = directory-content card.fields.kind card is
+  directory-is cached_node is = directory-content cached_node.fields.kind cached_node is
 
-  is-directory : (card : CachedNode) → is_directory_node (Some (node_of image card)) ≡ true → card.fields.kind ≡ kind.Directory
+  is-directory : (cached_node : CachedNode) → is_directory_node (Some (node_of image cached_node)) ≡ true → cached_node.fields.kind ≡ kind.Directory
   unfolding node_of
-  is-directory card is = content-directory card.fields.kind card is
+  is-directory cached_node is = content-directory cached_node.fields.kind cached_node is
 
 -- The tree
 
-module _ (nodes : ℕ) (image : Image) (mark : ℕ → ℕ) (cards : List (Option CachedNode)) (known : AreCards nodes mark cards) (bytes : HoldBytes image mark) (limits : Limits) where
+module _ (nodes : ℕ) (image : Image) (mark : ℕ → ℕ) (cached_nodes : List (Option CachedNode)) (known : AreCached nodes mark cached_nodes) (bytes : HoldBytes image mark) (limits : Limits) where
   abbrev tree : Tree
-  tree = tree_of image cards
+  tree = tree_of image cached_nodes
 
-  allowed-tree : AreNodesAllowed limits cards → HasAllowedNodes limits tree
+  allowed-tree : AreNodesAllowed limits cached_nodes → HasAllowedNodes limits tree
   allowed-tree allowed = record {
-    nodes = λ number node e. elim (find cards number) [
-      | There place card there is ↦
-          subst (IsNode limits) (sym (node-is nodes image mark cards known 0 number node place card e there is))
-          (node-allowed image limits card (file-bytes nodes image mark cards known bytes place card there) (is_card nodes image mark cards known place card there).content (allowed.each place card there))
-      | Nowhere none ↦ absurd (none-node nodes image mark cards known 0 number node e ((tree_answers image cards known.apart number).none none))
+    nodes = λ number node e. elim (find cached_nodes number) [
+      | There place cached_node there is ↦
+          subst (IsNode limits) (sym (node-is nodes image mark cached_nodes known 0 number node place cached_node e there is))
+          (node-allowed image limits cached_node (file-bytes nodes image mark cached_nodes known bytes place cached_node there) (is_cached nodes image mark cached_nodes known place cached_node there).content (allowed.each place cached_node there))
+      | Nowhere none ↦ absurd (none-node nodes image mark cached_nodes known 0 number node e ((tree_answers image cached_nodes known.apart number).none none))
     ];
     rooted = (let rooted = allowed.rooted in
-        let at_root : at root tree ≡ Some (node_of image rooted.cached) = (tree_answers image cards known.apart root).found rooted.place rooted.cached rooted.there rooted.is.number in
+        let at_root : at root tree ≡ Some (node_of image rooted.cached) = (tree_answers image cached_nodes known.apart root).found rooted.place rooted.cached rooted.there rooted.is.number in
         ap is_directory_node at_root ∙ directory-is image limits rooted.cached rooted.is.directory);
   }
 
-  root-cached : IsTrue (is_directory_at tree root) → HasRootDirectory cards
-  root-cached rooted = elim (find cards root) [
-    | There place card there is ↦ record {
+  root-cached : IsTrue (is_directory_at tree root) → HasRootDirectory cached_nodes
+  root-cached rooted = elim (find cached_nodes root) [
+    | There place cached_node there is ↦ record {
       place = place;
-      cached = card;
+      cached = cached_node;
       there = there;
       is = record {
         number = is;
-        directory = is-directory image limits card (sym (ap is_directory_node ((tree_answers image cards known.apart root).found place card there is)) ∙ rooted);
+        directory = is-directory image limits cached_node (sym (ap is_directory_node ((tree_answers image cached_nodes known.apart root).found place cached_node there is)) ∙ rooted);
       };
     }
-    | Nowhere none ↦ absurd (true≢false (sym rooted ∙ ap is_directory_node ((tree_answers image cards known.apart root).none none)))
+    | Nowhere none ↦ absurd (true≢false (sym rooted ∙ ap is_directory_node ((tree_answers image cached_nodes known.apart root).none none)))
   ]
 
-  tree-allowed : HasAllowedNodes limits tree → AreNodesAllowed limits cards
+  tree-allowed : HasAllowedNodes limits tree → AreNodesAllowed limits cached_nodes
   tree-allowed has = record {
-    each = λ place card there. allowed-node image limits card (is_card nodes image mark cards known place card there).content
-        (has.nodes card.fields.number (node_of image card) ((tree_answers image cards known.apart card.fields.number).found place card there refl));
+    each = λ place cached_node there. allowed-node image limits cached_node (is_cached nodes image mark cached_nodes known place cached_node there).content
+        (has.nodes cached_node.fields.number (node_of image cached_node) ((tree_answers image cached_nodes known.apart cached_node.fields.number).found place cached_node there refl));
     rooted = root-cached has.rooted;
   }
 
-  pub known_node : AreNodesAllowed limits cards ↔ HasAllowedNodes limits tree
+  pub known_node : AreNodesAllowed limits cached_nodes ↔ HasAllowedNodes limits tree
   known_node = (allowed-tree, tree-allowed)
 
 pub each_node : EachNode
-each_node nodes image mark cards laid = known_node nodes image mark cards (laid_are_cards nodes image mark cards laid)
+each_node nodes image mark cached_nodes laid = known_node nodes image mark cached_nodes (laid_are_cached_nodes nodes image mark cached_nodes laid)

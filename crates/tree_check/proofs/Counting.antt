@@ -53,11 +53,11 @@ is_node-le (Some m) = omega arith
 
 -- Sums over all places
 
-entries-sum : (n : ℕ) (cards : List (Option CachedNode)) → times n (entry_numbers cards) ≡ sum_below (λ p. times n (led_at cards p)) (length cards)
+entries-sum : (n : ℕ) (cached_nodes : List (Option CachedNode)) → times n (entry_numbers cached_nodes) ≡ sum_below (λ p. times n (led_at cached_nodes p)) (length cached_nodes)
 entries-sum n [] = refl
-entries-sum n (None ∷ cards) = omega (arith, entries-sum n cards)
-entries-sum n (Some card ∷ cards) =
-    omega (arith, times-append n (numbers_of card.names) (entry_numbers cards), entries-sum n cards)
+entries-sum n (None ∷ cached_nodes) = omega (arith, entries-sum n cached_nodes)
+entries-sum n (Some cached ∷ cached_nodes) =
+    omega (arith, times-append n (numbers_of cached.names) (entry_numbers cached_nodes), entries-sum n cached_nodes)
 
 others-step : (n number : ℕ) (rest : List ℕ) (b : Bool) → eqb number root ≡ b → n ≢ root → times n (if b then rest else number ∷ rest) ≡ once_if (eqb n number) + times n rest
 others-step n number rest true e off =
@@ -65,87 +65,87 @@ others-step n number rest true e off =
     omega (arith, once-off n number (λ h. off (h ∙ same)))
 others-step n number rest false e off = refl
 
-others-sum : (n : ℕ) (cards : List (Option CachedNode)) → n ≢ root → times n (other_numbers cards) ≡ sum_below (λ p. is_it n (node_number_at cards p)) (length cards)
+others-sum : (n : ℕ) (cached_nodes : List (Option CachedNode)) → n ≢ root → times n (other_numbers cached_nodes) ≡ sum_below (λ p. is_it n (node_number_at cached_nodes p)) (length cached_nodes)
 others-sum n [] off = refl
-others-sum n (None ∷ cards) off = omega (arith, others-sum n cards off)
-others-sum n (Some card ∷ cards) off =
-    omega (arith, others-step n card.fields.number (other_numbers cards) (eqb card.fields.number root) refl off, others-sum n cards off)
+others-sum n (None ∷ cached_nodes) off = omega (arith, others-sum n cached_nodes off)
+others-sum n (Some cached ∷ cached_nodes) off =
+    omega (arith, others-step n cached.fields.number (other_numbers cached_nodes) (eqb cached.fields.number root) refl off, others-sum n cached_nodes off)
 
 root-step : (number : ℕ) (rest : List ℕ) (b : Bool) → eqb number root ≡ b → times root (if b then rest else number ∷ rest) ≡ times root rest
 root-step number rest true e = refl
 root-step number rest false e =
     omega (arith, once-off root number (λ same. true≢false (sym (eq-eqb number root (sym same)) ∙ e)))
 
-pub root-others : (cards : List (Option CachedNode)) → times root (other_numbers cards) ≡ 0
+pub root-others : (cached_nodes : List (Option CachedNode)) → times root (other_numbers cached_nodes) ≡ 0
 root-others [] = refl
-root-others (None ∷ cards) = root-others cards
-root-others (Some card ∷ cards) = root-step card.fields.number (other_numbers cards) (eqb card.fields.number root) refl ∙ root-others cards
+root-others (None ∷ cached_nodes) = root-others cached_nodes
+root-others (Some cached ∷ cached_nodes) = root-step cached.fields.number (other_numbers cached_nodes) (eqb cached.fields.number root) refl ∙ root-others cached_nodes
 
-count-sum : (cards : List (Option CachedNode)) → count_of_all cards ≡ sum_below (λ p. is_node (node_number_at cards p)) (length cards)
+count-sum : (cached_nodes : List (Option CachedNode)) → count_of_all cached_nodes ≡ sum_below (λ p. is_node (node_number_at cached_nodes p)) (length cached_nodes)
 count-sum [] = refl
-count-sum (None ∷ cards) = omega (arith, count-sum cards)
-count-sum (Some card ∷ cards) = omega (arith, count-sum cards)
+count-sum (None ∷ cached_nodes) = omega (arith, count-sum cached_nodes)
+count-sum (Some cached ∷ cached_nodes) = omega (arith, count-sum cached_nodes)
 
-own-rest : (card : Option CachedNode) (cards : List (Option CachedNode)) → HaveOwnPlaces (card ∷ cards) → HaveOwnPlaces cards
-own-rest card cards own p q n here there = let same : suc p ≡ suc q = own (suc p) (suc q) n here there in omega arith
+own-rest : (cached : Option CachedNode) (cached_nodes : List (Option CachedNode)) → HaveOwnPlaces (cached ∷ cached_nodes) → HaveOwnPlaces cached_nodes
+own-rest cached cached_nodes own p q n here there = let same : suc p ≡ suc q = own (suc p) (suc q) n here there in omega arith
 
 -- at most one node has a number
-own-sum : (n : ℕ) (cards : List (Option CachedNode)) → HaveOwnPlaces cards → sum_below (λ p. is_it n (node_number_at cards p)) (length cards) ≤ 1
+own-sum : (n : ℕ) (cached_nodes : List (Option CachedNode)) → HaveOwnPlaces cached_nodes → sum_below (λ p. is_it n (node_number_at cached_nodes p)) (length cached_nodes) ≤ 1
 own-sum n [] own = omega arith
-own-sum n (card ∷ cards) own = elim (cases_eq (is_it n (node_number card)) 0) [
-  | inl none ↦ omega (arith, none, own-sum n cards (own-rest card cards own))
+own-sum n (cached ∷ cached_nodes) own = elim (cases_eq (is_it n (node_number cached)) 0) [
+  | inl none ↦ omega (arith, none, own-sum n cached_nodes (own-rest cached cached_nodes own))
   | inr some ↦
-      let here : node_number card ≡ Some n = is_it-some n (node_number card) (omega arith) in
+      let here : node_number cached ≡ Some n = is_it-some n (node_number cached) (omega arith) in
       omega (
         arith,
-        is_it-le n (node_number card),
-        sum-zero (λ p. is_it n (node_number_at cards p)) (length cards) (λ p h. is_it-none n (node_number_at cards p) (λ there. let same : 0 ≡ suc p = own 0 (suc p) n here there in omega arith)),
+        is_it-le n (node_number cached),
+        sum-zero (λ p. is_it n (node_number_at cached_nodes p)) (length cached_nodes) (λ p h. is_it-none n (node_number_at cached_nodes p) (λ there. let same : 0 ≡ suc p = own 0 (suc p) n here there in omega arith)),
       )
 ]
 
-node-there : (card : Option CachedNode) (n : ℕ) → 0 < times n (led_by card) → node_number card ≡ Some (number_or (node_number card))
+node-there : (cached : Option CachedNode) (n : ℕ) → 0 < times n (led_by cached) → node_number cached ≡ Some (number_or (node_number cached))
 node-there None n some = absurd (omega arith)
-node-there (Some card) n some = refl
+node-there (Some cached) n some = refl
 
 -- Sums over the places that were met
 
-led-sum : (n : ℕ) (cards : List (Option CachedNode)) (ps : List ℕ) → times n (led_from cards ps) ≡ sum_of (λ p. times n (led_at cards p)) ps
-led-sum n cards [] = refl
-led-sum n cards (p ∷ ps) = omega (arith, times-append n (led_at cards p) (led_from cards ps), led-sum n cards ps)
+led-sum : (n : ℕ) (cached_nodes : List (Option CachedNode)) (ps : List ℕ) → times n (led_from cached_nodes ps) ≡ sum_of (λ p. times n (led_at cached_nodes p)) ps
+led-sum n cached_nodes [] = refl
+led-sum n cached_nodes (p ∷ ps) = omega (arith, times-append n (led_at cached_nodes p) (led_from cached_nodes ps), led-sum n cached_nodes ps)
 
-numbers-sum : (n : ℕ) (cards : List (Option CachedNode)) (ps : List ℕ) → ((i : ℕ) → i < length ps → node_number_at cards (get_or ps i 0) ≡ Some (number_in cards (get_or ps i 0)))
-    → times n (numbers_at cards ps) ≡ sum_of (λ p. is_it n (node_number_at cards p)) ps
-numbers-sum n cards [] there = refl
-numbers-sum n cards (p ∷ ps) there =
-    let here : is_it n (node_number_at cards p) ≡ once_if (eqb n (number_in cards p)) = ap (is_it n) (there 0 (omega arith)) in
-    omega (arith, here, numbers-sum n cards ps (λ i h. there (suc i) (omega arith)))
+numbers-sum : (n : ℕ) (cached_nodes : List (Option CachedNode)) (ps : List ℕ) → ((i : ℕ) → i < length ps → node_number_at cached_nodes (get_or ps i 0) ≡ Some (number_in cached_nodes (get_or ps i 0)))
+    → times n (numbers_at cached_nodes ps) ≡ sum_of (λ p. is_it n (node_number_at cached_nodes p)) ps
+numbers-sum n cached_nodes [] there = refl
+numbers-sum n cached_nodes (p ∷ ps) there =
+    let here : is_it n (node_number_at cached_nodes p) ≡ once_if (eqb n (number_in cached_nodes p)) = ap (is_it n) (there 0 (omega arith)) in
+    omega (arith, here, numbers-sum n cached_nodes ps (λ i h. there (suc i) (omega arith)))
 
-module _ (cards : List (Option CachedNode)) (seen : List Bool) (order : List ℕ) (walk : IsWalk cards seen order) where
+module _ (cached_nodes : List (Option CachedNode)) (seen : List Bool) (order : List ℕ) (walk : IsWalk cached_nodes seen order) where
   few : (p : ℕ) → times p order ≤ 1
   few p = rw (walk.once p) (once-le (get_or seen p false))
 
-  far : AreBelow (length cards) order
+  far : AreBelow (length cached_nodes) order
   far p h = walk.once p ∙ ap once_if (get_or_past seen p false (omega (arith, walk.marks)))
 
-  pub order-fits : length order ≤ length cards
-  order-fits = omega (arith, length-sum order, sum_of-le (λ p. 1) (length cards) order far few, sum-ones (length cards))
+  pub order-fits : length order ≤ length cached_nodes
+  order-fits = omega (arith, length-sum order, sum_of-le (λ p. 1) (length cached_nodes) order far few, sum-ones (length cached_nodes))
 
   -- a place that was met has a node
-  met-node : (p : ℕ) → 0 < times p order → node_number_at cards p ≡ Some (number_in cards p)
+  met-node : (p : ℕ) → 0 < times p order → node_number_at cached_nodes p ≡ Some (number_in cached_nodes p)
   met-node p h =
       let found = place-of p order h in
-      subst (λ q. node_number_at cards q ≡ Some (number_in cards q)) found.1.1 (walk.there found.0 found.1.0)
+      subst (λ q. node_number_at cached_nodes q ≡ Some (number_in cached_nodes q)) found.1.1 (walk.there found.0 found.1.0)
 
   -- the place of a number that was met
-  met-place : (n : ℕ) → 0 < times n (numbers_at cards order) → (p : ℕ) × ((0 < times p order) × (node_number_at cards p ≡ Some n))
+  met-place : (n : ℕ) → 0 < times n (numbers_at cached_nodes order) → (p : ℕ) × ((0 < times p order) × (node_number_at cached_nodes p ≡ Some n))
   met-place n h =
-      let found = place-of n (numbers_at cards order) h in
-      let inside : found.0 < length order = rw (← length-map order (number_in cards)) found.1.0 in
+      let found = place-of n (numbers_at cached_nodes order) h in
+      let inside : found.0 < length order = rw (← length-map order (number_in cached_nodes)) found.1.0 in
       let p = get_or order found.0 0 in
-      let is : number_in cards p ≡ n = sym (get_or-map (number_in cards) order found.0 0 0 inside) ∙ found.1.1 in
+      let is : number_in cached_nodes p ≡ n = sym (get_or-map (number_in cached_nodes) order found.0 0 0 inside) ∙ found.1.1 in
       (p, (times-at order found.0 0 inside, walk.there found.0 inside ∙ ap Some is))
 
-  node-count : (p : ℕ) → p < length cards → many (times p order) 1 ≤ is_node (node_number_at cards p)
+  node-count : (p : ℕ) → p < length cached_nodes → many (times p order) 1 ≤ is_node (node_number_at cached_nodes p)
   node-count p h = elim (cases_eq (times p order) 0) [
     | inl none ↦ rw none (omega arith)
     | inr some ↦
@@ -154,122 +154,122 @@ module _ (cards : List (Option CachedNode)) (seen : List Bool) (order : List ℕ
         rw one (rw there (omega arith))
   ]
 
-  module _ (own : HaveOwnPlaces cards) (met : numbers_at cards order ≡ root ∷ led_from cards order) where
-    met-times : (n : ℕ) → times n (numbers_at cards order) ≡ once_if (eqb n root) + times n (led_from cards order)
+  module _ (own : HaveOwnPlaces cached_nodes) (met : numbers_at cached_nodes order ≡ root ∷ led_from cached_nodes order) where
+    met-times : (n : ℕ) → times n (numbers_at cached_nodes order) ≡ once_if (eqb n root) + times n (led_from cached_nodes order)
     met-times n = ap (times n) met
 
     -- all nodes were met
-    module _ (all : length order ≡ count_of_all cards) where
-      all-met : (p n : ℕ) → node_number_at cards p ≡ Some n → 0 < times p order
+    module _ (all : length order ≡ count_of_all cached_nodes) where
+      all-met : (p n : ℕ) → node_number_at cached_nodes p ≡ Some n → 0 < times p order
       all-met p n there =
-          let inside = within-numbered cards p n there in
-          let total : sum_below (λ q. is_node (node_number_at cards q)) (length cards) ≤ sum_below (λ q. many (times q order) 1) (length cards) =
-          omega (arith, count-sum cards, all, length-sum order, sum_of-below (λ q. 1) (length cards) order far) in
-          let le = sum-each (λ q. many (times q order) 1) (λ q. is_node (node_number_at cards q)) (length cards) node-count total p inside in
-          let is : is_node (node_number_at cards p) ≡ 1 = ap is_node there in
+          let inside = within-numbered cached_nodes p n there in
+          let total : sum_below (λ q. is_node (node_number_at cached_nodes q)) (length cached_nodes) ≤ sum_below (λ q. many (times q order) 1) (length cached_nodes) =
+          omega (arith, count-sum cached_nodes, all, length-sum order, sum_of-below (λ q. 1) (length cached_nodes) order far) in
+          let le = sum-each (λ q. many (times q order) 1) (λ q. is_node (node_number_at cached_nodes q)) (length cached_nodes) node-count total p inside in
+          let is : is_node (node_number_at cached_nodes p) ≡ 1 = ap is_node there in
           elim (cases_eq (times p order) 0) [
             | inl none ↦ absurd (let zero_of : many (times p order) 1 ≡ 0 = ap (λ t. many t 1) none in omega (arith, le, is, zero_of))
             | inr some ↦ omega arith
           ]
 
-      led-all : (n : ℕ) → times n (led_from cards order) ≡ times n (entry_numbers cards)
+      led-all : (n : ℕ) → times n (led_from cached_nodes order) ≡ times n (entry_numbers cached_nodes)
       led-all n =
-          led-sum n cards order
-          ∙ (sum_of-all (λ p. times n (led_at cards p)) (length cards) order far few
-          (λ p h some. all-met p (number_in cards p) (node-there (get_or cards p None) n some))
-          ∙ sym (entries-sum n cards))
+          led-sum n cached_nodes order
+          ∙ (sum_of-all (λ p. times n (led_at cached_nodes p)) (length cached_nodes) order far few
+          (λ p h some. all-met p (number_in cached_nodes p) (node-there (get_or cached_nodes p None) n some))
+          ∙ sym (entries-sum n cached_nodes))
 
-      numbers-all : (n : ℕ) → times n (numbers_at cards order) ≡ sum_below (λ p. is_it n (node_number_at cards p)) (length cards)
+      numbers-all : (n : ℕ) → times n (numbers_at cached_nodes order) ≡ sum_below (λ p. is_it n (node_number_at cached_nodes p)) (length cached_nodes)
       numbers-all n =
-          numbers-sum n cards order walk.there
-          ∙ sum_of-all (λ p. is_it n (node_number_at cards p)) (length cards) order far few (λ p h some. all-met p n (is_it-some n (node_number_at cards p) some))
+          numbers-sum n cached_nodes order walk.there
+          ∙ sum_of-all (λ p. is_it n (node_number_at cached_nodes p)) (length cached_nodes) order far few (λ p h some. all-met p n (is_it-some n (node_number_at cached_nodes p) some))
 
-      linked : (n : ℕ) → times n (entry_numbers cards) ≡ times n (other_numbers cards)
+      linked : (n : ℕ) → times n (entry_numbers cached_nodes) ≡ times n (other_numbers cached_nodes)
       linked n = elim (cases_eq n root) [
         | inl same ↦
-            let total : once_if (eqb n root) + times n (entry_numbers cards) ≤ 1 = omega (arith, met-times n, led-all n, numbers-all n, own-sum n cards own) in
+            let total : once_if (eqb n root) + times n (entry_numbers cached_nodes) ≤ 1 = omega (arith, met-times n, led-all n, numbers-all n, own-sum n cached_nodes own) in
             let one : once_if (eqb n root) ≡ 1 = rw (eq-eqb n root same) refl in
-            let none : times n (other_numbers cards) ≡ 0 = ap (λ m. times m (other_numbers cards)) same ∙ root-others cards in
+            let none : times n (other_numbers cached_nodes) ≡ 0 = ap (λ m. times m (other_numbers cached_nodes)) same ∙ root-others cached_nodes in
             omega arith
-        | inr off ↦ omega (arith, met-times n, led-all n, numbers-all n, others-sum n cards off, once-off n root off)
+        | inr off ↦ omega (arith, met-times n, led-all n, numbers-all n, others-sum n cached_nodes off, once-off n root off)
       ]
 
-      reached : (p n : ℕ) → node_number_at cards p ≡ Some n → IsReached cards n
+      reached : (p n : ℕ) → node_number_at cached_nodes p ≡ Some n → IsReached cached_nodes n
       reached p n there =
           let found = place-of p order (all-met p n there) in
-          let is : number_in cards (get_or order found.0 0) ≡ n = ap (number_in cards) found.1.1 ∙ ap number_or there in
-          subst (IsReached cards) is (walk.reached found.0 found.1.0)
+          let is : number_in cached_nodes (get_or order found.0 0) ≡ n = ap (number_in cached_nodes) found.1.1 ∙ ap number_or there in
+          subst (IsReached cached_nodes) is (walk.reached found.0 found.1.0)
 
-      pub is-one-tree : IsOneTree cards
+      pub is-one-tree : IsOneTree cached_nodes
       is-one-tree =
           let first = met-place root (omega (arith, met-times root, once-here root)) in
           record { rooted = (first.0, first.1.1); linked = linked; reached = reached }
 
     -- each node that is reached was met
-    closed : (n : ℕ) → IsReached cards n → 0 < times n (numbers_at cards order)
+    closed : (n : ℕ) → IsReached cached_nodes n → 0 < times n (numbers_at cached_nodes order)
     closed n Root = omega (arith, met-times root, once-here root)
     closed n (Named place number i there reach within) =
         let was = met-place number (closed number reach) in
         let same : was.0 ≡ place = own was.0 place number was.1.1 there in
         let at = place-of was.0 order was.1.0 in
-        let m = get_or (led_at cards place) i 0 in
-        let has : 0 < times m (led_at cards place) = times-at (led_at cards place) i 0 within in
-        let below = sum_of-at (λ p. times m (led_at cards p)) order at.0 at.1.0 in
-        let here : times m (led_at cards (get_or order at.0 0)) ≡ times m (led_at cards place) = ap (λ p. times m (led_at cards p)) (at.1.1 ∙ same) in
-        omega (arith, met-times m, led-sum m cards order, below, here, has)
+        let m = get_or (led_at cached_nodes place) i 0 in
+        let has : 0 < times m (led_at cached_nodes place) = times-at (led_at cached_nodes place) i 0 within in
+        let below = sum_of-at (λ p. times m (led_at cached_nodes p)) order at.0 at.1.0 in
+        let here : times m (led_at cached_nodes (get_or order at.0 0)) ≡ times m (led_at cached_nodes place) = ap (λ p. times m (led_at cached_nodes p)) (at.1.1 ∙ same) in
+        omega (arith, met-times m, led-sum m cached_nodes order, below, here, has)
 
-    pub all-counted : IsOneTree cards → length order ≡ count_of_all cards
+    pub all-counted : IsOneTree cached_nodes → length order ≡ count_of_all cached_nodes
     all-counted tree =
         length-sum order
-        ∙ (sum_of-below (λ p. 1) (length cards) order far
-        ∙ (sum-same (λ p. many (times p order) 1) (λ p. is_node (node_number_at cards p)) (length cards) (λ p h. elim (cases_eq (is_node (node_number_at cards p)) 0) [
+        ∙ (sum_of-below (λ p. 1) (length cached_nodes) order far
+        ∙ (sum-same (λ p. many (times p order) 1) (λ p. is_node (node_number_at cached_nodes p)) (length cached_nodes) (λ p h. elim (cases_eq (is_node (node_number_at cached_nodes p)) 0) [
           | inl none ↦ omega (arith, none, node-count p h)
           | inr some ↦
-              let there = is_node-some (node_number_at cards p) (omega arith) in
-              let found = met-place (number_in cards p) (closed (number_in cards p) (tree.reached p (number_in cards p) there)) in
-              let same : found.0 ≡ p = own found.0 p (number_in cards p) found.1.1 there in
+              let there = is_node-some (node_number_at cached_nodes p) (omega arith) in
+              let found = met-place (number_in cached_nodes p) (closed (number_in cached_nodes p) (tree.reached p (number_in cached_nodes p) there)) in
+              let same : found.0 ≡ p = own found.0 p (number_in cached_nodes p) found.1.1 there in
               let has : 0 < times p order = subst (λ q. 0 < times q order) same found.1.0 in
               let one : times p order ≡ 1 = omega (arith, few p) in
               let node : many (times p order) 1 ≡ 1 = ap (λ t. many t 1) one in
-              omega (arith, node, is_node-le (node_number_at cards p))
+              omega (arith, node, is_node-le (node_number_at cached_nodes p))
         ])
-        ∙ sym (count-sum cards)))
+        ∙ sym (count-sum cached_nodes)))
 
   -- a walk that is stuck at the next place
-  pub stuck-is-none : HaveOwnPlaces cards → (i : ℕ) → i < length order → numbers_at cards order ≡ root ∷ led_from cards (take i order)
-      → IsStuck cards order (get_or order i 0) → IsOneTree cards → ⊥
+  pub stuck-is-none : HaveOwnPlaces cached_nodes → (i : ℕ) → i < length order → numbers_at cached_nodes order ≡ root ∷ led_from cached_nodes (take i order)
+      → IsStuck cached_nodes order (get_or order i 0) → IsOneTree cached_nodes → ⊥
   stuck-is-none own i inside met stuck tree =
       let place = get_or order i 0 in
-      let n = get_or (led_at cards place) stuck.i 0 in
-      let front = times n (take stuck.i (led_at cards place)) in
-      let own_names = times-split n (led_at cards place) stuck.i 0 stuck.within in
+      let n = get_or (led_at cached_nodes place) stuck.i 0 in
+      let prefix = times n (take stuck.i (led_at cached_nodes place)) in
+      let own_names = times-split n (led_at cached_nodes place) stuck.i 0 stuck.within in
       let ps = place ∷ take i order in
       let each : (p : ℕ) → times p ps ≤ times p order = λ p. omega (arith, times-split p order i 0 inside) in
-      let total = sum_of-le (λ p. times n (led_at cards p)) (length cards) ps (λ p h. omega (arith, each p, far p h)) (λ p. omega (arith, each p, few p)) in
-      let entries : times n (led_from cards (take i order)) + front + 1 ≤ times n (entry_numbers cards) =
-      omega (arith, own_names, once-here n, total, led-sum n cards (take i order), entries-sum n cards) in
+      let total = sum_of-le (λ p. times n (led_at cached_nodes p)) (length cached_nodes) ps (λ p h. omega (arith, each p, far p h)) (λ p. omega (arith, each p, few p)) in
+      let entries : times n (led_from cached_nodes (take i order)) + prefix + 1 ≤ times n (entry_numbers cached_nodes) =
+      omega (arith, own_names, once-here n, total, led-sum n cached_nodes (take i order), entries-sum n cached_nodes) in
       elim (cases_eq n root) [
         | inl same ↦
-            let none : times n (other_numbers cards) ≡ 0 = ap (λ m. times m (other_numbers cards)) same ∙ root-others cards in
+            let none : times n (other_numbers cached_nodes) ≡ 0 = ap (λ m. times m (other_numbers cached_nodes)) same ∙ root-others cached_nodes in
             omega (arith, tree.linked n)
         | inr off ↦ elim stuck.missing [
           | inl has_not ↦
               omega (
                 arith,
                 tree.linked n,
-                others-sum n cards off,
-                sum-zero (λ p. is_it n (node_number_at cards p)) (length cards) (λ p h. is_it-none n (node_number_at cards p) (has_not p)),
+                others-sum n cached_nodes off,
+                sum-zero (λ p. is_it n (node_number_at cached_nodes p)) (length cached_nodes) (λ p h. is_it-none n (node_number_at cached_nodes p) (has_not p)),
               )
           | inr some ↦
               omega (
                 arith,
                 some,
-                times-append n (numbers_at cards order) (take stuck.i (led_at cards place)),
+                times-append n (numbers_at cached_nodes order) (take stuck.i (led_at cached_nodes place)),
                 ap (times n) met,
                 once-off n root off,
                 tree.linked n,
-                others-sum n cards off,
-                own-sum n cards own,
+                others-sum n cached_nodes off,
+                own-sum n cached_nodes own,
               )
         ]
       ]

@@ -20,14 +20,14 @@ each_more P names i one is h all its =
     subst (AllByRecursion P) (sym (take_more names i one h ∙ ap (λ r. take i names ++ r ∷ []) (is one))) (each_push P (take i names) one all its)
 
 -- what holds for all cached nodes below a place that is past the last one holds for all
-pub each_place : (P : CachedNode → Type 0) (cards : List (Option CachedNode)) (end : ℕ)
-    → length cards ≤ end
-    → ((place : ℕ) (card : CachedNode) → place < end → get_or cards place None ≡ Some card → P card)
-    → (place : ℕ) (card : CachedNode) → get_or cards place None ≡ Some card → P card
-each_place P cards end past each place card there = elim (cases_lt place end) [
-  | inl before ↦ each place card before there
-  | inr behind ↦ absurd (none_some card (sym (get_or_past cards place None (omega arith)) ∙ there))
+pub each_place : (P : CachedNode → Type 0) (cached_nodes : List (Option CachedNode)) (end : ℕ)
+    → length cached_nodes ≤ end
+    → ((place : ℕ) (cached : CachedNode) → place < end → get_or cached_nodes place None ≡ Some cached → P cached)
+    → (place : ℕ) (cached : CachedNode) → get_or cached_nodes place None ≡ Some cached → P cached
+each_place P cached_nodes end past each place cached there = elim (cases_lt place end) [
+  | inl before ↦ each place cached before there
+  | inr behind ↦ absurd (none_some cached (sym (get_or_past cached_nodes place None (omega arith)) ∙ there))
 ]
   where
-    none_some : (card : CachedNode) → (let none : Option CachedNode = None in none ≡ Some card) → ⊥
-    none_some card e = cc
+    none_some : (cached : CachedNode) → (let none : Option CachedNode = None in none ≡ Some cached) → ⊥
+    none_some cached e = cc

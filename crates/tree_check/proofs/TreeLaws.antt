@@ -15,12 +15,12 @@ use Rattle.directory.proofs.ByStamp.{at-by_stamp}
 use Rattle.node_table.specs.Tables.{node_number, node_number_at}
 use Rattle.layout.specs.CachedNodes.{CachedNode, tree_of, node_of, content_of}
 use Rattle.layout.specs.CachedNodeLaws.{FindsCached}
-use Rattle.layout.specs.Known.{HasContent, IsCard, AreCards}
+use Rattle.layout.specs.Known.{HasContent, IsCached, AreCached}
 use Rattle.layout.specs.Marks.{once_if, times}
 use Rattle.layout.specs.SumLaws.{sum_over}
 use Rattle.layout.proofs.Answering.{tree_answers}
 use Rattle.layout.proofs.ChargeLaws.{stamped-rest}
-use Rattle.layout.proofs.Knowing.{AreEach, each_card, laid_are_cards}
+use Rattle.layout.proofs.Knowing.{AreEach, each_cached, laid_are_cached_nodes}
 use Rattle.layout.proofs.Linking.{known_link}
 use Rattle.layout.proofs.Summing.{known_sum}
 use Rattle.layout.proofs.NumberLaws.{place-of, times-append}
@@ -82,96 +82,96 @@ key-times key (x ∷ names) stamped = elim (cases_eq key x.0) [
 
 -- Cached nodes by their numbers
 
-pub data Finds (cards : List (Option CachedNode)) (number : ℕ) : Type 0 where
-  There : (place : ℕ) (card : CachedNode) → get_or cards place None ≡ Some card → card.fields.number ≡ number → Finds cards number
-  Nowhere : ((place : ℕ) (card : CachedNode) → get_or cards place None ≡ Some card → card.fields.number ≢ number) → Finds cards number
+pub data Finds (cached_nodes : List (Option CachedNode)) (number : ℕ) : Type 0 where
+  There : (place : ℕ) (cached_node : CachedNode) → get_or cached_nodes place None ≡ Some cached_node → cached_node.fields.number ≡ number → Finds cached_nodes number
+  Nowhere : ((place : ℕ) (cached_node : CachedNode) → get_or cached_nodes place None ≡ Some cached_node → cached_node.fields.number ≢ number) → Finds cached_nodes number
 
 abbrev HaveNone : List (Option CachedNode) → ℕ → Type 0
-HaveNone cards number = (place : ℕ) (card : CachedNode) → get_or cards place None ≡ Some card → card.fields.number ≢ number
+HaveNone cached_nodes number = (place : ℕ) (cached_node : CachedNode) → get_or cached_nodes place None ≡ Some cached_node → cached_node.fields.number ≢ number
 
-none-front : (cards : List (Option CachedNode)) (number : ℕ) → HaveNone cards number → HaveNone (None ∷ cards) number
-none-front cards number none zero card e = absurd (none-some card e)
-none-front cards number none (suc place) card e = none place card e
+none-prefix : (cached_nodes : List (Option CachedNode)) (number : ℕ) → HaveNone cached_nodes number → HaveNone (None ∷ cached_nodes) number
+none-prefix cached_nodes number none zero cached_node e = absurd (none-some cached_node e)
+none-prefix cached_nodes number none (suc place) cached_node e = none place cached_node e
 
-some-front : (one : CachedNode) (cards : List (Option CachedNode)) (number : ℕ) → one.fields.number ≢ number → HaveNone cards number → HaveNone (Some one ∷ cards) number
-some-front one cards number off none zero card e = λ same. off (ap (λ (c : CachedNode). c.fields.number) (same_Some one card e) ∙ same)
-some-front one cards number off none (suc place) card e = none place card e
+some-prefix : (one : CachedNode) (cached_nodes : List (Option CachedNode)) (number : ℕ) → one.fields.number ≢ number → HaveNone cached_nodes number → HaveNone (Some one ∷ cached_nodes) number
+some-prefix one cached_nodes number off none zero cached_node e = λ same. off (ap (λ (c : CachedNode). c.fields.number) (same_Some one cached_node e) ∙ same)
+some-prefix one cached_nodes number off none (suc place) cached_node e = none place cached_node e
 
-pub find : (cards : List (Option CachedNode)) (number : ℕ) → Finds cards number
-find [] number = Nowhere (λ place card e. absurd (none-some card e))
-find (None ∷ cards) number = elim (find cards number) [
-  | There place card e is ↦ There (suc place) card e is
-  | Nowhere none ↦ Nowhere (none-front cards number none)
+pub find : (cached_nodes : List (Option CachedNode)) (number : ℕ) → Finds cached_nodes number
+find [] number = Nowhere (λ place cached_node e. absurd (none-some cached_node e))
+find (None ∷ cached_nodes) number = elim (find cached_nodes number) [
+  | There place cached_node e is ↦ There (suc place) cached_node e is
+  | Nowhere none ↦ Nowhere (none-prefix cached_nodes number none)
 ]
-find (Some one ∷ cards) number = elim (cases_eq one.fields.number number) [
+find (Some one ∷ cached_nodes) number = elim (cases_eq one.fields.number number) [
   | inl same ↦ There 0 one refl same
-  | inr off ↦ elim (find cards number) [
-    | There place card e is ↦ There (suc place) card e is
-    | Nowhere none ↦ Nowhere (some-front one cards number off none)
+  | inr off ↦ elim (find cached_nodes number) [
+    | There place cached_node e is ↦ There (suc place) cached_node e is
+    | Nowhere none ↦ Nowhere (some-prefix one cached_nodes number off none)
   ]
 ]
 
-pub numbered : (cards : List (Option CachedNode)) (place number : ℕ) → node_number_at cards place ≡ Some number → (card : CachedNode) × ((get_or cards place None ≡ Some card) × (card.fields.number ≡ number))
-numbered cards place number is = from (get_or cards place None) refl is
+pub numbered : (cached_nodes : List (Option CachedNode)) (place number : ℕ) → node_number_at cached_nodes place ≡ Some number → (cached_node : CachedNode) × ((get_or cached_nodes place None ≡ Some cached_node) × (cached_node.fields.number ≡ number))
+numbered cached_nodes place number is = from (get_or cached_nodes place None) refl is
   where
     number_is : (a b : ℕ) → (let one : Option ℕ = Some a in one ≡ Some b) → a ≡ b
     number_is a b e = cc
 
-    from : (found : Option CachedNode) → get_or cards place None ≡ found → node_number found ≡ Some number → (card : CachedNode) × ((get_or cards place None ≡ Some card) × (card.fields.number ≡ number))
+    from : (found : Option CachedNode) → get_or cached_nodes place None ≡ found → node_number found ≡ Some number → (cached_node : CachedNode) × ((get_or cached_nodes place None ≡ Some cached_node) × (cached_node.fields.number ≡ number))
     from None e is = absurd (none_number number is)
       where
         none_number : (n : ℕ) → (let none : Option ℕ = None in none ≡ Some n) → ⊥
         none_number n e = cc
-    from (Some card) e is = (card, (e, number_is card.fields.number number is))
+    from (Some cached_node) e is = (cached_node, (e, number_is cached_node.fields.number number is))
 
-module _ (nodes : ℕ) (image : Image) (mark : ℕ → ℕ) (cards : List (Option CachedNode)) (known : AreCards nodes mark cards) where
+module _ (nodes : ℕ) (image : Image) (mark : ℕ → ℕ) (cached_nodes : List (Option CachedNode)) (known : AreCached nodes mark cached_nodes) where
   abbrev tree : Tree
-  tree = tree_of image cards
+  tree = tree_of image cached_nodes
 
-  answers : (number : ℕ) → FindsCached image cards number
-  answers = tree_answers image cards known.apart
+  answers : (number : ℕ) → FindsCached image cached_nodes number
+  answers = tree_answers image cached_nodes known.apart
 
-  pub is_card : AreEach cards
-  is_card = each_card nodes mark cards known
+  pub is_cached : AreEach cached_nodes
+  is_cached = each_cached nodes mark cached_nodes known
 
-  pub node-names : (kind : NodeKind) (card : CachedNode) → HasContent kind card → (key : ℕ) → at key (names_of (content_of image kind card)) ≡ at key card.names
-  node-names kind.File card has key = sym (ap (at key) has)
-  node-names kind.Directory card has key = at-by_stamp key card.names
+  pub node-names : (kind : NodeKind) (cached_node : CachedNode) → HasContent kind cached_node → (key : ℕ) → at key (names_of (content_of image kind cached_node)) ≡ at key cached_node.names
+  node-names kind.File cached_node has key = sym (ap (at key) has)
+  node-names kind.Directory cached_node has key = at-by_stamp key cached_node.names
 
-  names-there : (place : ℕ) (card : CachedNode) → get_or cards place None ≡ Some card → (key : ℕ) → at key (names_at tree card.fields.number) ≡ at key card.names
+  names-there : (place : ℕ) (cached_node : CachedNode) → get_or cached_nodes place None ≡ Some cached_node → (key : ℕ) → at key (names_at tree cached_node.fields.number) ≡ at key cached_node.names
   unfolding node_of
-  names-there place card there key =
-      let is = is_card place card there in
-      ap (λ (node : Option Node). at key (names_of_node node)) ((answers card.fields.number).found place card there refl)
-      ∙ node-names card.fields.kind card is.content key
+  names-there place cached_node there key =
+      let is = is_cached place cached_node there in
+      ap (λ (node : Option Node). at key (names_of_node node)) ((answers cached_node.fields.number).found place cached_node there refl)
+      ∙ node-names cached_node.fields.kind cached_node is.content key
 
-  pub stamped-content : (kind : NodeKind) (card : CachedNode) → HasContent kind card → NamesStamped card.names
-  stamped-content kind.File card has = subst NamesStamped (sym has) (record { above = tt; apart = λ i j d low h. absurd (omega arith) })
-  stamped-content kind.Directory card has = has.stamped
+  pub stamped-content : (kind : NodeKind) (cached_node : CachedNode) → HasContent kind cached_node → NamesStamped cached_node.names
+  stamped-content kind.File cached_node has = subst NamesStamped (sym has) (record { above = tt; apart = λ i j d low h. absurd (omega arith) })
+  stamped-content kind.Directory cached_node has = has.stamped
 
-  led-index : (place : ℕ) (card : CachedNode) → get_or cards place None ≡ Some card → (i : ℕ) (d : Record) → i < length card.names → get_or (led_at cards place) i 0 ≡ (get_or card.names i d).1.number
-  led-index place card there i d h =
-      ap (λ (found : Option CachedNode). get_or (led_by found) i 0) there ∙ get_or-map (λ (entry : Record). entry.1.number) card.names i d 0 h
+  led-index : (place : ℕ) (cached_node : CachedNode) → get_or cached_nodes place None ≡ Some cached_node → (i : ℕ) (d : Record) → i < length cached_node.names → get_or (led_at cached_nodes place) i 0 ≡ (get_or cached_node.names i d).1.number
+  led-index place cached_node there i d h =
+      ap (λ (found : Option CachedNode). get_or (led_by found) i 0) there ∙ get_or-map (λ (entry : Record). entry.1.number) cached_node.names i d 0 h
 
-  led-length : (place : ℕ) (card : CachedNode) → get_or cards place None ≡ Some card → length (led_at cards place) ≡ length card.names
-  led-length place card there = ap (λ (found : Option CachedNode). length (led_by found)) there ∙ length-map card.names (λ (entry : Record). entry.1.number)
+  led-length : (place : ℕ) (cached_node : CachedNode) → get_or cached_nodes place None ≡ Some cached_node → length (led_at cached_nodes place) ≡ length cached_node.names
+  led-length place cached_node there = ap (λ (found : Option CachedNode). length (led_by found)) there ∙ length-map cached_node.names (λ (entry : Record). entry.1.number)
 
   nameless : Record
   nameless = (0, record { name = []; number = 0 })
 
   -- what a walk reaches is reached in the tree
-  from-walk : (number : ℕ) → IsReached cards number → IsFrom tree root number
+  from-walk : (number : ℕ) → IsReached cached_nodes number → IsFrom tree root number
   from-walk number shape.Root = Start
   from-walk number (shape.Named place directory i there reached within) =
-      let at_place = numbered cards place directory there in
-      let card = at_place.0 in
-      let is = is_card place card at_place.1.0 in
-      let inside : i < length card.names = rw (← led-length place card at_place.1.0) within in
-      let entry = get_or card.names i nameless in
+      let at_place = numbered cached_nodes place directory there in
+      let cached_node = at_place.0 in
+      let is = is_cached place cached_node at_place.1.0 in
+      let inside : i < length cached_node.names = rw (← led-length place cached_node at_place.1.0) within in
+      let entry = get_or cached_node.names i nameless in
       let has : at entry.0 (names_at tree directory) ≡ Some entry.1 =
       ap (λ n. at entry.0 (names_at tree n)) (sym at_place.1.1)
-      ∙ (names-there place card at_place.1.0 entry.0 ∙ at-stamp card.names (stamped-content card.fields.kind card is.content) i nameless inside) in
-      subst (IsFrom tree root) (sym (led-index place card at_place.1.0 i nameless inside)) (Named directory entry.0 entry.1 (from-walk directory reached) has)
+      ∙ (names-there place cached_node at_place.1.0 entry.0 ∙ at-stamp cached_node.names (stamped-content cached_node.fields.kind cached_node is.content) i nameless inside) in
+      subst (IsFrom tree root) (sym (led-index place cached_node at_place.1.0 i nameless inside)) (Named directory entry.0 entry.1 (from-walk directory reached) has)
 
   none-there : (number key : ℕ) (entry : DirEntry) → at number tree ≡ None → at key (names_at tree number) ≡ Some entry → ⊥
   none-there number key entry none has = none-some entry (sym (ap (λ (node : Option Node). at key (names_of_node node)) none) ∙ has)
@@ -180,73 +180,73 @@ module _ (nodes : ℕ) (image : Image) (mark : ℕ → ℕ) (cards : List (Optio
       none-some entry e = cc
 
   -- and conversely
-  to-walk : (number : ℕ) → IsFrom tree root number → IsReached cards number
+  to-walk : (number : ℕ) → IsFrom tree root number → IsReached cached_nodes number
   to-walk number Start = shape.Root
-  to-walk number (Named directory stamp entry reached has) = elim (find cards directory) [
-    | There place card there is ↦
-        let here : at stamp card.names ≡ Some entry = sym (names-there place card there stamp) ∙ (ap (λ n. at stamp (names_at tree n)) is ∙ has) in
-        let found = at-index card.names stamp entry here in
-        let led : get_or (led_at cards place) found.0 0 ≡ entry.number = led-index place card there found.0 nameless found.1.0 ∙ ap (λ (e : DirEntry). e.number) (found.1.1 nameless) in
-        subst (IsReached cards) led
-        (shape.Named place directory found.0 (ap node_number there ∙ ap Some is) (to-walk directory reached) (rw (led-length place card there) found.1.0))
+  to-walk number (Named directory stamp entry reached has) = elim (find cached_nodes directory) [
+    | There place cached_node there is ↦
+        let here : at stamp cached_node.names ≡ Some entry = sym (names-there place cached_node there stamp) ∙ (ap (λ n. at stamp (names_at tree n)) is ∙ has) in
+        let found = at-index cached_node.names stamp entry here in
+        let led : get_or (led_at cached_nodes place) found.0 0 ≡ entry.number = led-index place cached_node there found.0 nameless found.1.0 ∙ ap (λ (e : DirEntry). e.number) (found.1.1 nameless) in
+        subst (IsReached cached_nodes) led
+        (shape.Named place directory found.0 (ap node_number there ∙ ap Some is) (to-walk directory reached) (rw (led-length place cached_node there) found.1.0))
     | Nowhere none ↦ absurd (none-there directory stamp entry ((answers directory).none none) has)
   ]
 
-  is-key : (place : ℕ) (card : CachedNode) → get_or cards place None ≡ Some card → IsTrue (is_key card.fields.number tree)
-  is-key place card there = subst IsTrue (sym (ap is_some ((answers card.fields.number).found place card there refl))) refl
+  is-key : (place : ℕ) (cached_node : CachedNode) → get_or cached_nodes place None ≡ Some cached_node → IsTrue (is_key cached_node.fields.number tree)
+  is-key place cached_node there = subst IsTrue (sym (ap is_some ((answers cached_node.fields.number).found place cached_node there refl))) refl
 
-  key-place : (number : ℕ) → IsTrue (is_key number tree) → (place : ℕ) × (node_number_at cards place ≡ Some number)
-  key-place number key = elim (find cards number) [
-    | There place card there is ↦ (place, ap node_number there ∙ ap Some is)
+  key-place : (number : ℕ) → IsTrue (is_key number tree) → (place : ℕ) × (node_number_at cached_nodes place ≡ Some number)
+  key-place number key = elim (find cached_nodes number) [
+    | There place cached_node there is ↦ (place, ap node_number there ∙ ap Some is)
     | Nowhere none ↦ absurd (true≢false (sym (subst IsTrue (ap is_some ((answers number).none none)) key)))
   ]
 
-  linked-tree : IsOneTree cards → IsLinked tree
+  linked-tree : IsOneTree cached_nodes → IsLinked tree
   linked-tree one = record {
-    rooted = (let at_root = numbered cards one.rooted.0 root one.rooted.1 in subst (λ n. IsTrue (is_key n tree)) at_root.1.1 (is-key one.rooted.0 at_root.0 at_root.1.0));
-    linked = λ number. (let link = known_link nodes mark cards known image number in link.to ∙ (one.linked number ∙ sym link.owed));
+    rooted = (let at_root = numbered cached_nodes one.rooted.0 root one.rooted.1 in subst (λ n. IsTrue (is_key n tree)) at_root.1.1 (is-key one.rooted.0 at_root.0 at_root.1.0));
+    linked = λ number. (let link = known_link nodes mark cached_nodes known image number in link.to ∙ (one.linked number ∙ sym link.owed));
     reached = λ number key. (let there = key-place number key in from-walk number (one.reached there.0 number there.1));
   }
 
-  tree-linked : IsLinked tree → IsOneTree cards
+  tree-linked : IsLinked tree → IsOneTree cached_nodes
   tree-linked linked = record {
     rooted = key-place root linked.rooted;
-    linked = λ number. (let link = known_link nodes mark cards known image number in sym link.to ∙ (linked.linked number ∙ link.owed));
-    reached = λ place number there. (let at_place = numbered cards place number there in to-walk number (linked.reached number (subst (λ n. IsTrue (is_key n tree)) at_place.1.1 (is-key place at_place.0 at_place.1.0))));
+    linked = λ number. (let link = known_link nodes mark cached_nodes known image number in sym link.to ∙ (linked.linked number ∙ link.owed));
+    reached = λ place number there. (let at_place = numbered cached_nodes place number there in to-walk number (linked.reached number (subst (λ n. IsTrue (is_key n tree)) at_place.1.1 (is-key place at_place.0 at_place.1.0))));
   }
 
   -- Stamps
 
-  stamped-cached : (stamp : ℕ) (kind : NodeKind) (card : CachedNode) → HasContent kind card → one_if (is_key stamp (names_of (content_of image kind card))) ≡ times stamp (stamps_of card.names)
-  stamped-cached stamp kind card has =
-      ap (λ (found : Option DirEntry). one_if (is_some found)) (node-names kind card has stamp) ∙ key-times stamp card.names (stamped-content kind card has)
+  stamped-cached : (stamp : ℕ) (kind : NodeKind) (cached_node : CachedNode) → HasContent kind cached_node → one_if (is_key stamp (names_of (content_of image kind cached_node))) ≡ times stamp (stamps_of cached_node.names)
+  stamped-cached stamp kind cached_node has =
+      ap (λ (found : Option DirEntry). one_if (is_some found)) (node-names kind cached_node has stamp) ∙ key-times stamp cached_node.names (stamped-content kind cached_node has)
 
-  stamped-node : (stamp : ℕ) (card : CachedNode) → IsCard card → is_stamped stamp (node_of image card) ≡ times stamp (stamps_of card.names)
+  stamped-node : (stamp : ℕ) (cached_node : CachedNode) → IsCached cached_node → is_stamped stamp (node_of image cached_node) ≡ times stamp (stamps_of cached_node.names)
   unfolding node_of
-  stamped-node stamp card is = stamped-cached stamp card.fields.kind card is.content
+  stamped-node stamp cached_node is = stamped-cached stamp cached_node.fields.kind cached_node is.content
 
-  stamps-sum : (stamp : ℕ) → stamped_in tree stamp ≡ times stamp (entry_stamps cards)
-  stamps-sum stamp = (known_sum nodes mark cards known image).any (is_stamped stamp) ∙ from cards is_card
+  stamps-sum : (stamp : ℕ) → stamped_in tree stamp ≡ times stamp (entry_stamps cached_nodes)
+  stamps-sum stamp = (known_sum nodes mark cached_nodes known image).any (is_stamped stamp) ∙ from cached_nodes is_cached
     where
-      from : (cards : List (Option CachedNode)) → AreEach cards → sum_over (λ card. is_stamped stamp (node_of image card)) cards ≡ times stamp (entry_stamps cards)
+      from : (cached_nodes : List (Option CachedNode)) → AreEach cached_nodes → sum_over (λ cached_node. is_stamped stamp (node_of image cached_node)) cached_nodes ≡ times stamp (entry_stamps cached_nodes)
       from [] each = refl
-      from (None ∷ cards) each = from cards (λ place card e. each (suc place) card e)
-      from (Some card ∷ cards) each =
+      from (None ∷ cached_nodes) each = from cached_nodes (λ place cached_node e. each (suc place) cached_node e)
+      from (Some cached_node ∷ cached_nodes) each =
           omega (
             arith,
-            stamped-node stamp card (each 0 card refl),
-            times-append stamp (stamps_of card.names) (entry_stamps cards),
-            from cards (λ place card e. each (suc place) card e),
+            stamped-node stamp cached_node (each 0 cached_node refl),
+            times-append stamp (stamps_of cached_node.names) (entry_stamps cached_nodes),
+            from cached_nodes (λ place cached_node e. each (suc place) cached_node e),
           )
 
-  pub known_walk : IsOneTree cards ↔ IsLinked tree
+  pub known_walk : IsOneTree cached_nodes ↔ IsLinked tree
   known_walk = (linked-tree, tree-linked)
 
-  pub known_stamp : AreStampsApart cards ↔ ((stamp : ℕ) → stamped_in tree stamp ≤ 1)
+  pub known_stamp : AreStampsApart cached_nodes ↔ ((stamp : ℕ) → stamped_in tree stamp ≤ 1)
   known_stamp = (λ apart stamp. omega (arith, stamps-sum stamp, apart stamp), λ few stamp. omega (arith, stamps-sum stamp, few stamp))
 
 pub each_walk : EachWalk
-each_walk nodes image mark cards laid = known_walk nodes image mark cards (laid_are_cards nodes image mark cards laid)
+each_walk nodes image mark cached_nodes laid = known_walk nodes image mark cached_nodes (laid_are_cached_nodes nodes image mark cached_nodes laid)
 
 pub each_stamp : EachStamp
-each_stamp nodes image mark cards laid = known_stamp nodes image mark cards (laid_are_cards nodes image mark cards laid)
+each_stamp nodes image mark cached_nodes laid = known_stamp nodes image mark cached_nodes (laid_are_cached_nodes nodes image mark cached_nodes laid)

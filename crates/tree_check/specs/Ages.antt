@@ -7,12 +7,12 @@ use Rattle.layout.specs.CachedNodes.{CachedNode}
 abbrev pub AreNamesBefore : (stamp : ℕ) → List Record → Type 0
 AreNamesBefore stamp names = AllByRecursion (λ entry. entry.0 < stamp) names
 
-pub record IsCardBefore (stamp : ℕ) (card : CachedNode) : Type 0 where
-  pub number : card.fields.number < stamp
-  pub change : card.fields.change < stamp
-  pub names : AreNamesBefore stamp card.names
+pub record IsCachedBefore (stamp : ℕ) (cached : CachedNode) : Type 0 where
+  pub number : cached.fields.number < stamp
+  pub change : cached.fields.change < stamp
+  pub names : AreNamesBefore stamp cached.names
 
 abbrev pub AreBefore : (stamp : ℕ) → List (Option CachedNode) → Type 0
-AreBefore stamp cards =
-    (place : ℕ) (card : CachedNode) → slice_index_or cards place None ≡ Some card
-    → IsCardBefore stamp card
+AreBefore stamp cached_nodes =
+    (place : ℕ) (cached : CachedNode) → slice_index_or cached_nodes place None ≡ Some cached
+    → IsCachedBefore stamp cached

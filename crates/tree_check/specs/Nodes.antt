@@ -20,26 +20,26 @@ abbrev pub AreNamesAllowed : Limits → List Record → Type 0
 AreNamesAllowed limits names = AllByRecursion (λ entry. IsNameAllowed limits (name_of entry)) names
 
 abbrev pub IsContentAllowed : Limits → NodeKind → CachedNode → Type 0
-IsContentAllowed limits kind.File card = card.fields.size ≤ limits.file_bytes
-IsContentAllowed limits kind.Directory card = AreNamesAllowed limits card.names
+IsContentAllowed limits kind.File cached_node = cached_node.fields.size ≤ limits.file_bytes
+IsContentAllowed limits kind.Directory cached_node = AreNamesAllowed limits cached_node.names
 
-pub record IsNodeAllowed (limits : Limits) (card : CachedNode) : Type 0 where
-  pub entries : IsTrue (is_list_for limits.aces_set limits.aces card.fields.kind card.fields.acl)
-  pub content : IsContentAllowed limits card.fields.kind card
+pub record IsNodeAllowed (limits : Limits) (cached_node : CachedNode) : Type 0 where
+  pub entries : IsTrue (is_list_for limits.aces_set limits.aces cached_node.fields.kind cached_node.fields.acl)
+  pub content : IsContentAllowed limits cached_node.fields.kind cached_node
 
 -- the root's number is that of a directory
 
-pub record IsRootDirectory (card : CachedNode) : Type 0 where
-  pub number : card.fields.number ≡ root
-  pub directory : card.fields.kind ≡ kind.Directory
+pub record IsRootDirectory (cached_node : CachedNode) : Type 0 where
+  pub number : cached_node.fields.number ≡ root
+  pub directory : cached_node.fields.kind ≡ kind.Directory
 
-pub record HasRootDirectory (cards : List (Option CachedNode)) : Type 0 where
+pub record HasRootDirectory (cached_nodes : List (Option CachedNode)) : Type 0 where
   pub place : ℕ
   pub cached : CachedNode
-  pub there : slice_index_or cards place None ≡ Some cached
+  pub there : slice_index_or cached_nodes place None ≡ Some cached
   pub is : IsRootDirectory cached
 
-pub record AreNodesAllowed (limits : Limits) (cards : List (Option CachedNode)) : Type 0 where
-  pub each : (place : ℕ) (card : CachedNode) → slice_index_or cards place None ≡ Some card
-      → IsNodeAllowed limits card
-  pub rooted : HasRootDirectory cards
+pub record AreNodesAllowed (limits : Limits) (cached_nodes : List (Option CachedNode)) : Type 0 where
+  pub each : (place : ℕ) (cached_node : CachedNode) → slice_index_or cached_nodes place None ≡ Some cached_node
+      → IsNodeAllowed limits cached_node
+  pub rooted : HasRootDirectory cached_nodes

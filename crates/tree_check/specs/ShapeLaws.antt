@@ -9,7 +9,7 @@ use Rattle.model_tree.specs.Trees.Tree.{Tree, Node, root, is_directory_at}
 use Rattle.model_tree.specs.Trees.WellFormed.{links_to, links_owed, stamped_in, IsBefore, IsFrom, IsNode, IsWellFormed}
 use Rattle.directory.specs.declared.names.TheConstants.Names.{MAX_NAMES}
 use Rattle.layout.specs.CachedNodes.{CachedNode, tree_of}
-use Rattle.layout.specs.Known.{AreCards}
+use Rattle.layout.specs.Known.{AreCached}
 use Rattle.layout.specs.Laid.{AreLaid}
 use Rattle.tree_check.specs.Ages.{AreBefore}
 use Rattle.tree_check.specs.Nodes.{AreNodesAllowed}
@@ -26,33 +26,33 @@ pub record IsLinked (tree : Tree) : Type 0 where
 
 abbrev pub EachWalk : Type 0
 EachWalk =
-    (nodes : ℕ) (image : Image) (mark : ℕ → ℕ) (cards : List (Option CachedNode))
-    → AreLaid nodes image mark cards
-    → IsOneTree cards ↔ IsLinked (tree_of image cards)
+    (nodes : ℕ) (image : Image) (mark : ℕ → ℕ) (cached_nodes : List (Option CachedNode))
+    → AreLaid nodes image mark cached_nodes
+    → IsOneTree cached_nodes ↔ IsLinked (tree_of image cached_nodes)
 
 -- and another: no stamp is in two directories
 abbrev pub EachStamp : Type 0
 EachStamp =
-    (nodes : ℕ) (image : Image) (mark : ℕ → ℕ) (cards : List (Option CachedNode))
-    → AreLaid nodes image mark cards
-    → AreStampsApart cards ↔ ((stamp : ℕ) → stamped_in (tree_of image cards) stamp ≤ 1)
+    (nodes : ℕ) (image : Image) (mark : ℕ → ℕ) (cached_nodes : List (Option CachedNode))
+    → AreLaid nodes image mark cached_nodes
+    → AreStampsApart cached_nodes ↔ ((stamp : ℕ) → stamped_in (tree_of image cached_nodes) stamp ≤ 1)
 
 -- and all of its stamps are from before one exactly if those of the nodes are
 abbrev pub EachAge : Type 0
 EachAge =
-    (nodes : ℕ) (image : Image) (mark : ℕ → ℕ) (cards : List (Option CachedNode))
-    → AreLaid nodes image mark cards
-    → (stamp : ℕ) → AreBefore stamp cards ↔ IsBefore stamp (tree_of image cards)
+    (nodes : ℕ) (image : Image) (mark : ℕ → ℕ) (cached_nodes : List (Option CachedNode))
+    → AreLaid nodes image mark cached_nodes
+    → (stamp : ℕ) → AreBefore stamp cached_nodes ↔ IsBefore stamp (tree_of image cached_nodes)
 
 -- The tree fits exactly if the nodes' charges and their count do: no directory has more than
 -- MAX_NAMES names
 abbrev pub EachFit : Type 0
 EachFit =
-    (nodes : ℕ) (image : Image) (mark : ℕ → ℕ) (cards : List (Option CachedNode))
-    → AreLaid nodes image mark cards
+    (nodes : ℕ) (image : Image) (mark : ℕ → ℕ) (cached_nodes : List (Option CachedNode))
+    → AreLaid nodes image mark cached_nodes
     → (limits : Limits) → MAX_NAMES ≤ limits.names
-    → fits limits (tree_of image cards)
-    ≡ (nat_le (charge_of_all cards) limits.data_sectors && nat_le (count_of_all cards) limits.nodes)
+    → fits limits (tree_of image cached_nodes)
+    ≡ (nat_le (charge_of_all cached_nodes) limits.data_sectors && nat_le (count_of_all cached_nodes) limits.nodes)
 
 -- if the sectors that nodes name hold bytes, two more: the limits allow each node, and the root is
 -- a directory
@@ -65,23 +65,23 @@ pub record HasAllowedNodes (limits : Limits) (tree : Tree) : Type 0 where
   pub rooted : IsTrue (is_directory_at tree root)
 
 abbrev pub EachNode : Type 0
-EachNode = (nodes : ℕ) (image : Image) (mark : ℕ → ℕ) (cards : List (Option CachedNode))
-    → AreLaid nodes image mark cards → HoldBytes image mark → (limits : Limits)
-    → AreNodesAllowed limits cards ↔ HasAllowedNodes limits (tree_of image cards)
+EachNode = (nodes : ℕ) (image : Image) (mark : ℕ → ℕ) (cached_nodes : List (Option CachedNode))
+    → AreLaid nodes image mark cached_nodes → HoldBytes image mark → (limits : Limits)
+    → AreNodesAllowed limits cached_nodes ↔ HasAllowedNodes limits (tree_of image cached_nodes)
 
 -- So all of it together decides whether the tree is well formed, and from before a stamp
 abbrev pub EachTree : Type 0
-EachTree = (nodes : ℕ) (image : Image) (mark : ℕ → ℕ) (cards : List (Option CachedNode))
-    → AreLaid nodes image mark cards → HoldBytes image mark
+EachTree = (nodes : ℕ) (image : Image) (mark : ℕ → ℕ) (cached_nodes : List (Option CachedNode))
+    → AreLaid nodes image mark cached_nodes → HoldBytes image mark
     → (limits : Limits) → MAX_NAMES ≤ limits.names → (stamp : ℕ)
-    → AreWellFormed limits stamp cards
-    ↔ (IsWellFormed limits (tree_of image cards) × IsBefore stamp (tree_of image cards))
+    → AreWellFormed limits stamp cached_nodes
+    ↔ (IsWellFormed limits (tree_of image cached_nodes) × IsBefore stamp (tree_of image cached_nodes))
 
 -- It also decides this for cached nodes that are known whatever the sectors hold: then it is the
 -- tree with zeros for the bytes of files, as sectors without content give it
 abbrev pub EachKnownTree : Type 0
-EachKnownTree = (nodes : ℕ) (mark : ℕ → ℕ) (cards : List (Option CachedNode))
-    → AreCards nodes mark cards
+EachKnownTree = (nodes : ℕ) (mark : ℕ → ℕ) (cached_nodes : List (Option CachedNode))
+    → AreCached nodes mark cached_nodes
     → (limits : Limits) → MAX_NAMES ≤ limits.names → (stamp : ℕ)
-    → AreWellFormed limits stamp cards
-    ↔ (IsWellFormed limits (tree_of (λ n. []) cards) × IsBefore stamp (tree_of (λ n. []) cards))
+    → AreWellFormed limits stamp cached_nodes
+    ↔ (IsWellFormed limits (tree_of (λ n. []) cached_nodes) × IsBefore stamp (tree_of (λ n. []) cached_nodes))

@@ -9,15 +9,15 @@ stamps_of names = map (λ entry. entry.0) names
 
 abbrev pub stamped_by : Option CachedNode → List ℕ
 stamped_by None = []
-stamped_by (Some card) = stamps_of card.names
+stamped_by (Some cached) = stamps_of cached.names
 
 abbrev pub entry_stamps : List (Option CachedNode) → List ℕ
 entry_stamps [] = []
-entry_stamps (card ∷ cards) = stamped_by card ++ entry_stamps cards
+entry_stamps (cached ∷ cached_nodes) = stamped_by cached ++ entry_stamps cached_nodes
 
 -- none occurs twice
 abbrev pub AreStampsApart : List (Option CachedNode) → Type 0
-AreStampsApart cards = (stamp : ℕ) → times stamp (entry_stamps cards) ≤ 1
+AreStampsApart cached_nodes = (stamp : ℕ) → times stamp (entry_stamps cached_nodes) ≤ 1
 
 -- each differs from the next one
 abbrev pub AreDifferent : List ℕ → Type 0

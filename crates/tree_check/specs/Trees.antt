@@ -11,24 +11,24 @@ use Rattle.layout.specs.SumLaws.{entry_numbers, other_numbers, numbers_of}
 
 abbrev pub led_by : Option CachedNode → List ℕ
 led_by None = []
-led_by (Some card) = numbers_of card.names
+led_by (Some cached) = numbers_of cached.names
 
 abbrev pub led_at : List (Option CachedNode) → (place : ℕ) → List ℕ
-led_at cards place = led_by (slice_index_or cards place None)
+led_at cached_nodes place = led_by (slice_index_or cached_nodes place None)
 
 -- reached: the root, and what a name in a reached directory leads to
-pub data IsReached (cards : List (Option CachedNode)) : ℕ → Type 0 where
-  Root : IsReached cards root
-  Named : (place number i : ℕ) → node_number_at cards place ≡ Some number → IsReached cards number
-      → i < length (led_at cards place)
-      → IsReached cards (slice_index_or (led_at cards place) i 0)
+pub data IsReached (cached_nodes : List (Option CachedNode)) : ℕ → Type 0 where
+  Root : IsReached cached_nodes root
+  Named : (place number i : ℕ) → node_number_at cached_nodes place ≡ Some number → IsReached cached_nodes number
+      → i < length (led_at cached_nodes place)
+      → IsReached cached_nodes (slice_index_or (led_at cached_nodes place) i 0)
 
-pub record IsOneTree (cards : List (Option CachedNode)) : Type 0 where
+pub record IsOneTree (cached_nodes : List (Option CachedNode)) : Type 0 where
   -- there is a root
-  pub rooted : (place : ℕ) × (node_number_at cards place ≡ Some root)
+  pub rooted : (place : ℕ) × (node_number_at cached_nodes place ≡ Some root)
   -- each other node has one name, and neither the root nor a number without a node has one
   pub linked : (number : ℕ)
-      → times number (entry_numbers cards) ≡ times number (other_numbers cards)
+      → times number (entry_numbers cached_nodes) ≡ times number (other_numbers cached_nodes)
   -- each is reached
-  pub reached : (place number : ℕ) → node_number_at cards place ≡ Some number
-      → IsReached cards number
+  pub reached : (place number : ℕ) → node_number_at cached_nodes place ≡ Some number
+      → IsReached cached_nodes number

@@ -12,43 +12,43 @@ number_or None = 0
 number_or (Some number) = number
 
 abbrev pub number_in : List (Option CachedNode) → (place : ℕ) → ℕ
-number_in cards place = number_or (node_number_at cards place)
+number_in cached_nodes place = number_or (node_number_at cached_nodes place)
 
 -- the numbers of these places' nodes, and those that their names lead to
 abbrev pub numbers_at : List (Option CachedNode) → List ℕ → List ℕ
-numbers_at cards places = map (number_in cards) places
+numbers_at cached_nodes places = map (number_in cached_nodes) places
 
 abbrev pub led_from : List (Option CachedNode) → List ℕ → List ℕ
-led_from cards [] = []
-led_from cards (place ∷ places) = led_at cards place ++ led_from cards places
+led_from cached_nodes [] = []
+led_from cached_nodes (place ∷ places) = led_at cached_nodes place ++ led_from cached_nodes places
 
 -- each place that was met has a node that is reached, and is marked and met once
-pub record IsWalk (cards : List (Option CachedNode)) (seen : List Bool) (order : List ℕ)
+pub record IsWalk (cached_nodes : List (Option CachedNode)) (seen : List Bool) (order : List ℕ)
     : Type 0 where
-  pub marks : length seen ≡ length cards
+  pub marks : length seen ≡ length cached_nodes
   pub once : (place : ℕ) → times place order ≡ once_if (slice_index_or seen place false)
   pub there : (i : ℕ) → i < length order
-      → node_number_at cards (slice_index_or order i 0)
-      ≡ Some (number_in cards (slice_index_or order i 0))
+      → node_number_at cached_nodes (slice_index_or order i 0)
+      ≡ Some (number_in cached_nodes (slice_index_or order i 0))
   pub reached : (i : ℕ) → i < length order
-      → IsReached cards (number_in cards (slice_index_or order i 0))
+      → IsReached cached_nodes (number_in cached_nodes (slice_index_or order i 0))
 
 -- no node has the number, or it is one of these
 abbrev pub IsMissing : List (Option CachedNode) → List ℕ → (number : ℕ) → Type 0
-IsMissing cards met number = HasNoNode cards number ⊎ (0 < times number met)
+IsMissing cached_nodes met number = HasNoNode cached_nodes number ⊎ (0 < times number met)
 
 -- the walk goes on, and has also met the nodes with these numbers
-pub record Meets (cards : List (Option CachedNode)) (seen : List Bool) (old new numbers : List ℕ)
+pub record Meets (cached_nodes : List (Option CachedNode)) (seen : List Bool) (old new numbers : List ℕ)
     : Type
     0 where
-  pub walk : IsWalk cards seen new
+  pub walk : IsWalk cached_nodes seen new
   pub more : List ℕ
-  pub front : new ≡ old ++ more
-  pub met : numbers_at cards new ≡ numbers_at cards old ++ numbers
+  pub prefix : new ≡ old ++ more
+  pub met : numbers_at cached_nodes new ≡ numbers_at cached_nodes old ++ numbers
 
 -- a name at the place leads to no node, or to one that was met
-pub record IsStuck (cards : List (Option CachedNode)) (order : List ℕ) (place : ℕ) : Type 0 where
+pub record IsStuck (cached_nodes : List (Option CachedNode)) (order : List ℕ) (place : ℕ) : Type 0 where
   pub i : ℕ
-  pub within : i < length (led_at cards place)
-  pub missing : IsMissing cards (numbers_at cards order ++ take i (led_at cards place))
-      (slice_index_or (led_at cards place) i 0)
+  pub within : i < length (led_at cached_nodes place)
+  pub missing : IsMissing cached_nodes (numbers_at cached_nodes order ++ take i (led_at cached_nodes place))
+      (slice_index_or (led_at cached_nodes place) i 0)

@@ -1,7 +1,7 @@
 //! Whether all stamps of a volume are at most a given last one.
 
 ghost use Rattle.std.specs.Prelude.{◌+◌, ◌↔◌, IsTrue};
-ghost use Rattle.tree_check.specs.Ages.{AreBefore, AreNamesBefore, IsCardBefore};
+ghost use Rattle.tree_check.specs.Ages.{AreBefore, AreNamesBefore, IsCachedBefore};
 
 use directory::Names;
 use node_table::{CachedNode, Table};
@@ -17,8 +17,8 @@ fn are_names_before(names: &Names, last: u64) -> bool
     true
 }
 
-fn is_card_before(cached: &CachedNode, last: u64) -> bool
-    ensures { IsTrue result ↔ IsCardBefore (last + 1) cached.now }
+fn is_cached_before(cached: &CachedNode, last: u64) -> bool
+    ensures { IsTrue result ↔ IsCachedBefore (last + 1) cached.now }
 {
     cached.inode.number <= last
         && cached.inode.change <= last
@@ -32,7 +32,7 @@ pub(crate) fn are_before(table: &Table, last: u64) -> bool
 {
     for place in 0..table.places() {
         if let Some(cached) = table.cached(place) {
-            if !is_card_before(cached, last) {
+            if !is_cached_before(cached, last) {
                 return false;
             }
         }

@@ -136,20 +136,20 @@ unfolding bytes_in
 bytes-none blocks size = zeros-map (byte_at (λ n. []) blocks) (range_with_len 0 size) (byte-none blocks)
     ∙ ap zeros (length-range_with_len 0 size)
 
-pub content-blank : (image : Image) (kind : NodeKind) (card : CachedNode) → blank (content_of image kind card) ≡ content_of (λ n. []) kind card
-content-blank image kind.File card = ap File
-    (ap zeros (length-bytes_in image card.blocks card.fields.size) ∙ sym (bytes-none card.blocks card.fields.size))
-content-blank image kind.Directory card = refl
+pub content-blank : (image : Image) (kind : NodeKind) (cached : CachedNode) → blank (content_of image kind cached) ≡ content_of (λ n. []) kind cached
+content-blank image kind.File cached = ap File
+    (ap zeros (length-bytes_in image cached.blocks cached.fields.size) ∙ sym (bytes-none cached.blocks cached.fields.size))
+content-blank image kind.Directory cached = refl
 
-pub node-blank : (image : Image) (card : CachedNode) → blank_node (node_of image card) ≡ node_of (λ n. []) card
+pub node-blank : (image : Image) (cached : CachedNode) → blank_node (node_of image cached) ≡ node_of (λ n. []) cached
 unfolding node_of
-node-blank image card = ap (with_content (node_of image card)) (content-blank image card.fields.kind card)
+node-blank image cached = ap (with_content (node_of image cached)) (content-blank image cached.fields.kind cached)
 
 pub each_outline : EachOutline
 each_outline image [] = refl
-each_outline image (None ∷ cards) = each_outline image cards
-each_outline image (Some card ∷ cards) = without_data-with (tree_of image cards) card.fields.number (node_of image card)
-    ∙ ap₂ (λ (t : Tree) (node : Node). with t card.fields.number node) (each_outline image cards) (node-blank image card)
+each_outline image (None ∷ cached_nodes) = each_outline image cached_nodes
+each_outline image (Some cached ∷ cached_nodes) = without_data-with (tree_of image cached_nodes) cached.fields.number (node_of image cached)
+    ∙ ap₂ (λ (t : Tree) (node : Node). with t cached.fields.number node) (each_outline image cached_nodes) (node-blank image cached)
 
 -- Edits
 
@@ -188,8 +188,8 @@ done-without_data (PutNode number node) tree = without_data-with (without_data t
 done-without_data (DropNode number) tree = without_data-without (without_data tree) number
     ∙ ap (λ (t : Tree). without t number) (without_data-twice tree)
     ∙ sym (without_data-without tree number)
-done-without_data (Show number shown) tree =
-    altered-without_data (showing shown) (λ node. ap (with_content (showing shown node)) (blank-twice node.content)) tree number
+done-without_data (Show number metadata) tree =
+    altered-without_data (showing metadata) (λ node. ap (with_content (showing metadata node)) (blank-twice node.content)) tree number
 done-without_data (PutName directory stamp entry) tree = altered-without_data (name_put stamp entry)
     (λ node. ap (λ (names : Keyed DirEntry). with_content node (Directory (with names stamp entry))) (names-blank node.content)) tree directory
 done-without_data (DropName directory stamp) tree = altered-without_data (name_dropped stamp)

@@ -34,9 +34,9 @@ module _ (tree other : Tree) (alike : without_data other ≡ without_data tree) 
   fresh_alike number fresh = none (at number other) (key_alike number ∙ ap is_some fresh)
 
   can_alike : (edit : Edit) → CanDo tree edit → CanDo other edit
-  can_alike (declared.PutNode number kind shown) can = record { some = can.some; fresh = fresh_alike number can.fresh; entries = can.entries }
+  can_alike (declared.PutNode number kind metadata) can = record { some = can.some; fresh = fresh_alike number can.fresh; entries = can.entries }
   can_alike (declared.DropNode number) can = subst IsTrue (sym (key_alike number)) can
-  can_alike (declared.Show number shown) can = record { there = subst IsTrue (sym (key_alike number)) can.there; entries = can.entries }
+  can_alike (declared.Show number metadata) can = record { there = subst IsTrue (sym (key_alike number)) can.there; entries = can.entries }
   can_alike (declared.PutName directory stamp name number) can =
       let names = sym (names_alike directory) in
       record {
@@ -66,9 +66,9 @@ module _ (tree other : Tree) (alike : without_data other ≡ without_data tree) 
   }
 
   measured_alike : (edit : Edit) → CanMeasure tree edit → CanMeasure other edit
-  measured_alike (declared.PutNode number kind shown) can = tt
+  measured_alike (declared.PutNode number kind metadata) can = tt
   measured_alike (declared.DropNode number) can = tt
-  measured_alike (declared.Show number shown) can = tt
+  measured_alike (declared.Show number metadata) can = tt
   measured_alike (declared.PutName directory stamp name number) can = record {
     there = subst IsTrue (sym (directory_alike directory)) can.there;
     new_stamp = ap (at stamp) (names_alike directory) ∙ can.new_stamp;
@@ -93,9 +93,9 @@ measurable_alike tree other (edit ∷ edits) alike can =
 -- Edits that can be done can be measured
 
 measured : (tree : Tree) (edit : Edit) → CanDo tree edit → CanMeasure tree edit
-measured tree (declared.PutNode number kind shown) can = tt
+measured tree (declared.PutNode number kind metadata) can = tt
 measured tree (declared.DropNode number) can = tt
-measured tree (declared.Show number shown) can = tt
+measured tree (declared.Show number metadata) can = tt
 measured tree (declared.PutName directory stamp name number) can = record { there = can.there; new_stamp = can.new_stamp }
 measured tree (declared.DropName directory stamp name) can = can
 measured tree (declared.PutBytes file offset bytes) can = can.is_file

@@ -4,7 +4,7 @@ pub mod DoableLaws
 pub mod DoingLaws
 pub mod FileLaws
 pub mod FitLaws
-pub mod FrontLaws
+pub mod PrefixLaws
 pub mod KeyLaws
 pub mod ListLaws
 pub mod NamedLaws

@@ -9,12 +9,12 @@ use Rattle.directory.proofs.ByStamp.{at-by_stamp}
 use Rattle.directory.proofs.NamedByStamp.{entry_of-by_stamp}
 use Rattle.directory.proofs.RecordMaps.{puts_by_stamp, removes_by_stamp}
 use Rattle.tree_transaction.specs.Naming.{CanName, HasNameAt, blocks_named}
-use Rattle.tree_transaction.proofs.KnownLaws.{card_at}
+use Rattle.tree_transaction.proofs.KnownLaws.{cached_at}
 use Rattle.tree_edits.specs.Edits.{IsNewName, IsName}
 use Rattle.tree_edits.specs.Outlines.{tree_without_data}
 use Rattle.tree_edits.proofs.PlaceLaws.{IsThere, there_is, names_there}
 use Rattle.layout.specs.CachedNodes.{CachedNode, node_of, content_of}
-use Rattle.layout.specs.Known.{AreCards, HasContent, HasNames}
+use Rattle.layout.specs.Known.{AreCached, HasContent, HasNames}
 use Rattle.layout.proofs.ChargeLaws.{length-by_stamp, length-with, above_by_stamp}
 use Rattle.model_tree.specs.declared.node.NodeKind.{NodeKind}
 use Rattle.model_tree.specs.declared.node.NodeKind.TheVariants as kind
@@ -62,21 +62,21 @@ few-at most (entry ∷ rest) number node few there = by_key (few-at most rest nu
 
 -- The names of a directory's cached node
 
-module _ (nodes : ℕ) (mark : ℕ → ℕ) (cards : List (Option CachedNode)) (known : AreCards nodes mark cards) (place number : ℕ) (it : IsThere cards place number) (is : it.cached.fields.kind ≡ kind.Directory) where
+module _ (nodes : ℕ) (mark : ℕ → ℕ) (cached_nodes : List (Option CachedNode)) (known : AreCached nodes mark cached_nodes) (place number : ℕ) (it : IsThere cached_nodes place number) (is : it.cached.fields.kind ≡ kind.Directory) where
   pub has_names : HasNames it.cached
-  has_names = let card = card_at nodes mark cards place it.cached known it.there in subst (λ (k : NodeKind). HasContent k it.cached) is card.content
+  has_names = let cached_node = cached_at nodes mark cached_nodes place it.cached known it.there in subst (λ (k : NodeKind). HasContent k it.cached) is cached_node.content
 
-  names_are : names_at (tree_without_data cards) number ≡ by_stamp it.cached.names
-  names_are = names_there cards known.apart place number it is
+  names_are : names_at (tree_without_data cached_nodes) number ≡ by_stamp it.cached.names
+  names_are = names_there cached_nodes known.apart place number it is
 
-  pub entry_is : (name : List ℕ) → entry_of name (names_at (tree_without_data cards) number) ≡ entry_of name it.cached.names
+  pub entry_is : (name : List ℕ) → entry_of name (names_at (tree_without_data cached_nodes) number) ≡ entry_of name it.cached.names
   entry_is name = ap (entry_of name) names_are ∙ entry_of-by_stamp name it.cached.names has_names.names.apart has_names.stamped.apart
 
-  pub stamp_is : (stamp : ℕ) → at stamp (names_at (tree_without_data cards) number) ≡ at stamp it.cached.names
+  pub stamp_is : (stamp : ℕ) → at stamp (names_at (tree_without_data cached_nodes) number) ≡ at stamp it.cached.names
   stamp_is stamp = ap (at stamp) names_are ∙ at-by_stamp stamp it.cached.names
 
   -- what a new name requires
-  module _ (stamp : ℕ) (name : List ℕ) (to : ℕ) (new : IsNewName (tree_without_data cards) number stamp (record { name = name; number = to })) where
+  module _ (stamp : ℕ) (name : List ℕ) (to : ℕ) (new : IsNewName (tree_without_data cached_nodes) number stamp (record { name = name; number = to })) where
     unnamed : entry_of name it.cached.names ≡ None
     unnamed = sym (entry_is name) ∙ new.new_name
 
@@ -84,20 +84,20 @@ module _ (nodes : ℕ) (mark : ℕ → ℕ) (cards : List (Option CachedNode)) (
     unstamped = sym (stamp_is stamp) ∙ new.new_stamp
 
     -- there is room for it if there are few names after it
-    pub room_there : IsTrue (few_names MAX_NAMES (altered (name_put stamp (record { name = name; number = to })) (tree_without_data cards) number)) → length it.cached.names < MAX_NAMES
+    pub room_there : IsTrue (few_names MAX_NAMES (altered (name_put stamp (record { name = name; number = to })) (tree_without_data cached_nodes) number)) → length it.cached.names < MAX_NAMES
     unfolding node_of
     room_there few =
         let entry : DirEntry = record { name = name; number = to } in
         let node = node_of (λ n. []) it.cached in
-        let behind : at number (altered (name_put stamp entry) (tree_without_data cards) number) ≡ Some (name_put stamp entry node) =
-        ap (λ (found : Option Node). at number (altered_at (name_put stamp entry) (tree_without_data cards) number found)) (there_is cards known.apart place number it)
-        ∙ at-with_same (tree_without_data cards) number (name_put stamp entry node) in
-        let most = few-at MAX_NAMES (altered (name_put stamp entry) (tree_without_data cards) number) number (name_put stamp entry node) few behind in
+        let behind : at number (altered (name_put stamp entry) (tree_without_data cached_nodes) number) ≡ Some (name_put stamp entry node) =
+        ap (λ (found : Option Node). at number (altered_at (name_put stamp entry) (tree_without_data cached_nodes) number found)) (there_is cached_nodes known.apart place number it)
+        ∙ at-with_same (tree_without_data cached_nodes) number (name_put stamp entry node) in
+        let most = few-at MAX_NAMES (altered (name_put stamp entry) (tree_without_data cached_nodes) number) number (name_put stamp entry node) few behind in
         let names = ap (λ (k : NodeKind). length (with (names_of (content_of (λ n. []) k it.cached)) stamp entry)) is in
         let more = length-with (by_stamp it.cached.names) stamp 0 entry (above_by_stamp it.cached.names has_names.stamped) (at-by_stamp stamp it.cached.names ∙ unstamped) in
         omega (arith, most, names, more, length-by_stamp it.cached.names has_names.stamped)
 
-    pub can_name : length it.cached.names < MAX_NAMES → CanName cards place name stamp
+    pub can_name : length it.cached.names < MAX_NAMES → CanName cached_nodes place name stamp
     can_name room = record {
       cached = it.cached;
       there = it.there;
@@ -125,14 +125,14 @@ module _ (nodes : ℕ) (mark : ℕ → ℕ) (cards : List (Option CachedNode)) (
 
   -- what a name that is removed requires
   module _ (stamp : ℕ) (name : List ℕ)
-      (named : IsName (tree_without_data cards) number stamp name) where
+      (named : IsName (tree_without_data cached_nodes) number stamp name) where
     pub entry_there : entry_of name it.cached.names ≡ Some (record_from stamp name named.number)
     entry_there = sym (entry_is name) ∙ named.named
 
     within : place_of name it.cached.names < length it.cached.names
     within = place_before name it.cached.names (record_from stamp name named.number) entry_there
 
-    pub has_name : HasNameAt cards place name
+    pub has_name : HasNameAt cached_nodes place name
     has_name = record {
       cached = it.cached;
       there = it.there;

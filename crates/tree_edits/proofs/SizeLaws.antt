@@ -2,7 +2,7 @@
 use Rattle.std.proofs.Common.{◌≡◌, ◌≢◌, ◌+◌, ◌-◌, ◌⊎◌, ℕ, Option, Some, None, length, refl, sym, ap, ◌∙◌, arith, inl, inr, subst}
 use Rattle.std.proofs.lemmas.Bool.{cases_eq}
 use Rattle.std.specs.Prelude.{option_map, IsTrue, IsFalse}
-use Rattle.tree_transaction.specs.Nodes.{no_content, shown_of}
+use Rattle.tree_transaction.specs.Nodes.{no_content, metadata_of}
 use Rattle.tree_edits.specs.declared.edit.Edit.{Edit}
 use Rattle.tree_edits.specs.declared.edit.Edit.TheVariants as declared
 use Rattle.tree_edits.specs.declared.room.Size.{Size}
@@ -76,9 +76,9 @@ name_less names stamp rising once =
     omega (arith, total_without one names stamp rising, once, total-ones names, total-ones (without names stamp))
 
 changed_one : (tree : Tree) (edit : Edit) → CanMeasure tree edit → Rises tree → ChangesOne (edited_number edit) tree (done (edit_of edit) tree)
-changed_one tree (declared.PutNode number of shown) can rises = change_with tree number (fresh_node of (shown_of shown)) rises
+changed_one tree (declared.PutNode number of metadata) can rises = change_with tree number (fresh_node of (metadata_of metadata)) rises
 changed_one tree (declared.DropNode number) can rises = change_without tree number rises
-changed_one tree (declared.Show number shown) can rises = change_altered (showing (shown_of shown)) tree number rises
+changed_one tree (declared.Show number metadata) can rises = change_altered (showing (metadata_of metadata)) tree number rises
 changed_one tree (declared.PutName directory stamp name number) can rises = change_altered (name_put stamp (record { name = name.now; number = number })) tree directory rises
 changed_one tree (declared.DropName directory stamp name) can rises = change_altered (name_dropped stamp) tree directory rises
 changed_one tree (declared.PutBytes file offset bytes) can rises =
@@ -87,12 +87,12 @@ changed_one tree (declared.SetSize file size) can rises =
     change_altered (λ node. with_content node (File (resized (bytes_of node.content) size))) tree file rises
 
 new_size : (tree : Tree) (edit : Edit) → CanMeasure tree edit → IsRising tree → size_at (done (edit_of edit) tree) (edited_number edit) ≡ resized_by edit (size_at tree (edited_number edit))
-new_size tree (declared.PutNode number of shown) can rising =
-    ap size_there (at-with_same tree number (fresh_node of (shown_of shown))) ∙ ap (λ (size : Size). Some size) (fresh_size of)
+new_size tree (declared.PutNode number of metadata) can rising =
+    ap size_there (at-with_same tree number (fresh_node of (metadata_of metadata))) ∙ ap (λ (size : Size). Some size) (fresh_size of)
 new_size tree (declared.DropNode number) can rising = ap size_there (at-without_same tree number)
-new_size tree (declared.Show number shown) can rising = ap size_there (at_altered (showing (shown_of shown)) tree number) ∙ by_node (at number tree)
+new_size tree (declared.Show number metadata) can rising = ap size_there (at_altered (showing (metadata_of metadata)) tree number) ∙ by_node (at number tree)
   where
-    by_node : (found : Option Node) → size_there (option_map (showing (shown_of shown)) found) ≡ size_there found
+    by_node : (found : Option Node) → size_there (option_map (showing (metadata_of metadata)) found) ≡ size_there found
     by_node None = refl
     by_node (Some node) = refl
 new_size tree (declared.PutName directory stamp name number) can rising =
@@ -141,13 +141,13 @@ new_size tree (declared.SetSize file size) can rising =
     by_node (Some node) = ap file_of (length-resized (bytes_of node.content) size)
 
 new_names : (tree : Tree) (edit : Edit) → CanMeasure tree edit → IsRising tree → Rises (names_at (done (edit_of edit) tree) (edited_number edit))
-new_names tree (declared.PutNode number of shown) can rising =
-    subst (λ (found : Option Node). Rises (names_of_node found)) (sym (at-with_same tree number (fresh_node of (shown_of shown)))) (fresh_names of)
+new_names tree (declared.PutNode number of metadata) can rising =
+    subst (λ (found : Option Node). Rises (names_of_node found)) (sym (at-with_same tree number (fresh_node of (metadata_of metadata)))) (fresh_names of)
 new_names tree (declared.DropNode number) can rising = subst (λ (found : Option Node). Rises (names_of_node found)) (sym (at-without_same tree number)) tt
-new_names tree (declared.Show number shown) can rising =
-    subst (λ (found : Option Node). Rises (names_of_node found)) (sym (at_altered (showing (shown_of shown)) tree number)) (by_node (at number tree) (rising.names number))
+new_names tree (declared.Show number metadata) can rising =
+    subst (λ (found : Option Node). Rises (names_of_node found)) (sym (at_altered (showing (metadata_of metadata)) tree number)) (by_node (at number tree) (rising.names number))
   where
-    by_node : (found : Option Node) → Rises (names_of_node found) → Rises (names_of_node (option_map (showing (shown_of shown)) found))
+    by_node : (found : Option Node) → Rises (names_of_node found) → Rises (names_of_node (option_map (showing (metadata_of metadata)) found))
     by_node None rises = tt
     by_node (Some node) rises = rises
 new_names tree (declared.PutName directory stamp name number) can rising =

@@ -5,7 +5,7 @@ use Rattle.std.specs.List.{IsAmong}
 use Rattle.disk.specs.Moments.{Image}
 use Rattle.node_table.specs.Tables.{node_number_at}
 use Rattle.tree_transaction.specs.declared.transaction.Transaction.{Transaction}
-use Rattle.tree_transaction.specs.Transactions.{cards_of, end_of, changed_tree, IsKnown, IsTransaction, StaysKnown}
+use Rattle.tree_transaction.specs.Transactions.{cached_nodes_of, end_of, changed_tree, IsKnown, IsTransaction, StaysKnown}
 use Rattle.tree_edits.specs.declared.edit.Edit.{Edit}
 use Rattle.tree_edits.specs.declared.edit.Edit.TheVariants as declared
 use Rattle.tree_edits.specs.Edits.{edits_of, AreDoable, StayFew}
@@ -21,9 +21,9 @@ use Rattle.model_tree.specs.Trees.Tree.{Tree}
 -- the numbers of nodes that edits make
 abbrev pub made_by : List Edit → List ℕ
 made_by [] = []
-made_by (declared.PutNode number kind shown ∷ edits) = number ∷ made_by edits
+made_by (declared.PutNode number kind metadata ∷ edits) = number ∷ made_by edits
 made_by (declared.DropNode number ∷ edits) = made_by edits
-made_by (declared.Show number shown ∷ edits) = made_by edits
+made_by (declared.Show number metadata ∷ edits) = made_by edits
 made_by (declared.PutName directory stamp name number ∷ edits) = made_by edits
 made_by (declared.DropName directory stamp name ∷ edits) = made_by edits
 made_by (declared.PutBytes file offset bytes ∷ edits) = made_by edits
@@ -36,9 +36,9 @@ AreMade old new numbers = (place number : ℕ) → node_number_at new place ≡ 
 
 -- how many updates edits make at most
 abbrev pub updates_of : Edit → ℕ
-updates_of (declared.PutNode number kind shown) = 1
+updates_of (declared.PutNode number kind metadata) = 1
 updates_of (declared.DropNode number) = 1
-updates_of (declared.Show number shown) = 1
+updates_of (declared.Show number metadata) = 1
 updates_of (declared.PutName directory stamp name number) = 4
 updates_of (declared.DropName directory stamp name) = 4
 updates_of (declared.PutBytes file offset bytes) =
@@ -56,10 +56,10 @@ pub record DoesEdits (word : Type 0) (base : Image) (size : ℕ) (old new : Tran
     (edits : List Edit)
     : Type 0 where
   pub known : StaysKnown old new
-  pub outline : tree_without_data (cards_of new)
-      ≡ without_data (edited (edits_of edits) (tree_without_data (cards_of old)))
-  pub forms : HaveCurrentForms (cards_of old) → HaveCurrentForms (cards_of new)
-  pub made : AreMade (cards_of old) (cards_of new) (made_by edits)
+  pub outline : tree_without_data (cached_nodes_of new)
+      ≡ without_data (edited (edits_of edits) (tree_without_data (cached_nodes_of old)))
+  pub forms : HaveCurrentForms (cached_nodes_of old) → HaveCurrentForms (cached_nodes_of new)
+  pub made : AreMade (cached_nodes_of old) (cached_nodes_of new) (made_by edits)
   pub tree : word → IsTransaction base size old → IsTransaction base size new
       × (changed_tree base new ≡ edited (edits_of edits) (changed_tree base old))
   pub count : length new.updates ≤ length old.updates + updates_of_all edits
@@ -68,9 +68,9 @@ pub record DoesEdits (word : Type 0) (base : Image) (size : ℕ) (old new : Tran
 pub record CanDoAll (size : ℕ) (transaction : Transaction) (edits : List Edit) : Type 0 where
   pub known : IsKnown transaction
   pub within : end_of transaction ≤ size
-  pub forms : HaveCurrentForms (cards_of transaction)
-  pub can : AreDoable (tree_without_data (cards_of transaction)) edits
-  pub few : StayFew (tree_without_data (cards_of transaction)) edits
+  pub forms : HaveCurrentForms (cached_nodes_of transaction)
+  pub can : AreDoable (tree_without_data (cached_nodes_of transaction)) edits
+  pub few : StayFew (tree_without_data (cached_nodes_of transaction)) edits
 
 -- such edits are performed
 pub record DoesAll (word : Type 0) (base : Image) (size : ℕ) (old new : Transaction)
@@ -93,4 +93,4 @@ pub record Overfills (transaction : Transaction) (edits : List Edit) : Type 0 wh
   pub count : ℕ
   pub within : count ≤ length edits
   pub full : FitsOn (length transaction.places) transaction.nodes
-      (edited (take count (edits_of edits)) (tree_without_data (cards_of transaction))) → ⊥
+      (edited (take count (edits_of edits)) (tree_without_data (cached_nodes_of transaction))) → ⊥

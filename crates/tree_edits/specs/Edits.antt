@@ -4,14 +4,14 @@ use Rattle.std.specs.Prelude.{IsTrue, IsFalse}
 use Rattle.std.specs.List.{AllByRecursion}
 use Rattle.tree_edits.specs.Outlines.{without_data}
 use Rattle.inode.specs.Fields.{Fields, IsAce}
-use Rattle.tree_transaction.specs.Nodes.{no_content, shown_of}
+use Rattle.tree_transaction.specs.Nodes.{no_content, metadata_of}
 use Rattle.tree_edits.specs.declared.edit.Edit.{Edit}
 use Rattle.tree_edits.specs.declared.edit.Edit.TheVariants as declared
 use Rattle.model_tree.specs.declared.acl.Ace.{Ace}
 use Rattle.model_tree.specs.declared.node.NodeKind.{NodeKind}
 use Rattle.model_tree.specs.Trees.Charge.{few_names}
 use Rattle.model_tree.specs.Trees.Edit.{PutNode, DropNode, Show, PutName, DropName, PutBytes, SetSize}
-use Rattle.model_tree.specs.Trees.Edit.{Shown, done}
+use Rattle.model_tree.specs.Trees.Edit.{Metadata, done}
 use Rattle.model_tree.specs.Trees.Edit as model
 use Rattle.model_tree.specs.Trees.Keyed.{at, is_key}
 use Rattle.model_tree.specs.Trees.Tree.{Tree, Node, DirEntry, bytes_of, entry_of, names_at, is_directory_at}
@@ -19,34 +19,34 @@ use Rattle.directory.specs.declared.names.TheConstants.Names.{MAX_NAMES}
 
 -- An edit of the code as one of the definition
 
-abbrev pub fresh_node : NodeKind → Shown → Node
-fresh_node of shown = record {
-  owner = shown.owner;
-  group = shown.group;
-  acl = shown.acl;
-  change = shown.change;
-  time_modify = shown.time_modify;
+abbrev pub fresh_node : NodeKind → Metadata → Node
+fresh_node of metadata = record {
+  owner = metadata.owner;
+  group = metadata.group;
+  acl = metadata.acl;
+  change = metadata.change;
+  time_modify = metadata.time_modify;
   content = no_content of;
 }
 
-abbrev pub fresh_fields : NodeKind → (number : ℕ) → Shown → Fields
-fresh_fields kind number shown = record {
+abbrev pub fresh_fields : NodeKind → (number : ℕ) → Metadata → Fields
+fresh_fields kind number metadata = record {
   kind = kind;
   number = number;
-  owner = shown.owner;
-  group = shown.group;
-  change = shown.change;
-  time_modify = shown.time_modify;
+  owner = metadata.owner;
+  group = metadata.group;
+  change = metadata.change;
+  time_modify = metadata.time_modify;
   size = 0;
   runs = 0;
   run_sectors = [];
-  acl = shown.acl;
+  acl = metadata.acl;
 }
 
 abbrev pub edit_of : Edit → model.Edit
-edit_of (declared.PutNode number kind shown) = PutNode number (fresh_node kind (shown_of shown))
+edit_of (declared.PutNode number kind metadata) = PutNode number (fresh_node kind (metadata_of metadata))
 edit_of (declared.DropNode number) = DropNode number
-edit_of (declared.Show number shown) = Show number (shown_of shown)
+edit_of (declared.Show number metadata) = Show number (metadata_of metadata)
 edit_of (declared.PutName directory stamp name number) =
     PutName directory stamp (record { name = name.now; number = number })
 edit_of (declared.DropName directory stamp name) = DropName directory stamp
@@ -69,9 +69,9 @@ pub record IsNewNode (tree : Tree) (number : ℕ) (node : Node) : Type 0 where
   pub fresh : at number tree ≡ None
   pub entries : AreEntries node.acl
 
-pub record IsShown (tree : Tree) (number : ℕ) (shown : Shown) : Type 0 where
+pub record IsMetadata (tree : Tree) (number : ℕ) (metadata : Metadata) : Type 0 where
   pub there : IsTrue (is_key number tree)
-  pub entries : AreEntries shown.acl
+  pub entries : AreEntries metadata.acl
 
 -- a directory has neither the name nor the stamp
 pub record IsNewName (tree : Tree) (directory stamp : ℕ) (entry : DirEntry) : Type 0 where
@@ -102,10 +102,10 @@ pub record IsFileTo (tree : Tree) (file end : ℕ) : Type 0 where
   pub low : end ≤ 16777216
 
 abbrev pub CanDo : Tree → Edit → Type 0
-CanDo tree (declared.PutNode number kind shown) =
-    IsNewNode tree number (fresh_node kind (shown_of shown))
+CanDo tree (declared.PutNode number kind metadata) =
+    IsNewNode tree number (fresh_node kind (metadata_of metadata))
 CanDo tree (declared.DropNode number) = IsTrue (is_key number tree)
-CanDo tree (declared.Show number shown) = IsShown tree number (shown_of shown)
+CanDo tree (declared.Show number metadata) = IsMetadata tree number (metadata_of metadata)
 CanDo tree (declared.PutName directory stamp name number) =
     IsNewName tree directory stamp (record { name = name.now; number = number })
 CanDo tree (declared.DropName directory stamp name) = IsName tree directory stamp name.now

@@ -16,9 +16,9 @@ pub record LacksStamp (tree : Tree) (directory stamp : ℕ) : Type 0 where
 
 -- what an edit requires of the tree before it
 abbrev pub CanMeasure : Tree → Edit → Type 0
-CanMeasure tree (declared.PutNode number kind shown) = Unit {0}
+CanMeasure tree (declared.PutNode number kind metadata) = Unit {0}
 CanMeasure tree (declared.DropNode number) = Unit {0}
-CanMeasure tree (declared.Show number shown) = Unit {0}
+CanMeasure tree (declared.Show number metadata) = Unit {0}
 CanMeasure tree (declared.PutName directory stamp name number) = LacksStamp tree directory stamp
 CanMeasure tree (declared.DropName directory stamp name) = IsName tree directory stamp name.now
 CanMeasure tree (declared.PutBytes file offset bytes) = IsFalse (is_directory_at tree file)

@@ -11,7 +11,7 @@ use Rattle.tree_edits.specs.Edits.{edits_of}
 use Rattle.tree_edits.specs.Outlines.{without_data, tree_without_data}
 use Rattle.tree_edits.specs.Parts.{PartsAreBytes}
 use Rattle.layout.specs.CachedNodes.{CachedNode, tree_of}
-use Rattle.layout.specs.Known.{AreCards}
+use Rattle.layout.specs.Known.{AreCached}
 use Rattle.layout.specs.Marks.{mark_by}
 use Rattle.layout.specs.declared.versions.Marking.{Marking}
 use Rattle.layout.specs.declared.versions.Marking.TheVariants.{InSectors}
@@ -28,7 +28,7 @@ end_by table places = 148 + length table + length places
 -- that the cached nodes name; a bitmap, if there is one, has room for them
 pub record IsWholeVolume (marking : Marking) (size : ℕ) (table : List (Option CachedNode))
     (places : List Bool) : Type 0 where
-  pub cards : AreCards (length table) (mark_by (148 + length table) places) table
+  pub cached_nodes : AreCached (length table) (mark_by (148 + length table) places) table
   pub forms : HaveCurrentForms table
   pub within : end_by table places ≤ size
   pub small : size < 2 ^ 32
@@ -43,13 +43,13 @@ pub record IsVersionOf (marking : Marking) (size : ℕ) (table : List (Option Ca
   pub end_is : version.data_end size ≡ end_by table places
 
 -- the tree after each prefix of the edits has room
-abbrev pub FrontsHaveRoom : (sectors places : ℕ) → Tree → List Edit → Type 0
-FrontsHaveRoom sectors places tree edits = (count : ℕ) → count ≤ length edits
+abbrev pub PrefixesHaveRoom : (sectors places : ℕ) → Tree → List Edit → Type 0
+PrefixesHaveRoom sectors places tree edits = (count : ℕ) → count ≤ length edits
     → FitsOn sectors places (edited (take count (edits_of edits)) tree)
 
 -- what the cached nodes of a table are after an outcome
-abbrev pub cards_after : List (Option CachedNode) → PreparedTransaction → List (Option CachedNode)
-cards_after table outcome = overlaid table outcome.changes
+abbrev pub cached_nodes_after : List (Option CachedNode) → PreparedTransaction → List (Option CachedNode)
+cached_nodes_after table outcome = overlaid table outcome.changes
 
 -- the sectors hold the outcome's cached nodes and marks, and represent the tree with the edits; the
 -- version stays, with its seats
@@ -57,8 +57,8 @@ pub record LaysEditedTree (version : Version) (base : Image) (size : ℕ)
     (table : List (Option CachedNode))
     (edits : List Edit) (outcome : PreparedTransaction) : Type 0 where
   pub laid : IsLaid version size (length table) (applied outcome.updates.items base)
-      (cards_after table outcome)
-  pub tree_is : tree_of (applied outcome.updates.items base) (cards_after table outcome)
+      (cached_nodes_after table outcome)
+  pub tree_is : tree_of (applied outcome.updates.items base) (cached_nodes_after table outcome)
       ≡ edited (edits_of edits) (tree_of base table)
 
 -- The result of edits, for a volume of `size` sectors
@@ -66,15 +66,15 @@ pub record ComesTo (word : Type 0) (marking : Marking) (base : Image) (size : �
     (table : List (Option CachedNode)) (places : List Bool) (edits : List Edit)
     (outcome : PreparedTransaction) : Type 0 where
   -- of its places those are used that its cached nodes name, and it has as many as before
-  pub cards : AreCards (length table) (mark_by (148 + length table) outcome.places)
-      (cards_after table outcome)
+  pub cached_nodes : AreCached (length table) (mark_by (148 + length table) outcome.places)
+      (cached_nodes_after table outcome)
   pub as_many : length outcome.places ≡ length places
   -- on any device the outline is that of the tree with the edits
-  pub outline : tree_without_data (cards_after table outcome)
+  pub outline : tree_without_data (cached_nodes_after table outcome)
       ≡ without_data (edited (edits_of edits) (tree_without_data table))
   -- each cached node keeps its form, and only the edits' numbers are new
-  pub forms : HaveCurrentForms (cards_after table outcome)
-  pub made : AreMade table (cards_after table outcome) (made_by edits)
+  pub forms : HaveCurrentForms (cached_nodes_after table outcome)
+  pub made : AreMade table (cached_nodes_after table outcome) (made_by edits)
   -- the updates are those of a transaction, and few
   pub targets : AreTreeUpdates (end_by table places) outcome.updates.items
   pub count : length outcome.updates.items ≤ updates_of_all edits + bitmap_sectors marking

@@ -24,12 +24,12 @@ without_data (entry ∷ rest) = (entry.0, blank_node entry.1) ∷ without_data r
 
 -- the tree of cached nodes with zeros for the bytes of its files: that of sectors without content
 abbrev pub tree_without_data : List (Option CachedNode) → Tree
-tree_without_data cards = tree_of (λ n. []) cards
+tree_without_data cached_nodes = tree_of (λ n. []) cached_nodes
 
 -- which every tree of these cached nodes is, with zeros for the bytes of its files
 abbrev pub EachOutline : Type 0
-EachOutline = (image : Image) (cards : List (Option CachedNode))
-    → without_data (tree_of image cards) ≡ tree_without_data cards
+EachOutline = (image : Image) (cached_nodes : List (Option CachedNode))
+    → without_data (tree_of image cached_nodes) ≡ tree_without_data cached_nodes
 
 -- trees with zeros are edited alike
 abbrev pub EditsBlanked : Type 0

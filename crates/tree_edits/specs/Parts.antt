@@ -6,9 +6,9 @@ use Rattle.tree_edits.specs.declared.edit.Edit.TheVariants as declared
 
 -- each is below 256
 abbrev pub PutsBytes : Edit → Type 0
-PutsBytes (declared.PutNode number kind shown) = Unit {0}
+PutsBytes (declared.PutNode number kind metadata) = Unit {0}
 PutsBytes (declared.DropNode number) = Unit {0}
-PutsBytes (declared.Show number shown) = Unit {0}
+PutsBytes (declared.Show number metadata) = Unit {0}
 PutsBytes (declared.PutName directory stamp name number) = Unit {0}
 PutsBytes (declared.DropName directory stamp name) = Unit {0}
 PutsBytes (declared.PutBytes file offset bytes) = All (λ byte. byte < 256) bytes.now

@@ -57,9 +57,9 @@ IsBelow most (Some size) = size.count < most
 
 -- the number of the node that an edit changes
 abbrev pub edited_number : Edit → ℕ
-edited_number (declared.PutNode number kind shown) = number
+edited_number (declared.PutNode number kind metadata) = number
 edited_number (declared.DropNode number) = number
-edited_number (declared.Show number shown) = number
+edited_number (declared.Show number metadata) = number
 edited_number (declared.PutName directory stamp name number) = directory
 edited_number (declared.DropName directory stamp name) = directory
 edited_number (declared.PutBytes file offset bytes) = file
@@ -67,9 +67,9 @@ edited_number (declared.SetSize file size) = file
 
 -- what that node has after the edit
 abbrev pub resized_by : Edit → Option Size → Option Size
-resized_by (declared.PutNode number kind shown) size = Some (record { kind = kind; count = 0 })
+resized_by (declared.PutNode number kind metadata) size = Some (record { kind = kind; count = 0 })
 resized_by (declared.DropNode number) size = None
-resized_by (declared.Show number shown) size = size
+resized_by (declared.Show number metadata) size = size
 resized_by (declared.PutName directory stamp name number) None = None
 resized_by (declared.PutName directory stamp name number) (Some size) =
     Some (record { kind = kind.Directory; count = size.count + 1 })

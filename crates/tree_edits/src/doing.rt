@@ -3,18 +3,18 @@
 ghost use Rattle.std.specs.Prelude.{◌≡◌, ◌≤◌, ◌<◌, ◌+◌, [], ◌∷◌, Some, None, All, length, slice_index_or};
 ghost use Rattle.std.specs.Prelude.{IsTrue, IfOk, OnOk, IsErrOf};
 ghost use Rattle.node_table.specs.Tables.{node_number_at};
-ghost use Rattle.tree_transaction.specs.Transactions.{cards_of, end_of, IsKnown};
-ghost use Rattle.tree_transaction.specs.Nodes.{shown_of, new_card, HasNode};
+ghost use Rattle.tree_transaction.specs.Transactions.{cached_nodes_of, end_of, IsKnown};
+ghost use Rattle.tree_transaction.specs.Nodes.{metadata_of, new_cached, HasNode};
 ghost use Rattle.tree_edits.specs.declared.edit.Edit.TheVariants as edit;
 ghost use Rattle.tree_edits.specs.Doing.{DoesEdits, DoesAll, DoesAnywhere, CanDoAll, Overfills};
-ghost use Rattle.tree_edits.specs.Edits.{IsNewNode, IsShown, IsNewName, IsName, IsFileTo};
+ghost use Rattle.tree_edits.specs.Edits.{IsNewNode, IsMetadata, IsNewName, IsName, IsFileTo};
 ghost use Rattle.tree_edits.specs.Edits.{CanDo, edit_of, fresh_node};
 ghost use Rattle.tree_edits.specs.Edits.{fresh_fields};
 ghost use Rattle.tree_edits.specs.Outlines.{tree_without_data};
 ghost use Rattle.tree_edits.specs.Parts.{PutsBytes};
 ghost use Rattle.inode.specs.declared.node.Form.TheVariants.{Two};
 ghost use Rattle.layout.specs.Stands.{HaveCurrentForms};
-ghost use Rattle.layout.specs.CachedNodes.{CachedNode as LaidCard};
+ghost use Rattle.layout.specs.CachedNodes.{CachedNode as LaidCached};
 ghost use Rattle.layout.specs.Health.{FailsOrStays};
 ghost use Rattle.model_tree.specs.Trees.Charge.{few_names};
 ghost use Rattle.model_tree.specs.Trees.Edit.{PutName, done};
@@ -28,38 +28,42 @@ use layout::sectors::Sectors;
 use model_tree::node::NodeKind;
 use node_table::CachedNode;
 use std::alloc::{AllocError, Global};
-use tree_transaction::{Shown, SpaceFault, Transaction, TransactionFault};
+use tree_transaction::{Metadata, SpaceFault, Transaction, TransactionFault};
 
 /// The place of a node.
 fn place_of(transaction: &Transaction<'_>, number: u64) -> u32
-    requires { IsTrue (is_key number (tree_without_data (cards_of transaction.now))) }
-    ensures { node_number_at (cards_of transaction.now) result ≡ Some number }
+    requires { IsTrue (is_key number (tree_without_data (cached_nodes_of transaction.now))) }
+    ensures { node_number_at (cached_nodes_of transaction.now) result ≡ Some number }
 {
-    transaction.cards.find(number).unwrap()
+    transaction.cached_nodes.find(number).unwrap()
 }
 
 fn drop_node(transaction: &mut Transaction<'_>, number: u64) -> Result<(), AllocError>
     requires known { IsKnown transaction.old }
-    requires can { IsTrue (is_key number (tree_without_data (cards_of transaction.old))) }
+    requires can { IsTrue (is_key number (tree_without_data (cached_nodes_of transaction.old))) }
     ensures done { OnOk result
         (DoesAnywhere transaction.old transaction.new (edit.DropNode number)) }
-    ensures table { transaction.new.cards.table ≡ transaction.old.cards.table }
+    ensures table { transaction.new.cached_nodes.table ≡ transaction.old.cached_nodes.table }
 {
     let place = place_of(transaction, number);
     transaction.free(place)
 }
 
-fn show(transaction: &mut Transaction<'_>, number: u64, shown: &Shown) -> Result<(), AllocError>
+fn show(
+    transaction: &mut Transaction<'_>,
+    number: u64,
+    metadata: &Metadata,
+) -> Result<(), AllocError>
     requires known { IsKnown transaction.old }
-    requires forms { HaveCurrentForms (cards_of transaction.old) }
-    requires can { IsShown (tree_without_data (cards_of transaction.old)) number
-        (shown_of shown.now) }
+    requires forms { HaveCurrentForms (cached_nodes_of transaction.old) }
+    requires can { IsMetadata (tree_without_data (cached_nodes_of transaction.old)) number
+        (metadata_of metadata.now) }
     ensures done { OnOk result
-        (DoesAnywhere transaction.old transaction.new (edit.Show number shown.now)) }
-    ensures table { transaction.new.cards.table ≡ transaction.old.cards.table }
+        (DoesAnywhere transaction.old transaction.new (edit.Show number metadata.now)) }
+    ensures table { transaction.new.cached_nodes.table ≡ transaction.old.cached_nodes.table }
 {
     let place = place_of(transaction, number);
-    transaction.show(place, shown)
+    transaction.show(place, metadata)
 }
 
 fn put_name(
@@ -71,18 +75,18 @@ fn put_name(
 ) -> Result<(), SpaceFault>
     // An edit that can be done
     requires known { IsKnown transaction.old }
-    requires can { IsNewName (tree_without_data (cards_of transaction.old)) directory stamp
+    requires can { IsNewName (tree_without_data (cached_nodes_of transaction.old)) directory stamp
         (record { name = name.now; number = number }) }
     requires few { IsTrue (few_names Names.MAX_NAMES (done (PutName directory stamp
         (record { name = name.now; number = number }))
-        (tree_without_data (cards_of transaction.old)))) }
+        (tree_without_data (cached_nodes_of transaction.old)))) }
     // Done, or full
     ensures done { OnOk result (DoesAnywhere transaction.old transaction.new
         (edit.PutName directory stamp name.entry number)) }
     ensures full { IsErrOf result SpaceFault.Full
         → Overfills transaction.old (edit.PutName directory stamp name.entry number ∷ []) }
     // However it ends
-    ensures table { transaction.new.cards.table ≡ transaction.old.cards.table }
+    ensures table { transaction.new.cached_nodes.table ≡ transaction.old.cached_nodes.table }
 {
     let place = place_of(transaction, directory);
     transaction.put_name(place, name, stamp, number)
@@ -95,39 +99,39 @@ fn drop_name(
     name: &[u8],
 ) -> Result<(), AllocError>
     requires known { IsKnown transaction.old }
-    requires can { IsName (tree_without_data (cards_of transaction.old)) directory stamp name.now }
+    requires can { IsName (tree_without_data (cached_nodes_of transaction.old)) directory stamp name.now }
     ensures done { OnOk result (DoesAnywhere transaction.old transaction.new
         (edit.DropName directory stamp name.entry)) }
-    ensures table { transaction.new.cards.table ≡ transaction.old.cards.table }
+    ensures table { transaction.new.cached_nodes.table ≡ transaction.old.cached_nodes.table }
 {
     let place = place_of(transaction, directory);
     transaction.drop_name(place, name)
 }
 
 /// The cached node of a node without bytes or names.
-fn fresh_card(
+fn fresh_cached(
     alloc: Global,
     number: u64,
     kind: NodeKind,
-    shown: &Shown,
+    metadata: &Metadata,
 ) -> Result<CachedNode, AllocError>
-    ensures cached { IfOk result (λ cached. cached ≡ new_card Two cached.fields) }
+    ensures cached { IfOk result (λ cached. cached ≡ new_cached Two cached.fields) }
     ensures fields { IfOk result (λ cached.
-        cached.fields ≡ fresh_fields kind number (shown_of shown.now)) }
+        cached.fields ≡ fresh_fields kind number (metadata_of metadata.now)) }
 {
     Ok(CachedNode {
         form: Form::Two,
         inode: Inode {
             kind,
             number,
-            owner: shown.owner,
-            group: shown.group,
-            change: shown.change,
-            time_modify: shown.time_modify,
+            owner: metadata.owner,
+            group: metadata.group,
+            change: metadata.change,
+            time_modify: metadata.time_modify,
             size: 0,
             runs: 0,
             run_sectors: Vec::new(alloc),
-            acl: shown.acl.try_clone()?,
+            acl: metadata.acl.try_clone()?,
         },
         runs: Runs::new(),
         blocks: BlockList::new(alloc),
@@ -139,33 +143,33 @@ fn put_node(
     transaction: &mut Transaction<'_>,
     number: u64,
     kind: NodeKind,
-    shown: &Shown,
+    metadata: &Metadata,
 ) -> Result<(), SpaceFault>
     requires known { IsKnown transaction.old }
-    requires can { IsNewNode (tree_without_data (cards_of transaction.old)) number
-        (fresh_node kind (shown_of shown.now)) }
+    requires can { IsNewNode (tree_without_data (cached_nodes_of transaction.old)) number
+        (fresh_node kind (metadata_of metadata.now)) }
     ensures done { OnOk result (DoesAnywhere transaction.old transaction.new
-        (edit.PutNode number kind shown.now)) }
+        (edit.PutNode number kind metadata.now)) }
     ensures full { IsErrOf result SpaceFault.Full
-        → Overfills transaction.old (edit.PutNode number kind shown.now ∷ []) }
-    ensures table { transaction.new.cards.table ≡ transaction.old.cards.table }
+        → Overfills transaction.old (edit.PutNode number kind metadata.now ∷ []) }
+    ensures table { transaction.new.cached_nodes.table ≡ transaction.old.cached_nodes.table }
 {
-    let Some(place) = transaction.cards.free_place() else {
+    let Some(place) = transaction.cached_nodes.free_place() else {
         return Err(SpaceFault::Full);
     };
-    let cached = fresh_card(transaction.alloc, number, kind, shown)?;
+    let cached = fresh_cached(transaction.alloc, number, kind, metadata)?;
     transaction.make(place, cached)?;
     Ok(())
 }
 
 /// The size of the file at a place.
 fn size_at(transaction: &Transaction<'_>, place: u32) -> u64
-    requires { HasNode (cards_of transaction.now) place }
-    ensures { (cached : LaidCard) → slice_index_or (cards_of transaction.now) place None
+    requires { HasNode (cached_nodes_of transaction.now) place }
+    ensures { (cached : LaidCached) → slice_index_or (cached_nodes_of transaction.now) place None
         ≡ Some cached
         → result ≡ cached.fields.size }
 {
-    transaction.cards.cached(place).unwrap().inode.size
+    transaction.cached_nodes.cached(place).unwrap().inode.size
 }
 
 fn put_bytes<S: Sectors>(
@@ -177,7 +181,7 @@ fn put_bytes<S: Sectors>(
 ) -> Result<(), TransactionFault>
     // An edit that can be done
     requires known { IsKnown transaction.old × (end_of transaction.old ≤ S.size (S.kept base.old)) }
-    requires can { IsFileTo (tree_without_data (cards_of transaction.old)) file
+    requires can { IsFileTo (tree_without_data (cached_nodes_of transaction.old)) file
         (offset + length bytes.now) }
     // Done, or full
     ensures done { OnOk result (DoesEdits S.keeps_word (S.image (S.kept base.old))
@@ -187,7 +191,7 @@ fn put_bytes<S: Sectors>(
         → Overfills transaction.old (edit.PutBytes file offset bytes.entry ∷ []) }
     // However it ends
     ensures kept { (S.kept base.new ≡ S.kept base.old)
-        × (transaction.new.cards.table ≡ transaction.old.cards.table) }
+        × (transaction.new.cached_nodes.table ≡ transaction.old.cached_nodes.table) }
     ensures health { FailsOrStays (S.health base.old) (S.health base.new)
         (IsErrOf result TransactionFault.Device) }
     ensures bytes { All (λ byte. byte < 256) bytes.entry.now }
@@ -204,14 +208,14 @@ fn set_size<S: Sectors>(
 ) -> Result<(), TransactionFault>
     // An edit that can be done
     requires known { IsKnown transaction.old × (end_of transaction.old ≤ S.size (S.kept base.old)) }
-    requires can { IsFileTo (tree_without_data (cards_of transaction.old)) file size }
+    requires can { IsFileTo (tree_without_data (cached_nodes_of transaction.old)) file size }
     // Done, or full
     ensures done { OnOk result (DoesEdits S.keeps_word (S.image (S.kept base.old))
         (S.size (S.kept base.old)) transaction.old transaction.new (edit.SetSize file size ∷ [])) }
     ensures full { ¬ IsErrOf result TransactionFault.Full }
     // However it ends
     ensures kept { (S.kept base.new ≡ S.kept base.old)
-        × (transaction.new.cards.table ≡ transaction.old.cards.table) }
+        × (transaction.new.cached_nodes.table ≡ transaction.old.cached_nodes.table) }
     ensures health { FailsOrStays (S.health base.old) (S.health base.new)
         (IsErrOf result TransactionFault.Device) }
 {
@@ -231,10 +235,10 @@ fn edit_one<S: Sectors>(
 ) -> Result<(), TransactionFault>
     // An edit that can be done
     requires known { IsKnown transaction.old × (end_of transaction.old ≤ S.size (S.kept base.old)) }
-    requires forms { HaveCurrentForms (cards_of transaction.old) }
-    requires can { CanDo (tree_without_data (cards_of transaction.old)) edit.now }
+    requires forms { HaveCurrentForms (cached_nodes_of transaction.old) }
+    requires can { CanDo (tree_without_data (cached_nodes_of transaction.old)) edit.now }
     requires few { IsTrue (few_names Names.MAX_NAMES
-        (done (edit_of edit.now) (tree_without_data (cards_of transaction.old)))) }
+        (done (edit_of edit.now) (tree_without_data (cached_nodes_of transaction.old)))) }
     // Done, or full
     ensures done { OnOk result (DoesEdits S.keeps_word (S.image (S.kept base.old))
         (S.size (S.kept base.old)) transaction.old transaction.new (edit.now ∷ [])) }
@@ -242,7 +246,7 @@ fn edit_one<S: Sectors>(
         → Overfills transaction.old (edit.now ∷ []) }
     // However it ends
     ensures kept { (S.kept base.new ≡ S.kept base.old)
-        × (transaction.new.cards.table ≡ transaction.old.cards.table) }
+        × (transaction.new.cached_nodes.table ≡ transaction.old.cached_nodes.table) }
     ensures health { FailsOrStays (S.health base.old) (S.health base.new)
         (IsErrOf result TransactionFault.Device) }
     ensures parts { OnOk result (PutsBytes edit.now) }
@@ -251,10 +255,10 @@ fn edit_one<S: Sectors>(
         Edit::PutNode {
             number,
             kind,
-            shown,
-        } => put_node(transaction, *number, *kind, shown)?,
+            metadata,
+        } => put_node(transaction, *number, *kind, metadata)?,
         Edit::DropNode { number } => drop_node(transaction, *number)?,
-        Edit::Show { number, shown } => show(transaction, *number, shown)?,
+        Edit::Show { number, metadata } => show(transaction, *number, metadata)?,
         Edit::PutName {
             directory,
             stamp,
@@ -297,7 +301,7 @@ pub(crate) fn edit_all<S: Sectors>(
         → Overfills transaction.old edits.now }
     // However it ends
     ensures kept { (S.kept base.new ≡ S.kept base.old)
-        × (transaction.new.cards.table ≡ transaction.old.cards.table) }
+        × (transaction.new.cached_nodes.table ≡ transaction.old.cached_nodes.table) }
     ensures health { FailsOrStays (S.health base.old) (S.health base.new)
         (IsErrOf result TransactionFault.Device) }
 {

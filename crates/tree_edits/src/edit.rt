@@ -1,7 +1,7 @@
 //! What an edit is.
 
 use model_tree::node::NodeKind;
-use tree_transaction::Shown;
+use tree_transaction::Metadata;
 
 /// One change of the tree's maps. Every change of a tree is a list of them, removals before
 /// insertions.
@@ -11,7 +11,7 @@ pub enum Edit<'a> {
     PutNode {
         number: u64,
         kind: NodeKind,
-        shown: Shown,
+        metadata: Metadata,
     },
     /// A node is removed, with its bytes or names.
     DropNode {
@@ -20,7 +20,7 @@ pub enum Edit<'a> {
     /// The metadata of a node becomes this.
     Show {
         number: u64,
-        shown: Shown,
+        metadata: Metadata,
     },
     /// A name in a directory, under its own entry stamp.
     PutName {

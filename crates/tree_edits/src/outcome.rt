@@ -2,7 +2,7 @@
 
 ghost use Rattle.std.specs.Prelude.{◌≡◌, length, IfOk, IsErrOf};
 ghost use Rattle.tree_edits.specs.Edits.{AreDoable, StayFew};
-ghost use Rattle.tree_edits.specs.Outcomes.{ComesTo, FrontsHaveRoom, IsWholeVolume};
+ghost use Rattle.tree_edits.specs.Outcomes.{ComesTo, PrefixesHaveRoom, IsWholeVolume};
 ghost use Rattle.tree_edits.specs.Outlines.{tree_without_data};
 ghost use Rattle.layout.specs.Health.{FailsOrStays};
 
@@ -35,7 +35,7 @@ pub fn outcome_of<S: Sectors>(
     requires whole { IsWholeVolume marking (S.size (S.kept base.old)) table.now places.now }
     requires can { AreDoable (tree_without_data table.now) edits.now }
     requires few { StayFew (tree_without_data table.now) edits.now }
-    requires room { FrontsHaveRoom (length places.now) (length table.now)
+    requires room { PrefixesHaveRoom (length places.now) (length table.now)
         (tree_without_data table.now) edits.now }
     ensures done { IfOk result (λ outcome. ComesTo S.keeps_word marking
         (S.image (S.kept base.old)) (S.size (S.kept base.old)) table.now places.now edits.now

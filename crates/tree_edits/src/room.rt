@@ -6,7 +6,7 @@ ghost use Rattle.tree_edits.specs.Measures.{AreMeasurable};
 ghost use Rattle.tree_edits.specs.Outlines.{tree_without_data};
 ghost use Rattle.tree_edits.specs.Sizes.{size_at, charge_of_size, nodes_in, names_in, IsBelow};
 ghost use Rattle.tree_edits.specs.Sizes.{edited_number, resized_by};
-ghost use Rattle.layout.specs.Known.{AreCards};
+ghost use Rattle.layout.specs.Known.{AreCached};
 ghost use Rattle.model_tree.specs.Trees.Charge.{charge, few_names, fits};
 ghost use Rattle.model_tree.specs.Trees.Edit.{edited};
 ghost use Rattle.model_tree.specs.Trees.Keyed.{total};
@@ -37,7 +37,7 @@ struct Taken {
 
 /// The size of a node of the table.
 fn size_in(table: &Table, number: u64) -> Option<Size>
-    requires { (nodes : ℕ) × (mark : ℕ → ℕ) × AreCards nodes mark table.now }
+    requires { (nodes : ℕ) × (mark : ℕ → ℕ) × AreCached nodes mark table.now }
     ensures size { result ≡ size_at (tree_without_data table.now) number }
     ensures small { IsBelow (2 ^ 65) result }
 {
@@ -113,7 +113,7 @@ fn resized(size: Option<Size>, edit: &Edit<'_>) -> Option<Size>
 
 /// The size of a node in the tree after edits. This applies each edit that changes it.
 fn size_after(table: &Table, edits: &[Edit<'_>], number: u64) -> Option<Size>
-    requires cards { (nodes : ℕ) × (mark : ℕ → ℕ) × AreCards nodes mark table.now }
+    requires cached_nodes { (nodes : ℕ) × (mark : ℕ → ℕ) × AreCached nodes mark table.now }
     requires can { AreMeasurable (tree_without_data table.now) edits.now }
     ensures size { result
         ≡ size_at (edited (edits_of edits.now) (tree_without_data table.now)) number }
@@ -170,7 +170,7 @@ fn names_in(size: Option<Size>) -> u128
 
 /// What the nodes of the tree after edits take: each edit changes the share of one of them.
 fn taken_after(table: &Table, edits: &[Edit<'_>]) -> Taken
-    requires cards { (nodes : ℕ) × (mark : ℕ → ℕ) × AreCards nodes mark table.now }
+    requires cached_nodes { (nodes : ℕ) × (mark : ℕ → ℕ) × AreCached nodes mark table.now }
     requires can { AreMeasurable (tree_without_data table.now) edits.now }
     ensures charge { result.charge
         ≡ total charge (edited (edits_of edits.now) (tree_without_data table.now)) }
@@ -191,7 +191,7 @@ fn taken_after(table: &Table, edits: &[Edit<'_>]) -> Taken
 /// Whether no directory has more than `most` names after edits. Those that no edit changes have at
 /// most `Names::MAX_NAMES`.
 fn have_few_names(table: &Table, edits: &[Edit<'_>], most: usize) -> bool
-    requires cards { (nodes : ℕ) × (mark : ℕ → ℕ) × AreCards nodes mark table.now }
+    requires cached_nodes { (nodes : ℕ) × (mark : ℕ → ℕ) × AreCached nodes mark table.now }
     requires can { AreMeasurable (tree_without_data table.now) edits.now }
     requires most { Names.MAX_NAMES ≤ most }
     ensures { result
@@ -211,7 +211,7 @@ fn have_few_names(table: &Table, edits: &[Edit<'_>], most: usize) -> bool
 /// 0. This needs no memory, and a number of steps that is quadratic in the number of edits, of
 /// which there are few, with two searches by number for each of them.
 pub fn fits(table: &Table, limits: &Limits, edits: &[Edit<'_>]) -> bool
-    requires cards { (nodes : ℕ) × (mark : ℕ → ℕ) × AreCards nodes mark table.now }
+    requires cached_nodes { (nodes : ℕ) × (mark : ℕ → ℕ) × AreCached nodes mark table.now }
     requires can { AreMeasurable (tree_without_data table.now) edits.now }
     requires names { Names.MAX_NAMES ≤ limits.now.names }
     ensures { result ≡ fits limits.now (edited (edits_of edits.now) (tree_without_data table.now)) }

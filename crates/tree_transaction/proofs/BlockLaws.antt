@@ -12,7 +12,7 @@ use Rattle.extents.specs.Runs.{with_holes}
 use Rattle.layout.specs.CachedNodes.{content_at, byte_at}
 use Rattle.layout.specs.Files.{over}
 use Rattle.layout.specs.Marks.{once_if, times_set, mark_by}
-use Rattle.layout.proofs.FileLaws.{holes-at, over-front, over-part, over-past, over-same, filling, writing, writing_on}
+use Rattle.layout.proofs.FileLaws.{holes-at, over-prefix, over-part, over-past, over-same, filling, writing, writing_on}
 use Rattle.layout.proofs.Frame.{times_set-at, content-kept}
 use Rattle.layout.proofs.MarkProofs.{each_mark}
 use Rattle.layout.proofs.StepLaws.{each_own, others_hold, each_change}
@@ -31,15 +31,15 @@ module _ (old new : Image) (sector : ℕ) (content : List ℕ) (is : IsSectorPut
 
 pub bytes_none : (image : Image) (blocks : List (Option ℕ)) (offset : ℕ) → WritesBytes image image blocks blocks offset []
 bytes_none image blocks offset k = elim (cases_lt k offset) [
-  | inl low ↦ sym (over-front (byte_at image blocks) offset [] k low)
+  | inl low ↦ sym (over-prefix (byte_at image blocks) offset [] k low)
   | inr high ↦ sym (over-past (byte_at image blocks) offset [] k (omega arith))
 ]
 
-pub bytes_on : (old mid new : Image) (was between is : List (Option ℕ)) (offset at : ℕ) (front part : List ℕ) → at ≡ offset + length front → WritesBytes old mid was between offset front → WritesBytes mid new between is at part
-    → WritesBytes old new was is offset (front ++ part)
-bytes_on old mid new was between is offset at front part at_is first second k =
-    second k ∙ over-same (byte_at mid between) (over (byte_at old was) offset front) at part k (first k)
-    ∙ ap (λ (o : ℕ). over (over (byte_at old was) offset front) o part k) at_is ∙ writing_on (byte_at old was) offset front part k
+pub bytes_on : (old mid new : Image) (was between is : List (Option ℕ)) (offset at : ℕ) (prefix part : List ℕ) → at ≡ offset + length prefix → WritesBytes old mid was between offset prefix → WritesBytes mid new between is at part
+    → WritesBytes old new was is offset (prefix ++ part)
+bytes_on old mid new was between is offset at prefix part at_is first second k =
+    second k ∙ over-same (byte_at mid between) (over (byte_at old was) offset prefix) at part k (first k)
+    ∙ ap (λ (o : ℕ). over (over (byte_at old was) offset prefix) o part k) at_is ∙ writing_on (byte_at old was) offset prefix part k
 
 pub gets_none : (first : ℕ) (places : List Bool) (blocks : List (Option ℕ)) → GetSectors first places places blocks blocks
 gets_none first places blocks = record { marks = λ n. refl; len = refl; free = refl; more = λ n. omega arith }
@@ -97,7 +97,7 @@ length-zero = length-replicate {A = ℕ} 4096 0
 -- what is under a part does not matter
 over_all : (f g : ℕ → ℕ) (offset : ℕ) (part : List ℕ) (k : ℕ) → ((k < offset) ⊎ (offset + length part ≤ k) → f k ≡ g k) → over f offset part k ≡ over g offset part k
 over_all f g offset part k same = elim (cases_lt k offset) [
-  | inl low ↦ over-front f offset part k low ∙ same (inl low) ∙ sym (over-front g offset part k low)
+  | inl low ↦ over-prefix f offset part k low ∙ same (inl low) ∙ sym (over-prefix g offset part k low)
   | inr high ↦ elim (cases_lt k (offset + length part)) [
     | inl within ↦ over-part f offset part k high within ∙ sym (over-part g offset part k high within)
     | inr past ↦ over-past f offset part k past ∙ same (inr past) ∙ sym (over-past g offset part k past)

@@ -10,7 +10,7 @@ use Rattle.freemap.specs.Kept.{free_places}
 use Rattle.freemap.specs.Places.{bit_from}
 use Rattle.freemap.proofs.Bits.{free_from}
 use Rattle.layout.specs.CachedNodes.{CachedNode}
-use Rattle.layout.specs.Known.{IsCard}
+use Rattle.layout.specs.Known.{IsCached}
 use Rattle.layout.specs.Marks.{once_if, times, times_set, named, namings_of, mark_by}
 use Rattle.layout.specs.SumLaws.{sum_over}
 use Rattle.layout.proofs.ChargeLaws.{sum_to, sum_to-zero, sum_to-plus, sum_once, sum_times, few_runs}
@@ -71,27 +71,27 @@ set_holes blocks count = set-append blocks (count - length blocks)
 
 -- what a cached node names
 abbrev pub named_count : CachedNode → ℕ
-named_count card = length card.fields.run_sectors + set_blocks card.blocks
+named_count cached = length cached.fields.run_sectors + set_blocks cached.blocks
 
 sum_sets : (a n : ℕ) (blocks : List (Option ℕ)) → sum_to (λ i. times_set (a + i) blocks) n ≤ set_blocks blocks
 sum_sets a n [] = omega (arith, sum_to-zero (λ i. 0) n (λ i. refl))
 sum_sets a n (None ∷ blocks) = omega (arith, set-cons None blocks, sum_sets a n blocks)
 sum_sets a n (Some s ∷ blocks) = omega (arith, set-cons (Some s) blocks, sum_to-plus (λ i. once_if (eqb (a + i) s)) (λ i. times_set (a + i) blocks) n, (sum_once a s n).0, sum_sets a n blocks)
 
-sum_card : (a n : ℕ) (card : CachedNode)
-    → sum_to (λ i. namings_of (a + i) (Some card)) n ≤ named_count card
+sum_cached : (a n : ℕ) (cached : CachedNode)
+    → sum_to (λ i. namings_of (a + i) (Some cached)) n ≤ named_count cached
 unfolding namings_of
-sum_card a n card =
-    omega (arith, sum_to-plus (λ i. times (a + i) card.fields.run_sectors) (λ i. times_set (a + i) card.blocks) n, sum_times a n card.fields.run_sectors, sum_sets a n card.blocks)
+sum_cached a n cached =
+    omega (arith, sum_to-plus (λ i. times (a + i) cached.fields.run_sectors) (λ i. times_set (a + i) cached.blocks) n, sum_times a n cached.fields.run_sectors, sum_sets a n cached.blocks)
 
 sum_none : (a n : ℕ) → sum_to (λ i. namings_of (a + i) None) n ≡ 0
 unfolding namings_of
 sum_none a n = sum_to-zero (λ i. 0) n (λ i. refl)
 
-sum_cards : (a n : ℕ) (cards : List (Option CachedNode)) → sum_to (λ i. named (a + i) cards) n ≤ sum_over named_count cards
-sum_cards a n [] = omega (arith, sum_to-zero (λ i. 0) n (λ i. refl))
-sum_cards a n (None ∷ cards) = omega (arith, sum_to-plus (λ i. namings_of (a + i) None) (λ i. named (a + i) cards) n, sum_none a n, sum_cards a n cards)
-sum_cards a n (Some card ∷ cards) = omega (arith, sum_to-plus (λ i. namings_of (a + i) (Some card)) (λ i. named (a + i) cards) n, sum_card a n card, sum_cards a n cards)
+sum_cached_nodes : (a n : ℕ) (cached_nodes : List (Option CachedNode)) → sum_to (λ i. named (a + i) cached_nodes) n ≤ sum_over named_count cached_nodes
+sum_cached_nodes a n [] = omega (arith, sum_to-zero (λ i. 0) n (λ i. refl))
+sum_cached_nodes a n (None ∷ cached_nodes) = omega (arith, sum_to-plus (λ i. namings_of (a + i) None) (λ i. named (a + i) cached_nodes) n, sum_none a n, sum_cached_nodes a n cached_nodes)
+sum_cached_nodes a n (Some cached ∷ cached_nodes) = omega (arith, sum_to-plus (λ i. namings_of (a + i) (Some cached)) (λ i. named (a + i) cached_nodes) n, sum_cached a n cached, sum_cached_nodes a n cached_nodes)
 
 sum_to-le : (f g : ℕ → ℕ) (n : ℕ) → ((i : ℕ) → f i ≤ g i) → sum_to f n ≤ sum_to g n
 sum_to-le f g zero le = omega arith
@@ -112,46 +112,46 @@ mark-here first places i =
     let at : first + i - first ≡ i = omega arith in
     mark-back first places (first + i) (omega arith) ∙ ap (λ (k : ℕ). bit_from (get_or places k false)) at
 
-pub region_named : (first : ℕ) (places : List Bool) (cards : List (Option CachedNode)) → ((n : ℕ) → mark_by first places n ≤ named n cards) → length places ≤ free_places places + sum_over named_count cards
-region_named first places cards marks =
-    let below = sum_to-le (λ i. bit_from (get_or places i false)) (λ i. named (first + i) cards) (length places) (λ i. omega (arith, mark-here first places i, marks (first + i))) in
-    omega (arith, used-or-free places, sum_cards first (length places) cards)
+pub region_named : (first : ℕ) (places : List Bool) (cached_nodes : List (Option CachedNode)) → ((n : ℕ) → mark_by first places n ≤ named n cached_nodes) → length places ≤ free_places places + sum_over named_count cached_nodes
+region_named first places cached_nodes marks =
+    let below = sum_to-le (λ i. bit_from (get_or places i false)) (λ i. named (first + i) cached_nodes) (length places) (λ i. omega (arith, mark-here first places i, marks (first + i))) in
+    omega (arith, used-or-free places, sum_cached_nodes first (length places) cached_nodes)
 
 -- ---- what cached nodes are charged
 
-pub sum_over-set : (worth : CachedNode → ℕ) (cards : List (Option CachedNode)) (place : ℕ) (was is : CachedNode) → get_or cards place None ≡ Some was → sum_over worth (set cards place (Some is)) + worth was ≡ sum_over worth cards + worth is
+pub sum_over-set : (worth : CachedNode → ℕ) (cached_nodes : List (Option CachedNode)) (place : ℕ) (was is : CachedNode) → get_or cached_nodes place None ≡ Some was → sum_over worth (set cached_nodes place (Some is)) + worth was ≡ sum_over worth cached_nodes + worth is
 sum_over-set worth [] place was is there = absurd (cc)
-sum_over-set worth (None ∷ cards) zero was is there = absurd (cc)
-sum_over-set worth (Some card ∷ cards) zero was is there = let same : card ≡ was = cc in let e = ap worth same in omega arith
-sum_over-set worth (None ∷ cards) (suc place) was is there = sum_over-set worth cards place was is there
-sum_over-set worth (Some card ∷ cards) (suc place) was is there = let rest = sum_over-set worth cards place was is there in omega arith
+sum_over-set worth (None ∷ cached_nodes) zero was is there = absurd (cc)
+sum_over-set worth (Some cached ∷ cached_nodes) zero was is there = let same : cached ≡ was = cc in let e = ap worth same in omega arith
+sum_over-set worth (None ∷ cached_nodes) (suc place) was is there = sum_over-set worth cached_nodes place was is there
+sum_over-set worth (Some cached ∷ cached_nodes) (suc place) was is there = let rest = sum_over-set worth cached_nodes place was is there in omega arith
 
-less_all : (less more : CachedNode → ℕ) (cards : List (Option CachedNode)) → ((i : ℕ) (card : CachedNode) → get_or cards i None ≡ Some card → less card ≤ more card) → sum_over less cards ≤ sum_over more cards
+less_all : (less more : CachedNode → ℕ) (cached_nodes : List (Option CachedNode)) → ((i : ℕ) (cached : CachedNode) → get_or cached_nodes i None ≡ Some cached → less cached ≤ more cached) → sum_over less cached_nodes ≤ sum_over more cached_nodes
 less_all less more [] each = omega arith
-less_all less more (None ∷ cards) each = less_all less more cards (λ i card e. each (suc i) card e)
-less_all less more (Some card ∷ cards) each = let rest = less_all less more cards (λ i card e. each (suc i) card e) in let here = each 0 card refl in omega arith
+less_all less more (None ∷ cached_nodes) each = less_all less more cached_nodes (λ i cached e. each (suc i) cached e)
+less_all less more (Some cached ∷ cached_nodes) each = let rest = less_all less more cached_nodes (λ i cached e. each (suc i) cached e) in let here = each 0 cached refl in omega arith
 
-pub less_others : (less more : CachedNode → ℕ) (cards : List (Option CachedNode)) (place : ℕ) (was : CachedNode) → ((i : ℕ) (card : CachedNode) → get_or cards i None ≡ Some card → less card ≤ more card) → get_or cards place None ≡ Some was
-    → sum_over less cards + more was ≤ sum_over more cards + less was
+pub less_others : (less more : CachedNode → ℕ) (cached_nodes : List (Option CachedNode)) (place : ℕ) (was : CachedNode) → ((i : ℕ) (cached : CachedNode) → get_or cached_nodes i None ≡ Some cached → less cached ≤ more cached) → get_or cached_nodes place None ≡ Some was
+    → sum_over less cached_nodes + more was ≤ sum_over more cached_nodes + less was
 less_others less more [] place was each there = absurd (cc)
-less_others less more (None ∷ cards) zero was each there = absurd (cc)
-less_others less more (Some card ∷ cards) zero was each there =
-    let same : card ≡ was = cc in
+less_others less more (None ∷ cached_nodes) zero was each there = absurd (cc)
+less_others less more (Some cached ∷ cached_nodes) zero was each there =
+    let same : cached ≡ was = cc in
     let e = ap less same in
     let f = ap more same in
-    let rest = less_all less more cards (λ i card e. each (suc i) card e) in
+    let rest = less_all less more cached_nodes (λ i cached e. each (suc i) cached e) in
     omega arith
-less_others less more (None ∷ cards) (suc place) was each there = less_others less more cards place was (λ i card e. each (suc i) card e) there
-less_others less more (Some card ∷ cards) (suc place) was each there =
-    let rest = less_others less more cards place was (λ i card e. each (suc i) card e) there in
-    let here = each 0 card refl in
+less_others less more (None ∷ cached_nodes) (suc place) was each there = less_others less more cached_nodes place was (λ i cached e. each (suc i) cached e) there
+less_others less more (Some cached ∷ cached_nodes) (suc place) was each there =
+    let rest = less_others less more cached_nodes place was (λ i cached e. each (suc i) cached e) there in
+    let here = each 0 cached refl in
     omega arith
 
-pub few_numbers : (card : CachedNode) → IsCard card → length card.fields.run_sectors ≤ sectors_for (length card.blocks)
-few_numbers card is =
+pub few_numbers : (cached : CachedNode) → IsCached cached → length cached.fields.run_sectors ≤ sectors_for (length cached.blocks)
+few_numbers cached is =
     let fits = is.fits in
     let runs = is.runs in
-    omega (arith, fits.run_sectors, is.run_count, few_runs 0 (length card.blocks) card.runs runs.rising (omega arith))
+    omega (arith, fits.run_sectors, is.run_count, few_runs 0 (length cached.blocks) cached.runs runs.rising (omega arith))
 
-pub named_charged : (card : CachedNode) → IsCard card → named_count card ≤ charge_of card
-named_charged card is = omega (arith, few_numbers card is, set_most card.blocks)
+pub named_charged : (cached : CachedNode) → IsCached cached → named_count cached ≤ charge_of cached
+named_charged cached is = omega (arith, few_numbers cached is, set_most cached.blocks)

@@ -7,7 +7,7 @@ use Rattle.disk.specs.declared.update.Update.{Update}
 use Rattle.directory.specs.declared.names.TheConstants.Names.{MAX_NAMES}
 use Rattle.directory.specs.Listing.{by_stamp}
 use Rattle.directory.specs.Records.{Record, record_from, IsDirectory, NamesStamped, without_place, place_of}
-use Rattle.directory.specs.Spelling.{directory_sector}
+use Rattle.directory.specs.Encoding.{directory_sector}
 use Rattle.model_tree.specs.declared.node.NodeKind.{NodeKind}
 use Rattle.model_tree.specs.declared.node.NodeKind.TheVariants as kind
 use Rattle.model_tree.specs.Trees.Charge.{blocks_of}
@@ -25,15 +25,15 @@ use Rattle.layout.proofs.NodeEditLaws.{drop_one_name}
 use Rattle.layout.proofs.StepLaws.{each_own, each_change}
 use Rattle.tree_transaction.specs.Blocks.{set_blocks}
 use Rattle.tree_transaction.specs.declared.transaction.Transaction.{Transaction}
-use Rattle.tree_transaction.specs.Transactions.{cards_of, image_of, IsKnown, StaysKnown, MakesOver, StandsAgain}
+use Rattle.tree_transaction.specs.Transactions.{cached_nodes_of, image_of, IsKnown, StaysKnown, MakesOver, StandsAgain}
 use Rattle.tree_transaction.specs.Transactions.{MakesEdit}
 use Rattle.tree_transaction.specs.Transactions.{HasNow}
 use Rattle.tree_transaction.specs.Laying.{CanBeLaid, HasEnough, IsRerun, sectors_for}
 use Rattle.tree_transaction.specs.Naming.{HasNameAt, DropsNamed, Rewrites, renamed, without_name}
 use Rattle.tree_transaction.specs.Written.{HasItsRuns}
 use Rattle.tree_transaction.proofs.BackLaws.{IsMoved, makes, steps}
-use Rattle.tree_transaction.proofs.KnownLaws.{same_card, held_at}
-use Rattle.tree_transaction.proofs.NameLaws.{named_card, directory_is, names_here, blocks_here, named_here, can_lay_names, few_runs, same_runs, named_stays, named_now, directories, still}
+use Rattle.tree_transaction.proofs.KnownLaws.{same_cached, held_at}
+use Rattle.tree_transaction.proofs.NameLaws.{named_cached, directory_is, names_here, blocks_here, named_here, can_lay_names, few_runs, same_runs, named_stays, named_now, directories, still}
 use Rattle.tree_transaction.proofs.RunLaws.{enough}
 
 -- ---- two blocks of a list are written again
@@ -69,7 +69,7 @@ module _ (old mid new : Image) (blocks : List (Option ℕ)) (one other : ℕ) (c
 
 -- ---- the directory
 
-module _ (old : Transaction) (place : ℕ) (was : CachedNode) (name : List ℕ) (known : IsKnown old) (there : get_or (cards_of old) place None ≡ Some was) (has : HasNameAt (cards_of old) place name) where
+module _ (old : Transaction) (place : ℕ) (was : CachedNode) (name : List ℕ) (known : IsKnown old) (there : get_or (cached_nodes_of old) place None ≡ Some was) (has : HasNameAt (cached_nodes_of old) place name) where
   abbrev first : ℕ
   first = 148 + old.nodes
 
@@ -77,7 +77,7 @@ module _ (old : Transaction) (place : ℕ) (was : CachedNode) (name : List ℕ) 
   at = place_of name was.names
 
   same : has.cached ≡ was
-  same = same_card (cards_of old) place has.cached was has.there there
+  same = same_cached (cached_nodes_of old) place has.cached was has.there there
 
   pub directory : was.fields.kind ≡ kind.Directory
   directory = ap (λ (one : CachedNode). one.fields.kind) (sym same) ∙ has.directory
@@ -111,18 +111,18 @@ module _ (old : Transaction) (place : ℕ) (was : CachedNode) (name : List ℕ) 
     stamped_now = subst NamesStamped (sym are) (stays_stamped was.names at within stamped_was)
 
     -- no block is freed
-    pub drop_runs : length was.blocks ≤ count → IsDirectory names → HasItsRuns place (named_card was blocks names)
+    pub drop_runs : length was.blocks ≤ count → IsDirectory names → HasItsRuns place (named_cached was blocks names)
     drop_runs long are_names = same_runs old place was known there directory blocks names (take_all count was.blocks long) counted are_names stamped_now
 
     pub drop_few : sectors_for (set_blocks blocks) ≤ 1
     drop_few = few_runs blocks (length names) counted (omega (arith, shorter, few_names))
 
     module _ (mid_places : List Bool) (marks : (n : ℕ) → mark_by first mid_places n + times_set n was.blocks ≡ mark_by first old.places n + times_set n blocks) (len : length mid_places ≡ length old.places) where
-      pub drop_can : CanBeLaid old.nodes place mid_places (named_card was blocks names)
+      pub drop_can : CanBeLaid old.nodes place mid_places (named_cached was blocks names)
       drop_can = can_lay_names old place was known there directory mid_places blocks names len (omega (arith, shorter, few_names)) (λ n. omega (arith, marks n, named_here old place was known there directory n))
 
-      pub drop_enough : HasEnough (named_card was blocks names)
-      drop_enough = enough was (named_card was blocks names) count (directory_is old place was known there directory) refl refl
+      pub drop_enough : HasEnough (named_cached was blocks names)
+      drop_enough = enough was (named_cached was blocks names) count (directory_is old place was known there directory) refl refl
 
       once : (n : ℕ) → times_set n blocks ≤ 1
       once n =
@@ -133,12 +133,12 @@ module _ (old : Transaction) (place : ℕ) (was : CachedNode) (name : List ℕ) 
       module _ (new : Transaction) (mid_updates next_updates : List Update) (are_names : IsDirectory names)
           (one : (image : Image) → Rewrites (applied old.updates image) (applied mid_updates image) (get_or blocks (at / 15) None) (directory_sector (names_of_block (at / 15) names)))
           (other : (image : Image) → Rewrites (applied mid_updates image) (applied next_updates image) (get_or blocks (length names / 15) None) (directory_sector (names_of_block (length names / 15) names)))
-          (back : StandsAgain old new place (named_card was blocks names) mid_places next_updates) where
+          (back : StandsAgain old new place (named_cached was blocks names) mid_places next_updates) where
         -- no other sector is written
         unnamed : (i n : ℕ) → times_set n blocks ≡ 0 → get_or blocks i None ≢ Some n
         unnamed i n none is = let some = times_set-at blocks i n is in omega arith
 
-        moved : IsMoved old was (named_card was blocks names) mid_places next_updates
+        moved : IsMoved old was (named_cached was blocks names) mid_places next_updates
         moved = record {
           number = refl;
           run_sectors = refl;
@@ -162,7 +162,7 @@ module _ (old : Transaction) (place : ℕ) (was : CachedNode) (name : List ℕ) 
           abbrev is : CachedNode
           is = back.is
 
-          rerun : IsRerun (named_card was blocks names) is
+          rerun : IsRerun (named_cached was blocks names) is
           rerun = back.rerun
 
           abbrev content : ℕ → List ℕ
@@ -178,10 +178,10 @@ module _ (old : Transaction) (place : ℕ) (was : CachedNode) (name : List ℕ) 
           stood i h = get_or-take count was.blocks i None (omega (arith, counted))
 
           some : (i : ℕ) → i < length blocks → get_or blocks i None ≢ None
-          some i h none = no_holes (image_of base old) was.blocks was.names holds.spelled i (omega (arith, length-take count was.blocks)) (sym (stood i h) ∙ none)
+          some i h none = no_holes (image_of base old) was.blocks was.names holds.encoded i (omega (arith, length-take count was.blocks)) (sym (stood i h) ∙ none)
 
-          spelled : (i : ℕ) → content_at now (get_or blocks i None) ≡ content i → content_at (image_of base new) (get_or is.blocks i None) ≡ directory_sector (names_of_block i is.names)
-          spelled i written = unmoved i ∙ written ∙ ap (λ (n : List Record). directory_sector (names_of_block i n)) (sym rerun.names)
+          encoded : (i : ℕ) → content_at now (get_or blocks i None) ≡ content i → content_at (image_of base new) (get_or is.blocks i None) ≡ directory_sector (names_of_block i is.names)
+          encoded i written = unmoved i ∙ written ∙ ap (λ (n : List Record). directory_sector (names_of_block i n)) (sym rerun.names)
 
           long : length is.blocks ≡ length blocks
           long = ap length rerun.blocks
@@ -193,8 +193,8 @@ module _ (old : Transaction) (place : ℕ) (was : CachedNode) (name : List ℕ) 
               unmoved i ∙ block_kept (image_of base old) (applied mid_updates base) now blocks (at / 15) (length names / 15) content once (one base) (other base) i off far
                   ∙ ap (content_at (image_of base old)) (stood i (omega (arith, long))),
             );
-            one_is = λ h. spelled (at / 15) (one_written (image_of base old) (applied mid_updates base) now blocks (at / 15) (length names / 15) content once (one base) (other base) (some (at / 15) (omega (arith, long))));
-            other_is = λ h. spelled (length names / 15)
+            one_is = λ h. encoded (at / 15) (one_written (image_of base old) (applied mid_updates base) now blocks (at / 15) (length names / 15) content once (one base) (other base) (some (at / 15) (omega (arith, long))));
+            other_is = λ h. encoded (length names / 15)
                 (other_written (image_of base old) (applied mid_updates base) now blocks (at / 15) (length names / 15) content once (one base) (other base) (some (length names / 15) (omega (arith, long))));
           }
 
@@ -207,12 +207,12 @@ module _ (old : Transaction) (place : ℕ) (was : CachedNode) (name : List ℕ) 
         pub drop_made : (base : Image) (size stamp : ℕ) → by_stamp names ≡ without (by_stamp was.names) stamp → MakesOver base size old new (DropName was.fields.number stamp)
         drop_made base size stamp map_is transaction =
             let is : CachedNode = back.is in
-            let rerun : IsRerun (named_card was blocks names) is = back.rerun in
-            let held = held_at old.nodes (image_of base old) (mark_by first old.places) (cards_of old) place was transaction.laid there in
+            let rerun : IsRerun (named_cached was blocks names) is = back.rerun in
+            let held = held_at old.nodes (image_of base old) (mark_by first old.places) (cached_nodes_of old) place was transaction.laid there in
             let holds : HoldsNames (image_of base old) was = subst (λ (k : NodeKind). HoldsContent (image_of base old) k was) directory held.content in
-            makes old new place was (named_card was blocks names) mid_places next_updates known there moved back base size (DropName was.fields.number stamp) transaction
-            (drop_one_name old.nodes (image_of base old) (image_of base new) (mark_by first old.places) (mark_by first new.places) (cards_of old) place was is at stamp
-            (steps old new place was (named_card was blocks names) mid_places next_updates known there moved back base transaction.laid)
+            makes old new place was (named_cached was blocks names) mid_places next_updates known there moved back base size (DropName was.fields.number stamp) transaction
+            (drop_one_name old.nodes (image_of base old) (image_of base new) (mark_by first old.places) (mark_by first new.places) (cached_nodes_of old) place was is at stamp
+            (steps old new place was (named_cached was blocks names) mid_places next_updates known there moved back base transaction.laid)
             (record {
               directories = directories old place was known there directory new blocks names mid_places next_updates are_names stamped_now moved back base holds;
               within = within;
@@ -222,8 +222,8 @@ module _ (old : Transaction) (place : ℕ) (was : CachedNode) (name : List ℕ) 
             }))
 
 -- the clause of the cached node at the place
-pub dropped : (old new : Transaction) (place : ℕ) (was : CachedNode) (name : List ℕ) → get_or (cards_of old) place None ≡ Some was
+pub dropped : (old new : Transaction) (place : ℕ) (was : CachedNode) (name : List ℕ) → get_or (cached_nodes_of old) place None ≡ Some was
     → ((entry : Record) → entry_of name was.names ≡ Some entry → MakesEdit old new (DropName was.fields.number entry.0)) → DropsNamed old new place name
-dropped old new place was name there makes card entry asked found =
-    let same : was ≡ card = same_card (cards_of old) place was card there asked in
+dropped old new place was name there makes cached_node entry asked found =
+    let same : was ≡ cached_node = same_cached (cached_nodes_of old) place was cached_node there asked in
     subst (λ (one : CachedNode). MakesEdit old new (DropName one.fields.number entry.0)) same (makes entry (ap (λ (one : CachedNode). entry_of name one.names) same ∙ found))

@@ -4,16 +4,16 @@ use Rattle.std.proofs.lemmas.Option.{none-some}
 use Rattle.disk.specs.Moments.{Image, applied}
 use Rattle.model_tree.specs.Trees.Edit.{DropNode}
 use Rattle.layout.specs.CachedNodes.{CachedNode}
-use Rattle.layout.specs.Known.{AreCards}
+use Rattle.layout.specs.Known.{AreCached}
 use Rattle.layout.specs.Marks.{once_if, times, times_set, namings_of, mark_by}
-use Rattle.layout.proofs.Knowing.{one_card_change}
+use Rattle.layout.proofs.Knowing.{one_cached_change}
 use Rattle.layout.proofs.MarkProofs.{each_mark}
 use Rattle.layout.proofs.NodeEditLaws.{named_by-parts, free_node}
-use Rattle.layout.proofs.NumberLaws.{once-here, times_set-front}
+use Rattle.layout.proofs.NumberLaws.{once-here, times_set-prefix}
 use Rattle.layout.proofs.ChargeLaws.{named-none}
 use Rattle.tree_transaction.specs.Blocks.{IsSectorPut, HaveMarks}
 use Rattle.tree_transaction.specs.declared.transaction.Transaction.{Transaction}
-use Rattle.tree_transaction.specs.Transactions.{cards_of, image_of, IsKnown, StaysKnown, MakesOver}
+use Rattle.tree_transaction.specs.Transactions.{cached_nodes_of, image_of, IsKnown, StaysKnown, MakesOver}
 use Rattle.tree_transaction.proofs.BlockLaws.{here, elsewhere, zeros-are}
 use Rattle.tree_transaction.specs.Laying.{AreMarked}
 use Rattle.tree_transaction.proofs.KnownLaws.{in_table, named_once, stays_put, made}
@@ -51,7 +51,7 @@ pub record GivesBlock (first : ℕ) (was now : List Bool) (blocks : List (Option
 pub gives_block : (first : ℕ) (was now : List Bool) (blocks : List (Option ℕ)) (from i sector : ℕ) → HaveMarks first was blocks → ((n : ℕ) → mark_by first now n + times_set n (take i blocks) ≡ mark_by first was n + times_set n (take from blocks))
     → get_or blocks i None ≡ Some sector → GivesBlock first was now blocks from i sector
 gives_block first was now blocks from i sector marked follow is =
-    let some : 0 < mark_by first now sector = omega (arith, follow sector, marked sector, take-set sector blocks i sector is, times_set-front sector blocks (i + 1), once-here sector) in
+    let some : 0 < mark_by first now sector = omega (arith, follow sector, marked sector, take-set sector blocks i sector is, times_set-prefix sector blocks (i + 1), once-here sector) in
     let each_first = each_mark first now 0 in
     let behind : first ≤ sector = each_first.behind sector some in
     let each = each_mark first now (sector - first) in
@@ -73,31 +73,31 @@ none-named n [] none = refl
 none-named n (s ∷ numbers) none = absurd (omega arith)
 
 -- when its blocks are freed, its run sectors are still marked
-pub numbers_marked : (old : Transaction) (place : ℕ) (was : CachedNode) (left : List Bool) → IsKnown old → get_or (cards_of old) place None ≡ Some was
+pub numbers_marked : (old : Transaction) (place : ℕ) (was : CachedNode) (left : List Bool) → IsKnown old → get_or (cached_nodes_of old) place None ≡ Some was
     → ((n : ℕ) → mark_by (148 + old.nodes) left n + times_set n was.blocks ≡ mark_by (148 + old.nodes) old.places n + times_set n (take 0 was.blocks)) → AreMarked (148 + old.nodes) left was.fields.run_sectors
-numbers_marked old place was left known there marks n = omega (arith, marks n, named_once old.nodes (mark_by (148 + old.nodes) old.places) (cards_of old) place was known.cards there n)
+numbers_marked old place was left known there marks n = omega (arith, marks n, named_once old.nodes (mark_by (148 + old.nodes) old.places) (cached_nodes_of old) place was known.cached_nodes there n)
 
-module _ (old new : Transaction) (place : ℕ) (was : CachedNode) (known : IsKnown old) (there : get_or (cards_of old) place None ≡ Some was) (same : new.nodes ≡ old.nodes) (len : length new.places ≡ length old.places)
-    (marks : (n : ℕ) → mark_by (148 + old.nodes) new.places n + (times n was.fields.run_sectors + times_set n was.blocks) ≡ mark_by (148 + old.nodes) old.places n) (cards : cards_of new ≡ set (cards_of old) place None)
+module _ (old new : Transaction) (place : ℕ) (was : CachedNode) (known : IsKnown old) (there : get_or (cached_nodes_of old) place None ≡ Some was) (same : new.nodes ≡ old.nodes) (len : length new.places ≡ length old.places)
+    (marks : (n : ℕ) → mark_by (148 + old.nodes) new.places n + (times n was.fields.run_sectors + times_set n was.blocks) ≡ mark_by (148 + old.nodes) old.places n) (cached_nodes : cached_nodes_of new ≡ set (cached_nodes_of old) place None)
     (put : (image : Image) → IsSectorPut (applied old.updates image) (applied new.updates image) (148 + place) (replicate 4096 0)) where
   abbrev first : ℕ
   first = 148 + old.nodes
 
   within : place < old.nodes
-  within = in_table old.nodes (mark_by first old.places) (cards_of old) place was known.cards there
+  within = in_table old.nodes (mark_by first old.places) (cached_nodes_of old) place was known.cached_nodes there
 
   pub free_stays : StaysKnown old new
   free_stays =
       let each = each_mark first new.places 0 in
-      let left = one_card_change old.nodes (mark_by first old.places) (mark_by first new.places) (cards_of old) place None within known.cards tt tt
+      let left = one_cached_change old.nodes (mark_by first old.places) (mark_by first new.places) (cached_nodes_of old) place None within known.cached_nodes tt tt
       (record { marks = λ n. omega (arith, marks n, ap (namings_of n) there, named_by-parts n was, named-none n); once = λ n. each.once n; behind = λ n. each.behind n }) in
-      stays_put old new (148 + place) known (subst (λ (l : List (Option CachedNode)). AreCards old.nodes (mark_by first new.places) l) (sym cards) left) same len (omega arith) (omega (arith, within))
+      stays_put old new (148 + place) known (subst (λ (l : List (Option CachedNode)). AreCached old.nodes (mark_by first new.places) l) (sym cached_nodes) left) same len (omega arith) (omega (arith, within))
       (λ image n off. elsewhere (applied old.updates image) (applied new.updates image) (148 + place) (replicate 4096 0) (put image) n off)
 
   pub free_made : (base : Image) (size : ℕ) → MakesOver base size old new (DropNode was.fields.number)
   free_made base size transaction =
       let each = each_mark first new.places 0 in
-      let freed = free_node old.nodes (image_of base old) (image_of base new) (mark_by first old.places) (mark_by first new.places) (cards_of old) place was (record {
+      let freed = free_node old.nodes (image_of base old) (image_of base new) (mark_by first old.places) (mark_by first new.places) (cached_nodes_of old) place was (record {
         within = within;
         there = there;
         laid = transaction.laid;
@@ -109,4 +109,4 @@ module _ (old new : Transaction) (place : ℕ) (was : CachedNode) (known : IsKno
           behind = λ n. each.behind n;
         };
       }) in
-      made base size old new place None (DropNode was.fields.number) transaction same len cards freed.laid freed.tree_is
+      made base size old new place None (DropNode was.fields.number) transaction same len cached_nodes freed.laid freed.tree_is

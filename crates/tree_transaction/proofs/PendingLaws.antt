@@ -107,5 +107,5 @@ pub encoded-at : (us : List Update) (ps : List (Option (List ℕ))) (i : ℕ) (p
     → with_sector (encoded us (take i ps)) i p ≡ encoded us (take (i + 1) ps)
 encoded-at us ps i p e h is =
     let len : length (take i ps) ≡ i = omega (arith, h, length-take i ps) in
-    let front : take (i + 1) ps ≡ take i ps ++ p ∷ [] = take_more ps i p h ∙ ap (λ (q : Option (List ℕ)). take i ps ++ q ∷ []) (sym is) in
-    ap (λ (n : ℕ). with_sector (encoded us (take i ps)) n p) (sym len) ∙ sym (encoded-step us (take i ps) p (omega (arith, e, h, len))) ∙ ap (encoded us) (sym front)
+    let prefix : take (i + 1) ps ≡ take i ps ++ p ∷ [] = take_more ps i p h ∙ ap (λ (q : Option (List ℕ)). take i ps ++ q ∷ []) (sym is) in
+    ap (λ (n : ℕ). with_sector (encoded us (take i ps)) n p) (sym len) ∙ sym (encoded-step us (take i ps) p (omega (arith, e, h, len))) ∙ ap (encoded us) (sym prefix)

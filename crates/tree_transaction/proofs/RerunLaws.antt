@@ -6,7 +6,7 @@ use Rattle.inode.specs.declared.node.Form.{Form}
 use Rattle.inode.specs.Fields.{Fields, IsInode, IsRunSector}
 use Rattle.layout.specs.Marks.{times}
 use Rattle.layout.specs.Marks.{mark_by}
-use Rattle.layout.proofs.MarkProofs.{each_mark, mark-front}
+use Rattle.layout.proofs.MarkProofs.{each_mark, mark-prefix}
 use Rattle.layout.proofs.NumberLaws.{once-here}
 use Rattle.tree_transaction.specs.Laying.{Follow, AreMarked, AreOnce, fields_with}
 use Rattle.tree_transaction.proofs.NumberLaws.{are_once}
@@ -41,4 +41,4 @@ pub marked-once : (first : ℕ) (places : List Bool) (numbers : List ℕ) → Ar
 marked-once first places numbers marked = are_once numbers (λ n. let each = each_mark first places 0 in omega (arith, marked n, each.once n))
 
 pub marked-apart : (first : ℕ) (places : List Bool) (numbers : List ℕ) (sector : ℕ) → AreMarked first places numbers → sector < first → times sector numbers ≡ 0
-marked-apart first places numbers sector marked h = omega (arith, marked sector, mark-front first places sector h)
+marked-apart first places numbers sector marked h = omega (arith, marked sector, mark-prefix first places sector h)

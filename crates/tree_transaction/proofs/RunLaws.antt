@@ -7,7 +7,7 @@ use Rattle.extents.specs.declared.run.Run.{Run}
 use Rattle.extents.specs.Runs.{sector_by, AreRising, RunsApart}
 use Rattle.extents.proofs.RunLemmas.{is_in-yes, is_in-before, is_in-behind}
 use Rattle.layout.specs.CachedNodes.{CachedNode}
-use Rattle.layout.specs.Known.{IsCard}
+use Rattle.layout.specs.Known.{IsCached}
 use Rattle.tree_transaction.specs.Laying.{HasEnough}
 
 -- what runs have before the first, in it, and after it
@@ -115,12 +115,12 @@ fewest (other ∷ others) (run ∷ runs) from limit count rising apart up same =
     ]
 
 -- so a cached node that keeps its first blocks needs no more run sectors than it has
-pub enough : (was card : CachedNode) (count : ℕ) → IsCard was → card.blocks ≡ take count was.blocks → card.fields.run_sectors ≡ was.fields.run_sectors → HasEnough card
-enough was card count known blocks sectors runs are apart =
+pub enough : (was cached : CachedNode) (count : ℕ) → IsCached was → cached.blocks ≡ take count was.blocks → cached.fields.run_sectors ≡ was.fields.run_sectors → HasEnough cached
+enough was cached count known blocks sectors runs are apart =
     let own = known.runs in
     let fits = known.fits in
     let long = ap length blocks in
     let numbers = ap length sectors in
-    let few = fewest was.runs runs 0 (length card.blocks) (length was.blocks) are.rising apart own.rising
+    let few = fewest was.runs runs 0 (length cached.blocks) (length was.blocks) are.rising apart own.rising
     (λ k low high. sym (are.same k) ∙ ap (λ (b : List (Option ℕ)). get_or b k None) blocks ∙ get_or-take count was.blocks k None (omega (arith, long, length-take count was.blocks)) ∙ own.same k) in
     omega (arith, few, numbers, fits.run_sectors, known.run_count)

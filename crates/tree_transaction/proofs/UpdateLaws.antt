@@ -124,8 +124,8 @@ between-still first end old new between same i h =
     not-updated new n (λ image. same image n out ∙ applied-other old image n none) i h refl in
     elim (cases_lt n first) [
       | inl low ↦ absurd (outside (inl low))
-      | inr front ↦ elim (cases_lt n end) [
-        | inl back ↦ (front, back)
+      | inr prefix ↦ elim (cases_lt n end) [
+        | inl back ↦ (prefix, back)
         | inr high ↦ absurd (outside (inr high))
       ]
     ]

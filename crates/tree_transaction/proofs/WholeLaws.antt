@@ -83,17 +83,17 @@ marked_by nodes image places few marks = record {
       rw (there, place) at (marks (148 + nodes + i));
 }
 
-module _ (nodes size : ℕ) (version : Version) (old mid new : Image) (before places : List Bool) (cards : List (Option CachedNode)) (laid : AreLaid nodes old (mark_by (148 + nodes) places) cards)
+module _ (nodes size : ℕ) (version : Version) (old mid new : Image) (before places : List Bool) (cached_nodes : List (Option CachedNode)) (laid : AreLaid nodes old (mark_by (148 + nodes) places) cached_nodes)
     (low : ShowsPart old mid before places 0) (high : ShowsPart mid new before places 1) where
   same : (n : ℕ) → 100 ≤ n → new n ≡ old n
   same n h = high.others n (omega arith) ∙ low.others n (omega arith)
 
-  pub tree_same : tree_of new cards ≡ tree_of old cards
-  tree_same = tree_still nodes old new (mark_by (148 + nodes) places) (mark_by (148 + nodes) places) cards laid (λ n. refl)
+  pub tree_same : tree_of new cached_nodes ≡ tree_of old cached_nodes
+  tree_same = tree_still nodes old new (mark_by (148 + nodes) places) (mark_by (148 + nodes) places) cached_nodes laid (λ n. refl)
       (λ place h. same (node_sector place) (omega arith)) (λ n some. same n (let far = laid.behind n some in omega arith))
 
-  pub marks_written : version.data_end size ≡ 148 + nodes + length places → length places ≤ 65536 → HaveForms version cards → ((n : ℕ) → 100 ≤ n → n < 148 → old n ≡ version.spare n) → IsMarked old before → IsLaid version size nodes new cards
-  marks_written end_is few forms spare marked = lays_marks version size nodes old new places cards (record {
+  pub marks_written : version.data_end size ≡ 148 + nodes + length places → length places ≤ 65536 → HaveForms version cached_nodes → ((n : ℕ) → 100 ≤ n → n < 148 → old n ≡ version.spare n) → IsMarked old before → IsLaid version size nodes new cached_nodes
+  marks_written end_is few forms spare marked = lays_marks version size nodes old new places cached_nodes (record {
     end_is = end_is;
     laid = laid;
     forms = forms;
@@ -103,9 +103,9 @@ module _ (nodes size : ℕ) (version : Version) (old mid new : Image) (before pl
   })
 
 -- where nothing marks them but the nodes, nothing is written
-pub named_laid : (nodes size : ℕ) (version : Version) (image : Image) (places : List Bool) (cards : List (Option CachedNode)) → AreLaid nodes image (mark_by (148 + nodes) places) cards → version.marking ≡ AsNamed → version.data_end size ≡ 148 + nodes + length places → HaveForms version cards
-    → ((n : ℕ) → 100 ≤ n → n < 148 → image n ≡ version.spare n) → IsLaid version size nodes image cards
-named_laid nodes size version image places cards laid named end_is forms spare = lays_marks version size nodes image image places cards (record {
+pub named_laid : (nodes size : ℕ) (version : Version) (image : Image) (places : List Bool) (cached_nodes : List (Option CachedNode)) → AreLaid nodes image (mark_by (148 + nodes) places) cached_nodes → version.marking ≡ AsNamed → version.data_end size ≡ 148 + nodes + length places → HaveForms version cached_nodes
+    → ((n : ℕ) → 100 ≤ n → n < 148 → image n ≡ version.spare n) → IsLaid version size nodes image cached_nodes
+named_laid nodes size version image places cached_nodes laid named end_is forms spare = lays_marks version size nodes image image places cached_nodes (record {
   end_is = end_is;
   laid = laid;
   forms = forms;

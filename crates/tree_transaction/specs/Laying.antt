@@ -5,7 +5,7 @@ use Rattle.std.specs.List.{AllByRecursion}
 use Rattle.disk.specs.Moments.{Image, applied}
 use Rattle.disk.specs.declared.update.Update.{Update}
 use Rattle.inode.specs.Fields.{Fields, IsInode}
-use Rattle.inode.specs.Spelling.{inode_sector}
+use Rattle.inode.specs.Encoding.{inode_sector}
 use Rattle.extents.specs.declared.run.Run.{Run}
 use Rattle.extents.specs.Sector.{run_sector, IsRun}
 use Rattle.extents.specs.Runs.{AreRunsOf, RunsApart}
@@ -21,17 +21,17 @@ AreOnce numbers = (i j : ℕ) → i < j → j < length numbers
     → slice_index_or numbers i 0 ≢ slice_index_or numbers j 0
 
 -- the first run sectors hold their runs, and no other sector has changed
-pub record LaysFront (old new : Image) (numbers : List ℕ) (runs : List Run)
+pub record LaysPrefix (old new : Image) (numbers : List ℕ) (runs : List Run)
     (count : ℕ) : Type 0 where
-  pub spelled : (i : ℕ) → i < count
+  pub encoded : (i : ℕ) → i < count
       → new (slice_index_or numbers i 0) ≡ run_sector (runs_of_sector i runs)
   pub others : (n : ℕ) → times n numbers ≡ 0 → new n ≡ old n
 
 -- a node's sector and its run sectors hold it, and no other sector has changed
-pub record LaysNode (old new : Image) (sector : ℕ) (card : CachedNode) : Type 0 where
-  pub node : new sector ≡ inode_sector card.form card.fields
-  pub run_sectors : AreRunSectors new card.fields.run_sectors card.runs
-  pub others : (n : ℕ) → n ≢ sector → times n card.fields.run_sectors ≡ 0 → new n ≡ old n
+pub record LaysNode (old new : Image) (sector : ℕ) (cached : CachedNode) : Type 0 where
+  pub node : new sector ≡ inode_sector cached.form cached.fields
+  pub run_sectors : AreRunSectors new cached.fields.run_sectors cached.runs
+  pub others : (n : ℕ) → n ≢ sector → times n cached.fields.run_sectors ≡ 0 → new n ≡ old n
 
 -- the marks follow what is named
 abbrev pub Follow : (first : ℕ) → (was is : List Bool) → (named_was named_is : List ℕ) → Type 0
@@ -59,15 +59,15 @@ pub record IsRerun (was is : CachedNode) : Type 0 where
 
 -- a cached node can be laid at a place: its fields, apart from its runs, can be encoded, and its
 -- run sectors are marked
-pub record CanBeLaid (nodes place : ℕ) (places : List Bool) (card : CachedNode) : Type 0 where
+pub record CanBeLaid (nodes place : ℕ) (places : List Bool) (cached : CachedNode) : Type 0 where
   pub room : 148 + nodes + length places < 2 ^ 32
   pub within : place < nodes
-  pub fits : IsInode card.form (fields_with card.fields 0 [])
-  pub marked : AreMarked (148 + nodes) places card.fields.run_sectors
+  pub fits : IsInode cached.form (fields_with cached.fields 0 [])
+  pub marked : AreMarked (148 + nodes) places cached.fields.run_sectors
 
 -- runs of its blocks that can be encoded
-pub record AreRunsFor (list : List Run) (card : CachedNode) : Type 0 where
-  pub runs : AreRunsOf list card.blocks
+pub record AreRunsFor (list : List Run) (cached : CachedNode) : Type 0 where
+  pub runs : AreRunsOf list cached.blocks
   pub each : AllByRecursion IsRun list
   pub few : length list ≤ 4096
 
@@ -77,11 +77,11 @@ sectors_for runs = divided_up runs 500
 
 -- the shortest list of its runs needs no more run sectors than it has
 abbrev pub HasEnough : CachedNode → Type 0
-HasEnough card = (runs : List Run) → AreRunsOf runs card.blocks → RunsApart runs
-    → sectors_for (length runs) ≤ length card.fields.run_sectors
+HasEnough cached = (runs : List Run) → AreRunsOf runs cached.blocks → RunsApart runs
+    → sectors_for (length runs) ≤ length cached.fields.run_sectors
 
 -- a cached node gets runs and is laid at a place, whatever is under the updates
-pub record LaysCard (nodes place : ℕ) (places is_places : List Bool) (old new : List Update)
+pub record LaysCached (nodes place : ℕ) (places is_places : List Bool) (old new : List Update)
     (was is : CachedNode) : Type 0 where
   pub rerun : IsRerun was is
   pub follow : Follow (148 + nodes) places is_places was.fields.run_sectors is.fields.run_sectors

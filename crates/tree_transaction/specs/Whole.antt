@@ -6,7 +6,7 @@ use Rattle.layout.specs.declared.versions.Marking.{Marking}
 use Rattle.layout.specs.declared.versions.Marking.TheVariants.{InSectors, AsNamed}
 use Rattle.layout.specs.Stands.{Version, HaveForms, IsLaid}
 use Rattle.tree_transaction.specs.declared.transaction.Transaction.{Transaction}
-use Rattle.tree_transaction.specs.Transactions.{cards_of, end_of, image_of, changed_tree}
+use Rattle.tree_transaction.specs.Transactions.{cached_nodes_of, end_of, image_of, changed_tree}
 use Rattle.tree_transaction.specs.Transactions.{IsTransaction}
 
 -- the bitmap sectors show these places and nothing past them, however long these sectors are
@@ -37,14 +37,14 @@ pub record IsWhole (version : Version) (base : Image) (size : ℕ) (transaction 
     : Type 0 where
   pub end_is : version.data_end size ≡ end_of transaction
   pub few : version.marking ≡ InSectors → length transaction.places ≤ 65536
-  pub forms : HaveForms version (cards_of transaction)
+  pub forms : HaveForms version (cached_nodes_of transaction)
   pub spare : (n : ℕ) → 100 ≤ n → n < 148 → base n ≡ version.spare n
 
 -- Then, over sectors whose bitmap, if there is one, shows the previous places, the sectors hold its
 -- cached nodes, marks included, and the tree is the same
 pub record LeavesLaid (version : Version) (base : Image) (size : ℕ) (old new : Transaction)
     : Type 0 where
-  pub laid : IsLaid version size old.nodes (image_of base new) (cards_of old)
+  pub laid : IsLaid version size old.nodes (image_of base new) (cached_nodes_of old)
   pub tree_is : changed_tree base new ≡ changed_tree base old
 
 abbrev pub Finishes : Marking → (before : List Bool) → (old new : Transaction) → Type 0

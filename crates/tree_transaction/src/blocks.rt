@@ -8,7 +8,7 @@ ghost use Rattle.freemap.specs.Kept.{free_places};
 ghost use Rattle.tree_transaction.specs.Blocks.{IsSectorPut, TakesSector, HaveRegion, GetSectors, GetsSector, FindsNone, WritesOne, BlocksWithin, ClearsTail, WritesBytes, ChangeBlocks, FillHoles, set_blocks};
 ghost use Rattle.tree_transaction.specs.Naming.{Rewrites};
 ghost use Rattle.tree_transaction.specs.Updates.{ChangeOne};
-ghost use Rattle.directory.specs.Spelling.{directory_sector};
+ghost use Rattle.directory.specs.Encoding.{directory_sector};
 ghost use Rattle.layout.specs.Health.{FailsOrStays};
 ghost use Rattle.layout.specs.Laid.{names_of_block};
 ghost use Rattle.layout.specs.Marks.{times_set};
@@ -249,9 +249,9 @@ pub(crate) fn write_names(
     let filled = blocks.at(block).is_none();
     blocks.grow(block + 1)?;
     let sector = sector_for(places, first, blocks, block)?;
-    let mut spelled = [0; SECTOR];
-    names.to_sector(RECORDS * block as usize, &mut spelled);
-    updates.put(sector, &spelled)?;
+    let mut encoded = [0; SECTOR];
+    names.to_sector(RECORDS * block as usize, &mut encoded);
+    updates.put(sector, &encoded)?;
     Ok(filled)
 }
 
@@ -271,9 +271,9 @@ pub(crate) fn rewrite_names(
     let Some(sector) = blocks.at(block) else {
         return Ok(());
     };
-    let mut spelled = [0; SECTOR];
-    names.to_sector(RECORDS * block as usize, &mut spelled);
-    updates.put(sector, &spelled)?;
+    let mut encoded = [0; SECTOR];
+    names.to_sector(RECORDS * block as usize, &mut encoded);
+    updates.put(sector, &encoded)?;
     Ok(())
 }
 

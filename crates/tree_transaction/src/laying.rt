@@ -6,7 +6,7 @@ ghost use Rattle.freemap.specs.Kept.{free_places};
 ghost use Rattle.inode.specs.Fields.{IsInode};
 ghost use Rattle.layout.specs.Marks.{times};
 ghost use Rattle.tree_transaction.specs.Blocks.{set_blocks};
-ghost use Rattle.tree_transaction.specs.Laying.{AreOnce, LaysFront, LaysNode, LaysCard, CanBeLaid, AreRunsFor, sectors_for};
+ghost use Rattle.tree_transaction.specs.Laying.{AreOnce, LaysPrefix, LaysNode, LaysCached, CanBeLaid, AreRunsFor, sectors_for};
 
 use crate::fault::SpaceFault;
 use crate::numbers::{give_numbers, take_numbers};
@@ -32,7 +32,7 @@ fn lay_runs(updates: &mut Updates, numbers: &[u32], runs: &[Run]) -> Result<(), 
     requires room { length runs.now ≤ MAX_SECTOR_RUNS * length numbers.now }
     requires last { MAX_SECTOR_RUNS * length numbers.now < length runs.now + MAX_SECTOR_RUNS }
     // Written
-    ensures lays { OnOk result ((image : Image) → LaysFront (applied updates.old image)
+    ensures lays { OnOk result ((image : Image) → LaysPrefix (applied updates.old image)
         (applied updates.new image) numbers.now runs.now (length numbers.now)) }
     ensures count { length updates.new ≤ length updates.old + length numbers.now }
 {
@@ -80,7 +80,7 @@ pub(crate) fn store_given_runs(
     requires runs { AreRunsFor runs.items cached.old }
     requires enough { sectors_for (length runs.items) ≤ length cached.old.fields.run_sectors }
     ensures laid { OnOk result
-        (LaysCard nodes place places.old places.new updates.old updates.new cached.old cached.new) }
+        (LaysCached nodes place places.old places.new updates.old updates.new cached.old cached.new) }
     ensures count { length updates.new
         ≤ length updates.old + 1 + sectors_for (length runs.items) }
 {
@@ -104,7 +104,7 @@ pub(crate) fn rerun(
 ) -> Result<(), SpaceFault>
     requires { CanBeLaid nodes place places.old cached.old }
     ensures laid { OnOk result
-        (LaysCard nodes place places.old places.new updates.old updates.new cached.old cached.new) }
+        (LaysCached nodes place places.old places.new updates.old updates.new cached.old cached.new) }
     ensures count { length updates.new
         ≤ length updates.old + 1 + sectors_for (set_blocks cached.old.blocks) }
     ensures full { IsErrOf result SpaceFault.Full

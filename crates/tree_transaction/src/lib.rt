@@ -13,6 +13,6 @@ mod transaction;
 mod updates;
 
 pub use fault::{SpaceFault, TransactionFault};
-pub use nodes::Shown;
+pub use nodes::Metadata;
 pub use transaction::{PreparedTransaction, Transaction};
 pub use updates::Updates;

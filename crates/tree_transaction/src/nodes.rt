@@ -3,7 +3,7 @@
 ghost use Rattle.std.specs.Prelude.{◌≤◌, ◌<◌, ◌+◌, ◌^◌, length, OnOk};
 ghost use Rattle.disk.specs.Moments.{Image, applied};
 ghost use Rattle.inode.specs.Fields.{IsInode};
-ghost use Rattle.inode.specs.Spelling.{inode_sector};
+ghost use Rattle.inode.specs.Encoding.{inode_sector};
 ghost use Rattle.tree_transaction.specs.Blocks.{IsSectorPut};
 ghost use Rattle.tree_transaction.specs.Ranges.{IsInRange};
 
@@ -15,7 +15,7 @@ use std::alloc::AllocError;
 
 /// The metadata of a node.
 #[derive(Drop)]
-pub struct Shown {
+pub struct Metadata {
     pub owner: u32,
     pub group: u32,
     pub acl: Acl,

@@ -2,7 +2,7 @@
 
 ghost use Rattle.std.specs.Prelude.{◌≡◌, IfOk};
 ghost use Rattle.inode.specs.Fields.{IsInode, fields_of};
-ghost use Rattle.inode.specs.Spelling.{inode_sector};
+ghost use Rattle.inode.specs.Encoding.{inode_sector};
 
 use disk::SECTOR;
 use inode::{Form, Inode, to_sector};
@@ -19,7 +19,7 @@ pub struct PendingInode {
 impl Model for PendingInode {
     ghost use Rattle.std.specs.Prelude.{List, ℕ};
     ghost use Rattle.inode.specs.Fields.{IsInode, fields_of};
-    ghost use Rattle.inode.specs.Spelling.{inode_sector};
+    ghost use Rattle.inode.specs.Encoding.{inode_sector};
 
     ghost Value = { List ℕ };
 

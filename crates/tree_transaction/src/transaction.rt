@@ -7,19 +7,19 @@ ghost use Rattle.directory.specs.Records.{record_from};
 ghost use Rattle.disk.specs.Moments.{Image, applied};
 ghost use Rattle.freemap.specs.Kept.{free_places};
 ghost use Rattle.inode.specs.Fields.{IsInode};
-ghost use Rattle.inode.specs.Spelling.{inode_sector};
+ghost use Rattle.inode.specs.Encoding.{inode_sector};
 ghost use Rattle.model_tree.specs.declared.node.NodeKind.TheVariants as kind;
 ghost use Rattle.model_tree.specs.Trees.Charge.{blocks_of};
 ghost use Rattle.model_tree.specs.Trees.Edit.{PutNode, DropNode, Show, PutName, PutBytes, SetSize};
 ghost use Rattle.layout.specs.CachedNodes as layout;
 ghost use Rattle.layout.specs.Health.{FailsOrStays};
 ghost use Rattle.tree_transaction.specs.Blocks.{IsSectorPut, set_blocks};
-ghost use Rattle.tree_transaction.specs.Transactions.{cards_of, end_of, IsKnown, StaysKnown, MakesEdit, Edits, EditsOver, NodeBecomes, IsBack, StandsAgain, IsOvercharged};
+ghost use Rattle.tree_transaction.specs.Transactions.{cached_nodes_of, end_of, IsKnown, StaysKnown, MakesEdit, Edits, EditsOver, NodeBecomes, IsBack, StandsAgain, IsOvercharged};
 ghost use Rattle.tree_transaction.specs.Grown.{grown, reaching, sized, blocks_to, CanWrite};
 ghost use Rattle.tree_transaction.specs.Grown.{CanGrow, CanCut};
 ghost use Rattle.tree_transaction.specs.Laying.{CanBeLaid, HasEnough, sectors_for};
 ghost use Rattle.tree_transaction.specs.Naming.{CanName, HasNameAt, DropsNamed, with_name, without_name, blocks_named};
-ghost use Rattle.tree_transaction.specs.Nodes.{IsNewCard, new_node, shown_of, showing, HasNode};
+ghost use Rattle.tree_transaction.specs.Nodes.{IsNewCached, new_node, metadata_of, showing, HasNode};
 ghost use Rattle.tree_transaction.specs.Nodes.{CanShow};
 ghost use Rattle.tree_transaction.specs.Updates.{AreTreeUpdates};
 ghost use Rattle.tree_transaction.specs.Whole.{Finishes, bitmap_sectors};
@@ -29,7 +29,7 @@ use crate::blocks::{clear_tail, rewrite_names, write_blocks, write_names};
 use crate::fault::{SpaceFault, TransactionFault};
 use crate::laying::{rerun, store_given_runs};
 use crate::marks::put_marks;
-use crate::nodes::{Shown, put_node};
+use crate::nodes::{Metadata, put_node};
 use crate::numbers::{give_blocks, give_numbers};
 use crate::updates::Updates;
 use directory::RECORDS;
@@ -49,7 +49,7 @@ pub struct Transaction<'a> {
     pub nodes: u32,
     pub updates: Updates,
     pub places: SharedBitmap,
-    pub cards: Overlay<'a>,
+    pub cached_nodes: Overlay<'a>,
 }
 
 /// The result of a transaction: what is to be written, and what memory is then to keep of the
@@ -63,42 +63,46 @@ pub struct PreparedTransaction {
 
 /// A cached node that was taken out and whose blocks are written.
 #[derive(Drop)]
-struct WrittenCard {
+struct WrittenCached {
     cached: CachedNode,
     /// Whether holes got sectors.
     filled: bool,
 }
 
 /// Takes the cached node of a place out of the table.
-fn take_card(cards: &mut Overlay<'_>, place: u32) -> Result<CachedNode, AllocError>
-    requires { HasNode cards.old.cards place }
+fn take_cached(cached_nodes: &mut Overlay<'_>, place: u32) -> Result<CachedNode, AllocError>
+    requires { HasNode cached_nodes.old.cached_nodes place }
     ensures cached { IfOk result
-        (λ cached. slice_index_or cards.old.cards place None ≡ Some cached) }
-    ensures cards { OnOk result (cards.new.cards ≡ set cards.old.cards place None) }
-    ensures table { cards.new.table ≡ cards.old.table }
+        (λ cached. slice_index_or cached_nodes.old.cached_nodes place None ≡ Some cached) }
+    ensures cached_nodes { OnOk result (cached_nodes.new.cached_nodes ≡ set cached_nodes.old.cached_nodes place None) }
+    ensures table { cached_nodes.new.table ≡ cached_nodes.old.table }
 {
-    let cached = cards.take(place)?;
+    let cached = cached_nodes.take(place)?;
     Ok(cached.unwrap())
 }
 
 /// Puts a cached node into a place of the table.
-fn put_card(cards: &mut Overlay<'_>, place: u32, cached: CachedNode) -> Result<(), AllocError>
-    requires { place < length cards.old.cards }
-    ensures cards { OnOk result (cards.new.cards ≡ set cards.old.cards place (Some cached)) }
-    ensures table { cards.new.table ≡ cards.old.table }
+fn put_cached(
+    cached_nodes: &mut Overlay<'_>,
+    place: u32,
+    cached: CachedNode,
+) -> Result<(), AllocError>
+    requires { place < length cached_nodes.old.cached_nodes }
+    ensures cached_nodes { OnOk result (cached_nodes.new.cached_nodes ≡ set cached_nodes.old.cached_nodes place (Some cached)) }
+    ensures table { cached_nodes.new.table ≡ cached_nodes.old.table }
 {
-    cards.put(place, Some(cached))
+    cached_nodes.put(place, Some(cached))
 }
 
 /// Gives a cached node other metadata.
-fn show_in(cached: &mut CachedNode, shown: &Shown) -> Result<(), AllocError>
-    ensures { OnOk result (cached.new ≡ showing (shown_of shown.now) cached.old) }
+fn show_in(cached: &mut CachedNode, metadata: &Metadata) -> Result<(), AllocError>
+    ensures { OnOk result (cached.new ≡ showing (metadata_of metadata.now) cached.old) }
 {
-    cached.inode.acl = shown.acl.try_clone()?;
-    cached.inode.owner = shown.owner;
-    cached.inode.group = shown.group;
-    cached.inode.change = shown.change;
-    cached.inode.time_modify = shown.time_modify;
+    cached.inode.acl = metadata.acl.try_clone()?;
+    cached.inode.owner = metadata.owner;
+    cached.inode.group = metadata.group;
+    cached.inode.change = metadata.change;
+    cached.inode.time_modify = metadata.time_modify;
     Ok(())
 }
 
@@ -135,15 +139,15 @@ impl<'a> Transaction<'a> {
         // The volume as it is
         ensures nodes { IfOk result (λ transaction. transaction.nodes ≡ length table.now) }
         ensures places { IfOk result (λ transaction. transaction.places ≡ places.now) }
-        ensures cards { IfOk result (λ transaction. cards_of transaction ≡ table.now) }
-        ensures table { IfOk result (λ transaction. transaction.cards.table ≡ table.now) }
+        ensures cached_nodes { IfOk result (λ transaction. cached_nodes_of transaction ≡ table.now) }
+        ensures table { IfOk result (λ transaction. transaction.cached_nodes.table ≡ table.now) }
     {
         Ok(Transaction {
             alloc,
             nodes: table.places(),
             updates: Updates::new(alloc),
             places: places.try_clone()?,
-            cards: Overlay::new(alloc, table)?,
+            cached_nodes: Overlay::new(alloc, table)?,
         })
     }
 
@@ -151,12 +155,12 @@ impl<'a> Transaction<'a> {
     pub fn into_prepared(self) -> PreparedTransaction
         ensures updates { result.updates.items ≡ self.entry.updates }
         ensures places { result.places ≡ self.entry.places }
-        ensures changes { overlaid self.entry.cards.table result.changes ≡ cards_of self.entry }
+        ensures changes { overlaid self.entry.cached_nodes.table result.changes ≡ cached_nodes_of self.entry }
     {
         PreparedTransaction {
             updates: self.updates.into_vec(),
             places: self.places,
-            changes: self.cards.into_changes(),
+            changes: self.cached_nodes.into_changes(),
         }
     }
 
@@ -167,20 +171,20 @@ impl<'a> Transaction<'a> {
     /// Only memory.
     pub fn make(&mut self, place: u32, cached: CachedNode) -> Result<(), AllocError>
         requires known { IsKnown self.old }
-        requires free { IsFree (cards_of self.old) place }
-        requires node { IsNewCard cached }
-        requires fresh { HasNoNode (cards_of self.old) cached.fields.number }
+        requires free { IsFree (cached_nodes_of self.old) place }
+        requires node { IsNewCached cached }
+        requires fresh { HasNoNode (cached_nodes_of self.old) cached.fields.number }
         ensures known { OnOk result (StaysKnown self.old self.new) }
-        ensures cards { OnOk result
-            (cards_of self.new ≡ set (cards_of self.old) place (Some cached)) }
+        ensures cached_nodes { OnOk result
+            (cached_nodes_of self.new ≡ set (cached_nodes_of self.old) place (Some cached)) }
         ensures made { OnOk result (MakesEdit self.old self.new
             (PutNode cached.fields.number (new_node cached))) }
         // However it ends
         ensures count { length self.new.updates ≤ length self.old.updates + 1 }
-        ensures table { self.new.cards.table ≡ self.old.cards.table }
+        ensures table { self.new.cached_nodes.table ≡ self.old.cached_nodes.table }
     {
         put_node(&mut self.updates, place, &cached)?;
-        put_card(&mut self.cards, place, cached)?;
+        put_cached(&mut self.cached_nodes, place, cached)?;
         Ok(())
     }
 
@@ -189,22 +193,22 @@ impl<'a> Transaction<'a> {
     /// # Errors
     ///
     /// Only memory.
-    pub fn show(&mut self, place: u32, shown: &Shown) -> Result<(), AllocError>
+    pub fn show(&mut self, place: u32, metadata: &Metadata) -> Result<(), AllocError>
         requires known { IsKnown self.old }
-        requires node { CanShow (cards_of self.old) place (shown_of shown.now) }
+        requires node { CanShow (cached_nodes_of self.old) place (metadata_of metadata.now) }
         ensures known { OnOk result (StaysKnown self.old self.new) }
-        ensures cards { OnOk result
-            (NodeBecomes self.old self.new place (showing (shown_of shown.now))) }
-        ensures shown { OnOk result (Edits self.old self.new place
-            (λ number. Show number (shown_of shown.now))) }
+        ensures cached_nodes { OnOk result
+            (NodeBecomes self.old self.new place (showing (metadata_of metadata.now))) }
+        ensures metadata { OnOk result (Edits self.old self.new place
+            (λ number. Show number (metadata_of metadata.now))) }
         // However it ends
         ensures count { length self.new.updates ≤ length self.old.updates + 1 }
-        ensures table { self.new.cards.table ≡ self.old.cards.table }
+        ensures table { self.new.cached_nodes.table ≡ self.old.cached_nodes.table }
     {
-        let mut cached = take_card(&mut self.cards, place)?;
-        show_in(&mut cached, shown)?;
+        let mut cached = take_cached(&mut self.cached_nodes, place)?;
+        show_in(&mut cached, metadata)?;
         put_node(&mut self.updates, place, &cached)?;
-        put_card(&mut self.cards, place, cached)?;
+        put_cached(&mut self.cached_nodes, place, cached)?;
         Ok(())
     }
 
@@ -215,15 +219,15 @@ impl<'a> Transaction<'a> {
     /// Only memory.
     pub fn free(&mut self, place: u32) -> Result<(), AllocError>
         requires known { IsKnown self.old }
-        requires node { HasNode (cards_of self.old) place }
+        requires node { HasNode (cached_nodes_of self.old) place }
         ensures known { OnOk result (StaysKnown self.old self.new) }
-        ensures cards { OnOk result (cards_of self.new ≡ set (cards_of self.old) place None) }
+        ensures cached_nodes { OnOk result (cached_nodes_of self.new ≡ set (cached_nodes_of self.old) place None) }
         ensures freed { OnOk result (Edits self.old self.new place DropNode) }
         // However it ends
         ensures count { length self.new.updates ≤ length self.old.updates + 1 }
-        ensures table { self.new.cards.table ≡ self.old.cards.table }
+        ensures table { self.new.cached_nodes.table ≡ self.old.cached_nodes.table }
     {
-        let mut cached = take_card(&mut self.cards, place)?;
+        let mut cached = take_cached(&mut self.cached_nodes, place)?;
         let first = NODES + self.nodes;
         give_blocks(&mut self.places, first, &cached.blocks, 0)?;
         give_numbers(&mut self.places, first, &mut cached.inode.run_sectors, 0)?;
@@ -244,9 +248,9 @@ impl<'a> Transaction<'a> {
         number: u64,
     ) -> Result<(), SpaceFault>
         requires known { IsKnown self.old }
-        requires names { CanName (cards_of self.old) place name.now stamp }
+        requires names { CanName (cached_nodes_of self.old) place name.now stamp }
         ensures known { OnOk result (StaysKnown self.old self.new) }
-        ensures cards { OnOk result (NodeBecomes self.old self.new place
+        ensures cached_nodes { OnOk result (NodeBecomes self.old self.new place
             (with_name (record_from stamp name.now number))) }
         ensures put { OnOk result (Edits self.old self.new place
             (λ to. PutName to stamp (record { name = name.now; number = number }))) }
@@ -254,9 +258,9 @@ impl<'a> Transaction<'a> {
         ensures count { length self.new.updates ≤ length self.old.updates + 4 }
         ensures full { IsErrOf result SpaceFault.Full → IsOvercharged self.old place blocks_named }
         // However it ends
-        ensures table { self.new.cards.table ≡ self.old.cards.table }
+        ensures table { self.new.cached_nodes.table ≡ self.old.cached_nodes.table }
     {
-        let mut cached = take_card(&mut self.cards, place)?;
+        let mut cached = take_cached(&mut self.cached_nodes, place)?;
         // There is room for the name, so it can only be memory that is lacking.
         let Ok(at) = cached.names.put(name, stamp, number) else {
             return Err(SpaceFault::Memory);
@@ -270,7 +274,7 @@ impl<'a> Transaction<'a> {
             &cached.names,
             (at / RECORDS) as u32,
         )?;
-        self.store_written(place, WrittenCard { cached, filled })?;
+        self.store_written(place, WrittenCached { cached, filled })?;
         Ok(())
     }
 
@@ -281,15 +285,15 @@ impl<'a> Transaction<'a> {
     /// Only memory.
     pub fn drop_name(&mut self, place: u32, name: &[u8]) -> Result<(), AllocError>
         requires known { IsKnown self.old }
-        requires names { HasNameAt (cards_of self.old) place name.now }
+        requires names { HasNameAt (cached_nodes_of self.old) place name.now }
         ensures known { OnOk result (StaysKnown self.old self.new) }
-        ensures cards { OnOk result (NodeBecomes self.old self.new place (without_name name.now)) }
+        ensures cached_nodes { OnOk result (NodeBecomes self.old self.new place (without_name name.now)) }
         ensures dropped { OnOk result (DropsNamed self.old self.new place name.now) }
         // However it ends
         ensures count { length self.new.updates ≤ length self.old.updates + 4 }
-        ensures table { self.new.cards.table ≡ self.old.cards.table }
+        ensures table { self.new.cached_nodes.table ≡ self.old.cached_nodes.table }
     {
-        let mut cached = take_card(&mut self.cards, place)?;
+        let mut cached = take_cached(&mut self.cached_nodes, place)?;
         let (at, _entry) = cached.names.remove(name)?.unwrap();
         let left = cached.names.count();
         cached.inode.size = left as u64;
@@ -312,20 +316,20 @@ impl<'a> Transaction<'a> {
     /// Only memory.
     pub fn grow(&mut self, place: u32, size: u64) -> Result<(), AllocError>
         requires known { IsKnown self.old }
-        requires file { CanGrow (cards_of self.old) place size }
+        requires file { CanGrow (cached_nodes_of self.old) place size }
         ensures known { OnOk result (StaysKnown self.old self.new) }
-        ensures cards { OnOk result
+        ensures cached_nodes { OnOk result
             (NodeBecomes self.old self.new place (λ cached. sized cached size)) }
         ensures grown { OnOk result (Edits self.old self.new place
             (λ number. SetSize number size)) }
         // However it ends
         ensures count { length self.new.updates ≤ length self.old.updates + 1 }
-        ensures table { self.new.cards.table ≡ self.old.cards.table }
+        ensures table { self.new.cached_nodes.table ≡ self.old.cached_nodes.table }
     {
-        let mut cached = take_card(&mut self.cards, place)?;
+        let mut cached = take_cached(&mut self.cached_nodes, place)?;
         grow_to(&mut cached, size)?;
         put_node(&mut self.updates, place, &cached)?;
-        put_card(&mut self.cards, place, cached)?;
+        put_cached(&mut self.cached_nodes, place, cached)?;
         Ok(())
     }
 
@@ -341,9 +345,9 @@ impl<'a> Transaction<'a> {
         size: u64,
     ) -> Result<(), TransactionFault>
         requires known { IsKnown self.old × (end_of self.old ≤ S.size (S.kept base.old)) }
-        requires file { CanCut (cards_of self.old) place size }
+        requires file { CanCut (cached_nodes_of self.old) place size }
         ensures known { OnOk result (StaysKnown self.old self.new) }
-        ensures cards { OnOk result
+        ensures cached_nodes { OnOk result
             (NodeBecomes self.old self.new place (λ cached. sized cached size)) }
         ensures tree { S.keeps_word → OnOk result (EditsOver (S.image (S.kept base.old))
             (S.size (S.kept base.old)) self.old self.new place (λ number. SetSize number size)) }
@@ -352,11 +356,11 @@ impl<'a> Transaction<'a> {
         ensures full { ¬ IsErrOf result TransactionFault.Full }
         // It only reads the base
         ensures kept { (S.kept base.new ≡ S.kept base.old)
-            × (self.new.cards.table ≡ self.old.cards.table) }
+            × (self.new.cached_nodes.table ≡ self.old.cached_nodes.table) }
         ensures health { FailsOrStays (S.health base.old) (S.health base.new)
             (IsErrOf result TransactionFault.Device) }
     {
-        let mut cached = take_card(&mut self.cards, place)?;
+        let mut cached = take_cached(&mut self.cached_nodes, place)?;
         clear_tail(&mut self.updates, base, &cached.blocks, size)?;
         let count = blocks_of(size);
         give_blocks(&mut self.places, NODES + self.nodes, &cached.blocks, count)?;
@@ -381,9 +385,9 @@ impl<'a> Transaction<'a> {
         bytes: &[u8],
     ) -> Result<(), TransactionFault>
         requires known { IsKnown self.old × (end_of self.old ≤ S.size (S.kept base.old)) }
-        requires file { CanWrite (cards_of self.old) place (offset + length bytes.now) }
+        requires file { CanWrite (cached_nodes_of self.old) place (offset + length bytes.now) }
         ensures known { OnOk result (StaysKnown self.old self.new) }
-        ensures cards { OnOk result (NodeBecomes self.old self.new place
+        ensures cached_nodes { OnOk result (NodeBecomes self.old self.new place
             (reaching (offset + length bytes.now))) }
         ensures tree { S.keeps_word → OnOk result (EditsOver (S.image (S.kept base.old))
             (S.size (S.kept base.old)) self.old self.new place
@@ -395,7 +399,7 @@ impl<'a> Transaction<'a> {
             → IsOvercharged self.old place (blocks_to (offset + length bytes.now)) }
         // It only reads the base
         ensures kept { (S.kept base.new ≡ S.kept base.old)
-            × (self.new.cards.table ≡ self.old.cards.table) }
+            × (self.new.cached_nodes.table ≡ self.old.cached_nodes.table) }
         ensures health { FailsOrStays (S.health base.old) (S.health base.new)
             (IsErrOf result TransactionFault.Device) }
     {
@@ -412,9 +416,9 @@ impl<'a> Transaction<'a> {
         place: u32,
         offset: usize,
         bytes: &[u8],
-    ) -> Result<WrittenCard, TransactionFault>
+    ) -> Result<WrittenCached, TransactionFault>
         requires known { IsKnown self.old × (end_of self.old ≤ S.size (S.kept base.old)) }
-        requires file { CanWrite (cards_of self.old) place (offset + length bytes.now) }
+        requires file { CanWrite (cached_nodes_of self.old) place (offset + length bytes.now) }
         ensures written { IfOk result (λ written. IsWritten self.old self.new place
             (offset + length bytes.now) written.cached written.filled) }
         ensures bytes { S.keeps_word → IfOk result (λ written.
@@ -427,11 +431,11 @@ impl<'a> Transaction<'a> {
             → IsOvercharged self.old place (blocks_to (offset + length bytes.now)) }
         // It only reads the base
         ensures kept { (S.kept base.new ≡ S.kept base.old)
-            × (self.new.cards.table ≡ self.old.cards.table) }
+            × (self.new.cached_nodes.table ≡ self.old.cached_nodes.table) }
         ensures health { FailsOrStays (S.health base.old) (S.health base.new)
             (IsErrOf result TransactionFault.Device) }
     {
-        let mut cached = take_card(&mut self.cards, place)?;
+        let mut cached = take_cached(&mut self.cached_nodes, place)?;
         grow_to(&mut cached, (offset + bytes.len()) as u64)?;
         let filled = write_blocks(
             &mut self.updates,
@@ -442,7 +446,7 @@ impl<'a> Transaction<'a> {
             offset,
             bytes,
         )?;
-        Ok(WrittenCard { cached, filled })
+        Ok(WrittenCached { cached, filled })
     }
 
     /// Writes the marks of the places if they have changed and sectors hold them. This is the last
@@ -456,7 +460,7 @@ impl<'a> Transaction<'a> {
         ensures laid { OnOk result (Finishes marking before.now self.old self.new) }
         ensures targets { OnOk result (AreTreeUpdates (end_of self.old) self.new.updates) }
         // What stays
-        ensures cards { self.new.cards ≡ self.old.cards }
+        ensures cached_nodes { self.new.cached_nodes ≡ self.old.cached_nodes }
         ensures places { self.new.places ≡ self.old.places }
         ensures nodes { self.new.nodes ≡ self.old.nodes }
         ensures updates { marking ≡ Marking.AsNamed → self.new.updates ≡ self.old.updates }
@@ -476,14 +480,14 @@ impl<'a> Transaction<'a> {
 
     /// Puts a cached node whose blocks were written back. Its runs are rewritten only if holes got
     /// sectors.
-    fn store_written(&mut self, place: u32, mut written: WrittenCard) -> Result<(), SpaceFault>
+    fn store_written(&mut self, place: u32, mut written: WrittenCached) -> Result<(), SpaceFault>
         requires can { CanBeLaid self.old.nodes place self.old.places written.cached }
-        requires within { place < length (cards_of self.old) }
+        requires within { place < length (cached_nodes_of self.old) }
         requires same { written.filled ≡ false → HasItsRuns place written.cached }
         ensures stands { OnOk result (StandsAgain self.old self.new place written.cached
             self.old.places self.old.updates) }
         // However it ends
-        ensures table { self.new.cards.table ≡ self.old.cards.table }
+        ensures table { self.new.cached_nodes.table ≡ self.old.cached_nodes.table }
         // What it costs
         ensures count { length self.new.updates
             ≤ length self.old.updates + 1 + sectors_for (set_blocks written.cached.blocks) }
@@ -500,7 +504,7 @@ impl<'a> Transaction<'a> {
                 place,
                 &mut written.cached,
             )?;
-            put_card(&mut self.cards, place, written.cached)?;
+            put_cached(&mut self.cached_nodes, place, written.cached)?;
         } else {
             // The runs of its blocks have not changed.
             self.store_node(place, written.cached)?;
@@ -512,13 +516,13 @@ impl<'a> Transaction<'a> {
     /// now has fewer.
     fn store_cut(&mut self, place: u32, cached: CachedNode, before: u32) -> Result<(), AllocError>
         requires can { CanBeLaid self.old.nodes place self.old.places cached }
-        requires within { place < length (cards_of self.old) }
+        requires within { place < length (cached_nodes_of self.old) }
         requires enough { HasEnough cached }
         requires same { before ≤ length cached.blocks → HasItsRuns place cached }
         ensures stands { OnOk result
             (StandsAgain self.old self.new place cached self.old.places self.old.updates) }
         // However it ends
-        ensures table { self.new.cards.table ≡ self.old.cards.table }
+        ensures table { self.new.cached_nodes.table ≡ self.old.cached_nodes.table }
         ensures count { length self.new.updates
             ≤ length self.old.updates + 1 + sectors_for (set_blocks cached.blocks) }
     {
@@ -533,21 +537,21 @@ impl<'a> Transaction<'a> {
     /// Puts a cached node that was taken out back, and writes only its inode.
     fn store_node(&mut self, place: u32, cached: CachedNode) -> Result<(), AllocError>
         requires fits { IsInode cached.form cached.fields }
-        requires within { place < length (cards_of self.old) }
+        requires within { place < length (cached_nodes_of self.old) }
         requires small { NODES + place < 2 ^ 32 }
         ensures node { OnOk result ((image : Image) → IsSectorPut (applied self.old.updates image)
             (applied self.new.updates image) (NODES + place)
             (inode_sector cached.form cached.fields)) }
-        ensures cards { OnOk result
-            (cards_of self.new ≡ set (cards_of self.old) place (Some cached)) }
+        ensures cached_nodes { OnOk result
+            (cached_nodes_of self.new ≡ set (cached_nodes_of self.old) place (Some cached)) }
         // However it ends
         ensures nodes { self.new.nodes ≡ self.old.nodes }
         ensures places { self.new.places ≡ self.old.places }
-        ensures table { self.new.cards.table ≡ self.old.cards.table }
+        ensures table { self.new.cached_nodes.table ≡ self.old.cached_nodes.table }
         ensures count { length self.new.updates ≤ length self.old.updates + 1 }
     {
         put_node(&mut self.updates, place, &cached)?;
-        put_card(&mut self.cards, place, cached)?;
+        put_cached(&mut self.cached_nodes, place, cached)?;
         Ok(())
     }
 
@@ -555,12 +559,12 @@ impl<'a> Transaction<'a> {
     /// enough run sectors, writes its inode, and puts it back.
     fn store_node_and_runs(&mut self, place: u32, mut cached: CachedNode) -> Result<(), AllocError>
         requires can { CanBeLaid self.old.nodes place self.old.places cached }
-        requires within { place < length (cards_of self.old) }
+        requires within { place < length (cached_nodes_of self.old) }
         requires enough { HasEnough cached }
         ensures back { OnOk result (IsBack self.old.nodes place self.old.places self.old.updates
-            (cards_of self.old) self.new cached) }
+            (cached_nodes_of self.old) self.new cached) }
         // However it ends
-        ensures table { self.new.cards.table ≡ self.old.cards.table }
+        ensures table { self.new.cached_nodes.table ≡ self.old.cached_nodes.table }
         ensures count { length self.new.updates
             ≤ length self.old.updates + 1 + sectors_for (set_blocks cached.blocks) }
     {
@@ -573,7 +577,7 @@ impl<'a> Transaction<'a> {
             &mut cached,
             runs,
         )?;
-        put_card(&mut self.cards, place, cached)?;
+        put_cached(&mut self.cached_nodes, place, cached)?;
         Ok(())
     }
 }

@@ -5,7 +5,7 @@ ghost use Rattle.disk.specs.Moments.{Image, put, applied};
 ghost use Rattle.disk.specs.declared.update.Update.{Update};
 ghost use Rattle.extents.specs.Sector.{run_sector};
 ghost use Rattle.inode.specs.Fields.{IsInode, fields_of};
-ghost use Rattle.inode.specs.Spelling.{inode_sector};
+ghost use Rattle.inode.specs.Encoding.{inode_sector};
 ghost use Rattle.layout.specs.Health.{FailsOrStays};
 ghost use Rattle.tree_transaction.specs.Updates.{UpdatesApart, updated, IsFirst, HasNoUpdate};
 ghost use Rattle.tree_transaction.specs.Updates.{target_of, content_of, encoded, with_sector};

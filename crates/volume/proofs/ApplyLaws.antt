@@ -8,72 +8,72 @@ use Rattle.disk.specs.declared.update.Update.{Update}
 use Rattle.disk.specs.Moments.{Image, applied, moment}
 use Rattle.tree_edits.proofs.BlankLaws.{each_outline}
 use Rattle.journal.specs.Calls.{IsSafe, HasApplied, list_with}
-use Rattle.journal.specs.Layout.{in_front}
+use Rattle.journal.specs.Layout.{log_at_start}
 use Rattle.journal.specs.Log.{Log, IsSettled, Moved, contents, applied_all, AnswersByDevice}
 use Rattle.journal.specs.Settled.{AreSame}
 use Rattle.journal.specs.declared.fault.JournalFault.{JournalFault}
 use Rattle.journal.specs.declared.fault.JournalFault.TheVariants as faults
-use Rattle.journal.proofs.Fronts.{applied_all-push}
-use Rattle.journal.proofs.Joins.{front_moved, moved_contents}
-use Rattle.layout.specs.CachedNodes.{CachedNode, tree_of, cards_in}
+use Rattle.journal.proofs.Prefixes.{applied_all-push}
+use Rattle.journal.proofs.Joins.{prefix_moved, moved_contents}
+use Rattle.layout.specs.CachedNodes.{CachedNode, tree_of, cached_nodes_in}
 use Rattle.layout.specs.Stands.{Kept, StandsNow, seats_at}
 use Rattle.layout.proofs.KeptLaws.{now_told, same_kept, stands_now}
 use Rattle.model_tree.specs.declared.limits.Limits.{Limits}
 use Rattle.model_tree.specs.Trees.Tree.{Tree}
 use Rattle.volume.specs.Changes.{Given, Done, Broken, VolumeChanges, ending_of}
-use Rattle.volume.specs.VolumeState.{VolumeState, IsRecent, AddsKept, MakesAtMost, fronts_from, kept_of}
+use Rattle.volume.specs.VolumeState.{VolumeState, IsRecent, AddsKept, MakesAtMost, prefixes_from, kept_of}
 use Rattle.volume.specs.Known.{IsServing}
 use Rattle.volume.specs.Refusals.{fault_of}
 use Rattle.volume.specs.Stands.{VolumeStands}
 use Rattle.volume.specs.Views.{volume_state_by}
-use Rattle.volume.proofs.FrontLaws.{among_more, applied_recent, front_among}
-use Rattle.volume.proofs.ServeLaws.{few_for_call, few_in_front, flush_adds, seats_stay, still_serving, tree_stays}
+use Rattle.volume.proofs.PrefixLaws.{among_more, applied_recent, prefix_among}
+use Rattle.volume.proofs.ServeLaws.{few_for_call, few_at_start, flush_adds, seats_stay, still_serving, tree_stays}
 use Rattle.volume.proofs.OneTree.{Seats-set, Tree-set}
 use Rattle.volume.proofs.StandLaws.{placed_on, same_placed, settles_placed, stands_same}
 
 -- each of the fronts is one of the list's
-front_is : (base : Image) (list : List (List Update)) (front : Image) → IsAmong (fronts_from base list) front
-    → (count : ℕ) × (count ≤ length list) × (front ≡ applied_all (take count list) base)
-front_is base [] front among = ⊎_elim
-    (λ (is : front ≡ base). (0, omega arith, is))
-    (λ (none : IsAmong [] front). absurd (omega (arith, none.1.0)))
-    (among_more base [] front among)
-front_is base (updates ∷ list) front among = ⊎_elim
-    (λ (is : front ≡ base). (0, omega arith, is))
-    (λ (rest : IsAmong (fronts_from (applied updates base) list) front).
-    let it = front_is (applied updates base) list front rest in (suc it.0, omega (arith, it.1), it.2))
-    (among_more base (fronts_from (applied updates base) list) front among)
+prefix_is : (base : Image) (list : List (List Update)) (prefix : Image) → IsAmong (prefixes_from base list) prefix
+    → (count : ℕ) × (count ≤ length list) × (prefix ≡ applied_all (take count list) base)
+prefix_is base [] prefix among = ⊎_elim
+    (λ (is : prefix ≡ base). (0, omega arith, is))
+    (λ (none : IsAmong [] prefix). absurd (omega (arith, none.1.0)))
+    (among_more base [] prefix among)
+prefix_is base (updates ∷ list) prefix among = ⊎_elim
+    (λ (is : prefix ≡ base). (0, omega arith, is))
+    (λ (rest : IsAmong (prefixes_from (applied updates base) list) prefix).
+    let it = prefix_is (applied updates base) list prefix rest in (suc it.0, omega (arith, it.1), it.2))
+    (among_more base (prefixes_from (applied updates base) list) prefix among)
 
 -- a call moved the list's first transactions into the base: each front is one from before
-module _ (limits : Limits) (run : ℕ) (cards : List (Option CachedNode)) (old new : Log) (placed : old.area ≡ in_front old.size) (area : new.area ≡ old.area) (size : new.size ≡ old.size) (moved : Moved old.list old new)
-    (settled : IsSettled new) (serving : ∥ IsServing old limits.nodes run cards ∥₁) where
+module _ (limits : Limits) (run : ℕ) (cached_nodes : List (Option CachedNode)) (old new : Log) (placed : old.area ≡ log_at_start old.size) (area : new.area ≡ old.area) (size : new.size ≡ old.size) (moved : Moved old.list old new)
+    (settled : IsSettled new) (serving : ∥ IsServing old limits.nodes run cached_nodes ∥₁) where
   same : AreSame old.size (contents old) (contents new)
   same = same_placed old.area old.size (contents old) (contents new) placed (moved_contents old.list old new moved)
 
-  pub moved_serves : ∥ IsServing new limits.nodes run cards ∥₁
-  moved_serves = ∥∥₁_elim serving ∥∥₁_prop (still_serving limits.nodes run cards old new same size settled)
+  pub moved_serves : ∥ IsServing new limits.nodes run cached_nodes ∥₁
+  moved_serves = ∥∥₁_elim serving ∥∥₁_prop (still_serving limits.nodes run cached_nodes old new same size settled)
 
-  pub moved_tree : tree_of (contents new) cards ≡ tree_of (contents old) cards
-  moved_tree = ∥∥₁_elim serving (Tree-set (tree_of (contents new) cards) (tree_of (contents old) cards)) (tree_stays limits.nodes run cards old new same)
+  pub moved_tree : tree_of (contents new) cached_nodes ≡ tree_of (contents old) cached_nodes
+  moved_tree = ∥∥₁_elim serving (Tree-set (tree_of (contents new) cached_nodes) (tree_of (contents old) cached_nodes)) (tree_stays limits.nodes run cached_nodes old new same)
 
   pub moved_seats : seats_at (contents new) ≡ seats_at (contents old)
-  moved_seats = ∥∥₁_elim serving (Seats-set (seats_at (contents new)) (seats_at (contents old))) (seats_stay limits.nodes run cards old new same)
+  moved_seats = ∥∥₁_elim serving (Seats-set (seats_at (contents new)) (seats_at (contents old))) (seats_stay limits.nodes run cached_nodes old new same)
 
-  pub moved_kept : kept_of (volume_state_by limits run cards new) ≡ kept_of (volume_state_by limits run cards old)
-  moved_kept = same_kept (kept_of (volume_state_by limits run cards new)) (kept_of (volume_state_by limits run cards old)) moved_tree moved_seats
+  pub moved_kept : kept_of (volume_state_by limits run cached_nodes new) ≡ kept_of (volume_state_by limits run cached_nodes old)
+  moved_kept = same_kept (kept_of (volume_state_by limits run cached_nodes new)) (kept_of (volume_state_by limits run cached_nodes old)) moved_tree moved_seats
 
-  covered : (recent : List Kept) → IsRecent (volume_state_by limits run cards old) recent → (count : ℕ) → count ≤ length new.list
+  covered : (recent : List Kept) → IsRecent (volume_state_by limits run cached_nodes old) recent → (count : ℕ) → count ≤ length new.list
       → (kept : Kept) × IsAmong recent kept × ∥ VolumeStands new.size limits.nodes (applied_all (take count new.list) new.base) run kept ∥₁
   covered recent is count few =
-      let before = front_moved old.list old new moved count few in
-      let one = is.covers (applied_all (take before.0 old.list) old.base) (front_among old.base old.list before.0 before.1) in (
+      let before = prefix_moved old.list old new moved count few in
+      let one = is.covers (applied_all (take before.0 old.list) old.base) (prefix_among old.base old.list before.0 before.1) in (
         one.0,
         one.1,
         ∥∥₁_map one.2 (λ stands. subst (λ (s : ℕ). VolumeStands s limits.nodes (applied_all (take count new.list) new.base) run one.0) (sym size)
             (stands_same old.size limits.nodes (applied_all (take before.0 old.list) old.base) (applied_all (take count new.list) new.base) run one.0 (same_placed old.area old.size _ _ placed before.2) stands)),
       )
 
-  pub moved_recent : (recent : List Kept) → IsRecent (volume_state_by limits run cards old) recent → IsRecent (volume_state_by limits run cards new) recent
+  pub moved_recent : (recent : List Kept) → IsRecent (volume_state_by limits run cached_nodes old) recent → IsRecent (volume_state_by limits run cached_nodes new) recent
   moved_recent recent is = record {
     leaves = λ image left.
         let one = covered recent is 0 (omega arith) in (
@@ -81,8 +81,8 @@ module _ (limits : Limits) (run : ℕ) (cards : List (Option CachedNode)) (old n
           one.1,
           ∥∥₁_map one.2 (λ stands. record { base = new.base; settles = settles_placed new.area new.size image new.base (placed_on new.area old.area new.size old.size area size placed) (settled image left); stands = stands }),
         );
-    covers = λ front among.
-        let there = front_is new.base new.list front among in
+    covers = λ prefix among.
+        let there = prefix_is new.base new.list prefix among in
         let one = covered recent is there.0 there.1 in (
           one.0,
           one.1,
@@ -97,7 +97,7 @@ listed_with log updates = record log { list = list_with log updates }
 
 -- what the sectors hold after a transaction in the journal: these cached nodes, a tree and seats
 pub record StandsWith (nodes run : ℕ) (old : Log) (updates : List Update) (is : List (Option CachedNode)) (after : Kept) : Type 0 where
-  pub read : is ≡ cards_in nodes (applied updates (contents old))
+  pub read : is ≡ cached_nodes_in nodes (applied updates (contents old))
   pub tree : tree_of (applied updates (contents old)) is ≡ after.tree
   pub stands : ∥ StandsNow old.size nodes (applied updates (contents old)) run after ∥₁
 
@@ -111,8 +111,8 @@ abbrev pub seated : Log → Tree → Kept
 seated log tree = record { tree = tree; seats = seats_at (contents log) }
 
 -- What serves after a transaction, which may change the cached nodes or the seats
-module _ (limits : Limits) (run : ℕ) (cards is : List (Option CachedNode)) (old : Log) (updates : List Update) (after : Kept)
-    (behind : StandsWith limits.nodes run old updates is after) (serving : ∥ IsServing old limits.nodes run cards ∥₁) where
+module _ (limits : Limits) (run : ℕ) (cached_nodes is : List (Option CachedNode)) (old : Log) (updates : List Update) (after : Kept)
+    (behind : StandsWith limits.nodes run old updates is after) (serving : ∥ IsServing old limits.nodes run cached_nodes ∥₁) where
   abbrev then_log : Log
   then_log = listed_with old updates
 
@@ -134,23 +134,23 @@ module _ (limits : Limits) (run : ℕ) (cards is : List (Option CachedNode)) (ol
 
   pub then_serves : ∥ IsServing then_log limits.nodes run is ∥₁
   then_serves = ∥∥₁_map serving (λ served. record {
-    read = behind.read ∙ ap (cards_in limits.nodes) (sym then_contents);
+    read = behind.read ∙ ap (cached_nodes_in limits.nodes) (sym then_contents);
     stands = subst (λ (kept : Kept). ∥ StandsNow old.size limits.nodes (contents then_log) run kept ∥₁) (sym then_kept)
         (subst (λ (image : Image). ∥ StandsNow old.size limits.nodes image run after ∥₁) (sym then_contents) behind.stands);
     settled = served.settled;
   })
 
-  pub then_recent : (recent : List Kept) → IsRecent (volume_state_by limits run cards old) recent → IsRecent then_held (after ∷ recent)
+  pub then_recent : (recent : List Kept) → IsRecent (volume_state_by limits run cached_nodes old) recent → IsRecent then_held (after ∷ recent)
   then_recent recent ready =
-      subst (λ (kept : Kept). IsRecent (record (volume_state_by limits run cards old) { tree = kept.tree; seats = kept.seats; fronts = fronts_from old.base (list_with old updates) }) (after ∷ recent))
+      subst (λ (kept : Kept). IsRecent (record (volume_state_by limits run cached_nodes old) { tree = kept.tree; seats = kept.seats; prefixes = prefixes_from old.base (list_with old updates) }) (after ∷ recent))
       (sym then_kept)
-      (applied_recent (volume_state_by limits run cards old) old refl refl refl updates after (stands_after limits.nodes run old updates is after behind) recent ready)
+      (applied_recent (volume_state_by limits run cached_nodes old) old refl refl refl updates after (stands_after limits.nodes run old updates is after behind) recent ready)
 
 -- The journal takes a transaction
-module _ (keeps_word : Type 0) (limits : Limits) (run : ℕ) (cards is : List (Option CachedNode)) (old new : Log) (updates : List Update) (after : Kept) (failed_before failed_after : ℕ)
-    (safe : IsSafe keeps_word old new) (placed : old.area ≡ in_front old.size) (later : failed_before ≤ failed_after) where
+module _ (keeps_word : Type 0) (limits : Limits) (run : ℕ) (cached_nodes is : List (Option CachedNode)) (old new : Log) (updates : List Update) (after : Kept) (failed_before failed_after : ℕ)
+    (safe : IsSafe keeps_word old new) (placed : old.area ≡ log_at_start old.size) (later : failed_before ≤ failed_after) where
   abbrev was : VolumeState
-  was = volume_state_by limits run cards old
+  was = volume_state_by limits run cached_nodes old
 
   abbrev now : VolumeState
   now = volume_state_by limits run is new
@@ -160,12 +160,12 @@ module _ (keeps_word : Type 0) (limits : Limits) (run : ℕ) (cards is : List (O
   given kept lasts = (kept ≡ after) × (lasts ≡ false)
 
   moments : keeps_word → (kept : Kept) (lasts : Bool) → given kept lasts → AddsKept was kept new.history
-  moments k kept lasts is_given = flush_adds limits run cards old new kept placed (safe.moments k)
+  moments k kept lasts is_given = flush_adds limits run cached_nodes old new kept placed (safe.moments k)
 
   brief : keeps_word → MakesAtMost 396 was now
-  brief k = few_for_call (moment old.history) (moment new.history) (few_in_front old.area old.size (moment old.history) (moment new.history) placed (safe.brief k))
+  brief k = few_for_call (moment old.history) (moment new.history) (few_at_start old.area old.size (moment old.history) (moment new.history) placed (safe.brief k))
 
-  module _ (up : new.is_down ≡ false) (has : HasApplied keeps_word updates old new) (serves : keeps_word → ∥ IsServing old limits.nodes run cards ∥₁)
+  module _ (up : new.is_down ≡ false) (has : HasApplied keeps_word updates old new) (serves : keeps_word → ∥ IsServing old limits.nodes run cached_nodes ∥₁)
       (behind : keeps_word → StandsWith limits.nodes run old updates is after) where
     abbrev between : Log
     between = listed_with old updates
@@ -175,14 +175,14 @@ module _ (keeps_word : Type 0) (limits : Limits) (run : ℕ) (cards is : List (O
     goes k = let moved = has.moved k in record { count = moved.count; within = moved.within; base = moved.base; list = moved.list }
 
     middle : keeps_word → ∥ IsServing between limits.nodes run is ∥₁
-    middle k = then_serves limits run cards is old updates after (behind k) (serves k)
+    middle k = then_serves limits run cached_nodes is old updates after (behind k) (serves k)
 
     pub applied_serves : keeps_word → ∥ IsServing new limits.nodes run is ∥₁
     applied_serves k = moved_serves limits run is between new placed safe.area safe.size (goes k) (safe.settled k up) (middle k)
 
     pub applied_kept : keeps_word → kept_of now ≡ after
     applied_kept k = moved_kept limits run is between new placed safe.area safe.size (goes k) (safe.settled k up) (middle k)
-        ∙ then_kept limits run cards is old updates after (behind k) (serves k)
+        ∙ then_kept limits run cached_nodes is old updates after (behind k) (serves k)
 
     pub applied_tree : keeps_word → now.tree ≡ after.tree
     applied_tree k = ap (λ (of : Kept). of.tree) (applied_kept k)
@@ -201,7 +201,7 @@ module _ (keeps_word : Type 0) (limits : Limits) (run : ℕ) (cards is : List (O
           after ∷ recent,
           record {
             ready = moved_recent limits run is between new placed safe.area safe.size (goes k) (safe.settled k up) (middle k) (after ∷ recent)
-                (then_recent limits run cards is old updates after (behind k) (serves k) recent ready);
+                (then_recent limits run cached_nodes is old updates after (behind k) (serves k) recent ready);
             no_others = λ one among. ⊎_elim
                 (λ (first : one ≡ after). inr (first ∙ sym is_given.0))
                 (λ (rest : IsAmong recent one). inl rest)
@@ -212,7 +212,7 @@ module _ (keeps_word : Type 0) (limits : Limits) (run : ℕ) (cards is : List (O
       };
     }
 
-  pub apply_broken : new.is_down ≡ true → IsCounted failed_before failed_after → VolumeChanges keeps_word given was (volume_state_by limits run cards new) failed_before failed_after Broken
+  pub apply_broken : new.is_down ≡ true → IsCounted failed_before failed_after → VolumeChanges keeps_word given was (volume_state_by limits run cached_nodes new) failed_before failed_after Broken
   apply_broken down counted = record {
     same = record { sectors = safe.size; limits = refl; run = refl };
     later = later;
@@ -222,24 +222,24 @@ module _ (keeps_word : Type 0) (limits : Limits) (run : ℕ) (cards is : List (O
     ends = record {
       down = down;
       cause = counted;
-      shows = inl (each_outline (contents new) cards ∙ sym (each_outline (contents old) cards));
+      shows = inl (each_outline (contents new) cached_nodes ∙ sym (each_outline (contents old) cached_nodes));
     };
   }
 
 -- The journal refuses it
-pub apply_refused : (keeps_word : Type 0) (limits : Limits) (run : ℕ) (cards : List (Option CachedNode)) (old new : Log) (after : Kept) (failed_before failed_after : ℕ) (fault : JournalFault)
-    → IsSafe keeps_word old new → old.area ≡ in_front old.size → old.is_down ≡ false → (fault ≡ faults.TooMany → ⊥) → AnswersByDevice {T = Unit {0}} old new failed_before failed_after (Err fault)
+pub apply_refused : (keeps_word : Type 0) (limits : Limits) (run : ℕ) (cached_nodes : List (Option CachedNode)) (old new : Log) (after : Kept) (failed_before failed_after : ℕ) (fault : JournalFault)
+    → IsSafe keeps_word old new → old.area ≡ log_at_start old.size → old.is_down ≡ false → (fault ≡ faults.TooMany → ⊥) → AnswersByDevice {T = Unit {0}} old new failed_before failed_after (Err fault)
     → (fault ≡ faults.TooMany) ⊎ ((fault ≡ faults.Fault) ⊎ (fault ≡ faults.Down))
-    → VolumeChanges keeps_word (λ kept lasts. (kept ≡ after) × (lasts ≡ false)) (volume_state_by limits run cards old) (volume_state_by limits run cards new) failed_before failed_after
+    → VolumeChanges keeps_word (λ kept lasts. (kept ≡ after) × (lasts ≡ false)) (volume_state_by limits run cached_nodes old) (volume_state_by limits run cached_nodes new) failed_before failed_after
     (ending_of {T = Unit {0}} (Err (fault_of fault)))
-apply_refused keeps_word limits run cards old new after failed_before failed_after faults.Fault safe placed up few answers refuses =
-    apply_broken keeps_word limits run cards cards old new [] after failed_before failed_after safe placed answers.later (answers.goes_down refl) (answers.counted refl)
-apply_refused keeps_word limits run cards old new after failed_before failed_after faults.Down safe placed up few answers refuses =
+apply_refused keeps_word limits run cached_nodes old new after failed_before failed_after faults.Fault safe placed up few answers refuses =
+    apply_broken keeps_word limits run cached_nodes cached_nodes old new [] after failed_before failed_after safe placed answers.later (answers.goes_down refl) (answers.counted refl)
+apply_refused keeps_word limits run cached_nodes old new after failed_before failed_after faults.Down safe placed up few answers refuses =
     absurd (true≢false (sym (answers.down.0 refl) ∙ up))
-apply_refused keeps_word limits run cards old new after failed_before failed_after faults.TooMany safe placed up few answers refuses = absurd (few refl)
-apply_refused keeps_word limits run cards old new after failed_before failed_after faults.Memory safe placed up few answers refuses = absurd (⊎_elim
+apply_refused keeps_word limits run cached_nodes old new after failed_before failed_after faults.TooMany safe placed up few answers refuses = absurd (few refl)
+apply_refused keeps_word limits run cached_nodes old new after failed_before failed_after faults.Memory safe placed up few answers refuses = absurd (⊎_elim
     (λ (is : faults.Memory ≡ faults.TooMany). cc)
     (λ (rest : (faults.Memory ≡ faults.Fault) ⊎ (faults.Memory ≡ faults.Down)). ⊎_elim (λ (is : faults.Memory ≡ faults.Fault). cc) (λ (is : faults.Memory ≡ faults.Down). cc) rest) refuses)
-apply_refused keeps_word limits run cards old new after failed_before failed_after faults.Damaged safe placed up few answers refuses = absurd (⊎_elim
+apply_refused keeps_word limits run cached_nodes old new after failed_before failed_after faults.Damaged safe placed up few answers refuses = absurd (⊎_elim
     (λ (is : faults.Damaged ≡ faults.TooMany). cc)
     (λ (rest : (faults.Damaged ≡ faults.Fault) ⊎ (faults.Damaged ≡ faults.Down)). ⊎_elim (λ (is : faults.Damaged ≡ faults.Fault). cc) (λ (is : faults.Damaged ≡ faults.Down). cc) rest) refuses)

@@ -6,7 +6,7 @@ use Rattle.disk.specs.declared.update.Update.{Update}
 use Rattle.disk.specs.Moments.{Image, History, AddsOnly, moment}
 use Rattle.disk.proofs.MomentLemmas.{AddsOnly-same}
 use Rattle.journal.specs.Log.{Log, applied_all, contents}
-use Rattle.layout.specs.CachedNodes.{CachedNode, tree_of, cards_in}
+use Rattle.layout.specs.CachedNodes.{CachedNode, tree_of, cached_nodes_in}
 use Rattle.layout.specs.Stands.{IsMark, Kept, StandsAs, StandsNow, mark_held, seats_at}
 use Rattle.layout.specs.Superblock.{is_size}
 use Rattle.layout.specs.declared.versions.VersionNumber.TheVariants.{Two}
@@ -27,8 +27,8 @@ use Rattle.volume.proofs.OneTree.{Seats-set, Tree-set}
 use Rattle.volume.proofs.ServeLaws.{holds_base}
 use Rattle.volume.proofs.StandLaws.{settles_placed, sized}
 
-module _ (keeps_word : Type 0) (found : Superblock) (old mid new : Log) (mark : Option ℕ) (cards : List (Option CachedNode)) (seats : Seats) (places : List Bool)
-    (loaded : IsLoaded keeps_word found old mark cards seats places) (started : HasStarted keeps_word found cards seats mid new)
+module _ (keeps_word : Type 0) (found : Superblock) (old mid new : Log) (mark : Option ℕ) (cached_nodes : List (Option CachedNode)) (seats : Seats) (places : List Bool)
+    (loaded : IsLoaded keeps_word found old mark cached_nodes seats places) (started : HasStarted keeps_word found cached_nodes seats mid new)
     (only : mid ≡ record old { is_down = mid.is_down }) (size : old.size ≡ found.sectors) (new_size : new.size ≡ mid.size) where
   base : mid.base ≡ old.base
   base = ap (λ (log : Log). log.base) only
@@ -39,52 +39,52 @@ module _ (keeps_word : Type 0) (found : Superblock) (old mid new : Log) (mark : 
   emptied : contents new ≡ new.base
   emptied = ap (λ (l : List (List Update)). applied_all l new.base) started.rests.listed
 
-  pub same_tree : keeps_word → tree_of (contents new) cards ≡ tree_of old.base cards
-  same_tree k = ∥∥₁_elim (started.serves k) (Tree-set (tree_of (contents new) cards) (tree_of old.base cards)) (λ serves.
-      ap (λ (image : Image). tree_of image cards) emptied
-      ∙ (ap (tree_of new.base) serves.read ∙ (sym serves.stands.stands.tree_is ∙ ap (λ (image : Image). tree_of image cards) base)))
+  pub same_tree : keeps_word → tree_of (contents new) cached_nodes ≡ tree_of old.base cached_nodes
+  same_tree k = ∥∥₁_elim (started.serves k) (Tree-set (tree_of (contents new) cached_nodes) (tree_of old.base cached_nodes)) (λ serves.
+      ap (λ (image : Image). tree_of image cached_nodes) emptied
+      ∙ (ap (tree_of new.base) serves.read ∙ (sym serves.stands.stands.tree_is ∙ ap (λ (image : Image). tree_of image cached_nodes) base)))
 
   -- the seats that were read are those of the sectors
   pub same_seats : keeps_word → seats_at (contents new) ≡ seats
   same_seats k = ∥∥₁_elim (started.serves k) (Seats-set (seats_at (contents new)) seats) (λ serves.
-      ap seats_at emptied ∙ now_told found.sectors found.nodes new.base (found.run + 1) (read_as mid.base cards seats) serves.stands)
+      ap seats_at emptied ∙ now_told found.sectors found.nodes new.base (found.run + 1) (read_as mid.base cached_nodes seats) serves.stands)
 
-  pub kept_read : keeps_word → kept_in_image (contents new) cards ≡ read_as old.base cards seats
-  kept_read k = same_kept (kept_in_image (contents new) cards) (read_as old.base cards seats) (same_tree k) (same_seats k)
+  pub kept_read : keeps_word → kept_in_image (contents new) cached_nodes ≡ read_as old.base cached_nodes seats
+  kept_read k = same_kept (kept_in_image (contents new) cached_nodes) (read_as old.base cached_nodes seats) (same_tree k) (same_seats k)
 
-  stands_base : keeps_word → ∥ StandsNow new.size found.nodes new.base (found.run + 1) (kept_in_image (contents new) cards) ∥₁
+  stands_base : keeps_word → ∥ StandsNow new.size found.nodes new.base (found.run + 1) (kept_in_image (contents new) cached_nodes) ∥₁
   stands_base k = ∥∥₁_map (started.serves k) (λ serves.
-      subst (λ (s : ℕ). StandsNow s found.nodes new.base (found.run + 1) (kept_in_image (contents new) cards)) now_size
+      subst (λ (s : ℕ). StandsNow s found.nodes new.base (found.run + 1) (kept_in_image (contents new) cached_nodes)) now_size
       (subst (StandsNow found.sectors found.nodes new.base (found.run + 1))
-      (ap (λ (image : Image). read_as image cards seats) base ∙ sym (kept_read k)) serves.stands))
+      (ap (λ (image : Image). read_as image cached_nodes seats) base ∙ sym (kept_read k)) serves.stands))
 
-  stands_there : keeps_word → ∥ StandsNow new.size found.nodes (contents new) (found.run + 1) (kept_in_image (contents new) cards) ∥₁
-  stands_there k = subst (λ (image : Image). ∥ StandsNow new.size found.nodes image (found.run + 1) (kept_in_image (contents new) cards) ∥₁) (sym emptied) (stands_base k)
+  stands_there : keeps_word → ∥ StandsNow new.size found.nodes (contents new) (found.run + 1) (kept_in_image (contents new) cached_nodes) ∥₁
+  stands_there k = subst (λ (image : Image). ∥ StandsNow new.size found.nodes image (found.run + 1) (kept_in_image (contents new) cached_nodes) ∥₁) (sym emptied) (stands_base k)
 
-  pub begun_serving : keeps_word → ∥ IsServing new found.nodes (found.run + 1) cards ∥₁
+  pub begun_serving : keeps_word → ∥ IsServing new found.nodes (found.run + 1) cached_nodes ∥₁
   begun_serving k = ∥∥₁_map (started.serves k) (λ serves. record {
-    read = serves.read ∙ ap (cards_in found.nodes) (sym emptied);
+    read = serves.read ∙ ap (cached_nodes_in found.nodes) (sym emptied);
     stands = stands_there k;
     settled = started.settled k;
   })
 
-  pub begun_stood : keeps_word → ∥ StandsOn found old.base (read_as old.base cards seats) ∥₁
+  pub begun_stood : keeps_word → ∥ StandsOn found old.base (read_as old.base cached_nodes seats) ∥₁
   begun_stood k = ∥∥₁_map (loaded.stood k) (λ stands.
-      stands_by found.version mark found.sectors found.nodes old.base found.run (read_as old.base cards seats) loaded.marked stands.may stands.keeps stands.stands)
+      stands_by found.version mark found.sectors found.nodes old.base found.run (read_as old.base cached_nodes seats) loaded.marked stands.may stands.keeps stands.stands)
 
   module _ (limits : Limits) (nodes : limits.nodes ≡ found.nodes) where
-    pub begun_holds : keeps_word → Holds (volume_state_by limits (found.run + 1) cards new)
-    begun_holds k = holds_base limits (found.run + 1) cards new started.rests.listed
-        (subst (λ (n : ℕ). ∥ StandsAs new.size n (contents new) (found.run + 1) (kept_in_image (contents new) cards) ∥₁) (sym nodes)
-        (∥∥₁_map (stands_there k) (stands_now new.size found.nodes (contents new) (found.run + 1) (kept_in_image (contents new) cards))))
+    pub begun_holds : keeps_word → Holds (volume_state_by limits (found.run + 1) cached_nodes new)
+    begun_holds k = holds_base limits (found.run + 1) cached_nodes new started.rests.listed
+        (subst (λ (n : ℕ). ∥ StandsAs new.size n (contents new) (found.run + 1) (kept_in_image (contents new) cached_nodes) ∥₁) (sym nodes)
+        (∥∥₁_map (stands_there k) (stands_now new.size found.nodes (contents new) (found.run + 1) (kept_in_image (contents new) cached_nodes))))
         started.rests.placed (started.settled k)
 
     pub begun_current : keeps_word
-        → LeavesCurrent (volume_state_by limits (found.run + 1) cards new)
+        → LeavesCurrent (volume_state_by limits (found.run + 1) cached_nodes new)
     begun_current k image left = ∥∥₁_map (stands_base k) (λ stands. (
       new.base,
       settles_placed new.area new.size image new.base started.rests.placed (started.settled k image left),
-      subst (λ (n : ℕ). StandsNow new.size n new.base (found.run + 1) (kept_in_image (contents new) cards)) (sym nodes) stands,
+      subst (λ (n : ℕ). StandsNow new.size n new.base (found.run + 1) (kept_in_image (contents new) cached_nodes)) (sym nodes) stands,
     ))
 
 pub raised_from : (found : Superblock) (old mid : Log) (new : History) → mid ≡ record old { is_down = mid.is_down }

@@ -13,7 +13,7 @@ use Rattle.tree_transaction.specs.declared.transaction.PreparedTransaction.{Prep
 use Rattle.tree_transaction.proofs.UpdateLaws.{applied-other}
 use Rattle.tree_edits.specs.declared.edit.Edit.{Edit}
 use Rattle.tree_edits.specs.Edits.{edits_of}
-use Rattle.tree_edits.specs.Outcomes.{ComesTo, IsWholeVolume, LaysEditedTree, cards_after, end_by}
+use Rattle.tree_edits.specs.Outcomes.{ComesTo, IsWholeVolume, LaysEditedTree, cached_nodes_after, end_by}
 use Rattle.tree_edits.specs.Outlines.{without_data, tree_without_data}
 use Rattle.tree_edits.proofs.BlankLaws.{each_outline}
 use Rattle.tree_edits.proofs.PlaceLaws.{there_at}
@@ -21,14 +21,14 @@ use Rattle.journal.specs.Layout as journal
 use Rattle.journal.specs.Layout.{targets}
 use Rattle.journal.specs.Log.{Log, contents}
 use Rattle.journal.proofs.Images.{length-targets}
-use Rattle.layout.specs.CachedNodes.{CachedNode, tree_of, cards_in}
-use Rattle.layout.specs.Known.{AreCards}
+use Rattle.layout.specs.CachedNodes.{CachedNode, tree_of, cached_nodes_in}
+use Rattle.layout.specs.Known.{AreCached}
 use Rattle.layout.specs.Laid.{AreNumbered}
 use Rattle.layout.specs.Marks.{mark_by}
 use Rattle.layout.specs.declared.versions.Marking.TheVariants.{InSectors}
 use Rattle.layout.specs.Stands.{IsLaid, Kept, StandsNow, current_version, seats_at}
 use Rattle.layout.specs.Superblock.{is_size}
-use Rattle.layout.proofs.CachedNodeLaws.{cards-back, only_cards}
+use Rattle.layout.proofs.CachedNodeLaws.{cached_nodes-back, only_cached_nodes}
 use Rattle.layout.proofs.FirstLaws.{sized_parts}
 use Rattle.model_tree.specs.declared.limits.Limits.{Limits}
 use Rattle.model_tree.specs.Trees.Charge.{fits}
@@ -89,24 +89,24 @@ StandsWith-prop nodes run old updates is after = Prim.hlevel (props, ∥∥₁_p
 
 -- the volume that memory keeps is a whole one
 
-pub whole_now : {sectors nodes : ℕ} {cards : List (Option CachedNode)} {places : List Bool} → AreKnownNodes sectors nodes cards places → sectors ≡ end_by cards places
-whole_now known = omega (arith, known.whole, known.are_cards.count)
+pub whole_now : {sectors nodes : ℕ} {cached_nodes : List (Option CachedNode)} {places : List Bool} → AreKnownNodes sectors nodes cached_nodes places → sectors ≡ end_by cached_nodes places
+whole_now known = omega (arith, known.whole, known.are_cached_nodes.count)
 
-pub whole_volume : (sectors nodes : ℕ) (cards : List (Option CachedNode)) (places : List Bool) → IsTrue (is_size sectors nodes) → AreKnownNodes sectors nodes cards places
-    → IsWholeVolume InSectors sectors cards places
-whole_volume sectors nodes cards places size known =
+pub whole_volume : (sectors nodes : ℕ) (cached_nodes : List (Option CachedNode)) (places : List Bool) → IsTrue (is_size sectors nodes) → AreKnownNodes sectors nodes cached_nodes places
+    → IsWholeVolume InSectors sectors cached_nodes places
+whole_volume sectors nodes cached_nodes places size known =
     let parts = sized_parts sectors nodes size in
     record {
-      cards = subst (λ (n : ℕ). AreCards n (mark_by (148 + n) places) cards) (sym known.are_cards.count) known.are_cards;
+      cached_nodes = subst (λ (n : ℕ). AreCached n (mark_by (148 + n) places) cached_nodes) (sym known.are_cached_nodes.count) known.are_cached_nodes;
       forms = known.forms;
       within = omega (arith, whole_now known);
       small = omega (arith, parts.most);
       few = λ in_sectors. omega (arith, parts.most, known.whole);
     }
 
-module _ (word : Type 0) (k : word) (nodes run : ℕ) (log : Log) (cards : List (Option CachedNode)) (places : List Bool) (edits : List Edit) (outcome : PreparedTransaction)
-    (count : length cards ≡ nodes) (whole : log.size ≡ end_by cards places) (comes : ComesTo word InSectors (contents log) log.size cards places edits outcome)
-    (formed : IsFormed (limits_of log.size nodes) (stamp (run + 1) 0) (edited (edits_of edits) (tree_of (contents log) cards))) where
+module _ (word : Type 0) (k : word) (nodes run : ℕ) (log : Log) (cached_nodes : List (Option CachedNode)) (places : List Bool) (edits : List Edit) (outcome : PreparedTransaction)
+    (count : length cached_nodes ≡ nodes) (whole : log.size ≡ end_by cached_nodes places) (comes : ComesTo word InSectors (contents log) log.size cached_nodes places edits outcome)
+    (formed : IsFormed (limits_of log.size nodes) (stamp (run + 1) 0) (edited (edits_of edits) (tree_of (contents log) cached_nodes))) where
   abbrev image : Image
   image = contents log
 
@@ -114,36 +114,36 @@ module _ (word : Type 0) (k : word) (nodes run : ℕ) (log : Log) (cards : List 
   now = applied outcome.updates.items image
 
   abbrev is : List (Option CachedNode)
-  is = cards_after cards outcome
+  is = cached_nodes_after cached_nodes outcome
 
   abbrev after : Tree
-  after = edited (edits_of edits) (tree_of image cards)
+  after = edited (edits_of edits) (tree_of image cached_nodes)
 
   abbrev seats : Seats
   seats = seats_at image
 
-  behind_stands : cards ≡ cards_in nodes image → StandsNow log.size nodes image run (kept_in_image image cards) → StandsWith nodes run log outcome.updates.items is (seated log after)
+  behind_stands : cached_nodes ≡ cached_nodes_in nodes image → StandsNow log.size nodes image run (kept_in_image image cached_nodes) → StandsWith nodes run log outcome.updates.items is (seated log after)
   behind_stands read stood =
       let stands = stood.stands in
-      let here : IsLaid (current_version seats) log.size (length cards) image cards = subst (λ (n : ℕ). IsLaid (current_version seats) log.size n image cards) (sym count)
+      let here : IsLaid (current_version seats) log.size (length cached_nodes) image cached_nodes = subst (λ (n : ℕ). IsLaid (current_version seats) log.size n image cached_nodes) (sym count)
       (subst (IsLaid (current_version seats) log.size nodes image) (sym read) stands.laid) in
-      let lays : LaysEditedTree (current_version seats) image log.size cards edits outcome = comes.lays k (current_version seats) (record { forms = λ place. refl; marks = refl; end_is = whole }) here in
+      let lays : LaysEditedTree (current_version seats) image log.size cached_nodes edits outcome = comes.lays k (current_version seats) (record { forms = λ place. refl; marks = refl; end_is = whole }) here in
       let laid : IsLaid (current_version seats) log.size nodes now is = subst (λ (n : ℕ). IsLaid (current_version seats) log.size n now is) count lays.laid in
-      let back : cards_in nodes now ≡ is = cards-back now nodes is laid.laid.count laid.laid.held in
+      let back : cached_nodes_in nodes now ≡ is = cached_nodes-back now nodes is laid.laid.count laid.laid.held in
       record {
         read = sym back;
         tree = lays.tree_is;
         stands = ∥∥₁_elim stands.well_formed ∥∥₁_prop (λ well.
             let both = formed_sound (limits_of log.size nodes) (stamp (run + 1) 0) after formed
-            (edited_bytes edits comes.bytes (tree_of image cards) (well_formed_bytes (limits_of log.size nodes) (tree_of image cards) well)) in
+            (edited_bytes edits comes.bytes (tree_of image cached_nodes) (well_formed_bytes (limits_of log.size nodes) (tree_of image cached_nodes) well)) in
             ∣ record {
               keeps = stood.keeps;
               stands = record {
                 sized = stands.sized;
                 region = stands.region;
                 counted = stands.counted;
-                first = applied-other outcome.updates.items image 0 (not_first (end_by cards places) outcome.updates.items comes.targets) ∙ stands.first;
-                laid = only_cards (current_version seats) log.size nodes now is laid;
+                first = applied-other outcome.updates.items image 0 (not_first (end_by cached_nodes places) outcome.updates.items comes.targets) ∙ stands.first;
+                laid = only_cached_nodes (current_version seats) log.size nodes now is laid;
                 tree_is = sym lays.tree_is ∙ ap (tree_of now) (sym back);
                 well_formed = both.0;
                 before = both.1;
@@ -151,18 +151,18 @@ module _ (word : Type 0) (k : word) (nodes run : ℕ) (log : Log) (cards : List 
             } ∣₁);
       }
 
-  pub behind_serving : ∥ IsServing log nodes run cards ∥₁ → StandsWith nodes run log outcome.updates.items is (seated log after)
+  pub behind_serving : ∥ IsServing log nodes run cached_nodes ∥₁ → StandsWith nodes run log outcome.updates.items is (seated log after)
   behind_serving serving = ∥∥₁_elim serving (StandsWith-prop nodes run log outcome.updates.items is (seated log after)) (λ served.
       ∥∥₁_elim served.stands (StandsWith-prop nodes run log outcome.updates.items is (seated log after)) (λ stands. behind_stands served.read stands))
 
 -- What memory keeps after it
 
-pub own_places : (cards : List (Option CachedNode)) → AreNumbered cards → HaveOwnPlaces cards
-own_places cards apart place other number here there = elim (cases_eq place other) [
+pub own_places : (cached_nodes : List (Option CachedNode)) → AreNumbered cached_nodes → HaveOwnPlaces cached_nodes
+own_places cached_nodes apart place other number here there = elim (cases_eq place other) [
   | inl same ↦ same
   | inr off ↦
-      let one = there_at cards place number here in
-      let two = there_at cards other number there in
+      let one = there_at cached_nodes place number here in
+      let two = there_at cached_nodes other number there in
       absurd (apart place other one.cached two.cached off one.there two.there (one.number_is ∙ sym two.number_is))
 ]
 
@@ -176,38 +176,38 @@ formed_alike limits at tree other alike formed = record {
   before = subst (IsBefore at) (sym alike) formed.before;
 }
 
-module _ (word : Type 0) (limits : Limits) (run : ℕ) (log : Log) (cards : List (Option CachedNode)) (places : List Bool) (edits : List Edit) (outcome : PreparedTransaction)
-    (change : IsChange (volume_state_by limits run cards log) edits) (known : AreKnownNodes log.size limits.nodes cards places)
-    (comes : ComesTo word InSectors (contents log) log.size cards places edits outcome) where
+module _ (word : Type 0) (limits : Limits) (run : ℕ) (log : Log) (cached_nodes : List (Option CachedNode)) (places : List Bool) (edits : List Edit) (outcome : PreparedTransaction)
+    (change : IsChange (volume_state_by limits run cached_nodes log) edits) (known : AreKnownNodes log.size limits.nodes cached_nodes places)
+    (comes : ComesTo word InSectors (contents log) log.size cached_nodes places edits outcome) where
   abbrev held : VolumeState
-  held = volume_state_by limits run cards log
+  held = volume_state_by limits run cached_nodes log
 
   abbrev new : List (Option CachedNode)
-  new = cards_after cards outcome
+  new = cached_nodes_after cached_nodes outcome
 
   -- all of the tree after the edits but the bytes of files
   pub outline_after : (image : Image)
       → without_data (tree_of image new) ≡ without_data (edited_by held edits)
   outline_after image = each_outline image new ∙ comes.outline
-      ∙ edited_alike (edits_of edits) held.tree (tree_without_data cards) (outline_alike (contents log) cards)
+      ∙ edited_alike (edits_of edits) held.tree (tree_without_data cached_nodes) (outline_alike (contents log) cached_nodes)
 
   pub formed_after : IsTrue (fits limits (edited_by held edits)) → IsFormed limits (stamp (run + 1) 0) (tree_without_data new)
   formed_after fit = formed_alike limits (stamp (run + 1) 0) (edited_by held edits) (tree_without_data new) (outline_after (λ n. [])) (change.formed fit)
 
   pub known_after : AreKnownNodes log.size limits.nodes new outcome.places
   known_after = record {
-    are_cards = subst (λ (n : ℕ). AreCards n (mark_by (148 + n) outcome.places) new) known.are_cards.count comes.cards;
+    are_cached_nodes = subst (λ (n : ℕ). AreCached n (mark_by (148 + n) outcome.places) new) known.are_cached_nodes.count comes.cached_nodes;
     forms = comes.forms;
     whole = omega (arith, known.whole, comes.as_many);
   }
 
-  pub may_settle : CanBecome cards new
-  may_settle = can_settle held edits change (contents log) cards new refl comes.made limits.nodes (mark_by (148 + limits.nodes) places)
-      (mark_by (148 + limits.nodes) outcome.places) known.are_cards known_after.are_cards (own_places new comes.cards.apart)
+  pub may_settle : CanBecome cached_nodes new
+  may_settle = can_settle held edits change (contents log) cached_nodes new refl comes.made limits.nodes (mark_by (148 + limits.nodes) places)
+      (mark_by (148 + limits.nodes) outcome.places) known.are_cached_nodes known_after.are_cached_nodes (own_places new comes.cached_nodes.apart)
 
   -- the parents in memory are those of the cached nodes after it
   pub parents_behind : limits ≡ limits_of log.size limits.nodes → IsTrue (fits limits (edited_by held edits)) → (parents behind : List ℕ)
-      → AreParents cards parents → PutsParent new parents behind (put_by edits) → AreParents new behind
+      → AreParents cached_nodes parents → PutsParent new parents behind (put_by edits) → AreParents new behind
   parents_behind limited fit parents behind are puts =
-      parents_after held edits change (contents log) limits.nodes (mark_by (148 + limits.nodes) places) (mark_by (148 + limits.nodes) outcome.places) cards new refl
-      known.are_cards known_after.are_cards comes.made comes.outline limits (names_most log.size limits.nodes limits limited) (stamp (run + 1) 0) (formed_after fit) parents are behind puts
+      parents_after held edits change (contents log) limits.nodes (mark_by (148 + limits.nodes) places) (mark_by (148 + limits.nodes) outcome.places) cached_nodes new refl
+      known.are_cached_nodes known_after.are_cached_nodes comes.made comes.outline limits (names_most log.size limits.nodes limits limited) (stamp (run + 1) 0) (formed_after fit) parents are behind puts

@@ -3,7 +3,7 @@ use Rattle.std.proofs.Common.{◌≡◌, ◌≢◌, ◌<◌, ◌≤◌, ◌⊎�
 use Rattle.std.proofs.Math.Logic.{∥∥₁_map}
 use Rattle.disk.specs.Cause.{IsCounted}
 use Rattle.disk.specs.Moments.{Image, History, seen}
-use Rattle.journal.specs.Layout.{in_front}
+use Rattle.journal.specs.Layout.{log_at_start}
 use Rattle.journal.specs.Log.{Log}
 use Rattle.journal.specs.Settled.{Settles}
 use Rattle.journal.specs.Viewed.{HasNoForm, HasViewed}
@@ -27,7 +27,7 @@ use Rattle.volume.specs.declared.fault.MountFault.TheVariants as mounts
 use Rattle.volume.specs.declared.mount.Superblock.{Superblock}
 use Rattle.volume.specs.declared.superblock.Verdict.TheVariants as verdicts
 use Rattle.volume.proofs.FirstLaws.{not_volume_on_few}
-use Rattle.volume.proofs.FoundLaws.{found_stands, is_volume_there, spelled}
+use Rattle.volume.proofs.FoundLaws.{found_stands, is_volume_there, encoded}
 
 -- what a check that is refused says by its fault
 pub check_refused : {D : Type 0} (keeps_word : Type 0) (size failed : D → ℕ) (history : D → History) (old new : D) (fault : MountFault)
@@ -55,14 +55,14 @@ first_seen sectors sector fault few only = ⊎_elim
 -- refused because of the first sector
 pub look_fails : (sectors : ℕ) (old : History) (fault : MountFault) → IsSeen sectors (seen old.now 0) (Err fault) → FailsCheck sectors old fault
 look_fails sectors old mounts.NotVolume is = (is, λ nodes run kept base. is_volume_there sectors nodes run kept (seen old.now) base is)
-look_fails sectors old mounts.Damaged is = (is.0, λ nodes run kept base. is.1 (spelled sectors nodes run kept (seen old.now) base))
+look_fails sectors old mounts.Damaged is = (is.0, λ nodes run kept base. is.1 (encoded sectors nodes run kept (seen old.now) base))
 look_fails sectors old mounts.Worn is = absurd is
 look_fails sectors old mounts.Memory is = absurd is
 look_fails sectors old mounts.Device is = tt
 
 -- refused at the commit record
 pub gate_fails : (sectors : ℕ) (old : History) (fault : JournalFault) → first_verdict sectors old ≢ verdicts.NotVolume
-    → (fault ≡ journals.Damaged → HasNoForm (in_front sectors) old) → FailsCheck sectors old (gate_fault fault)
+    → (fault ≡ journals.Damaged → HasNoForm (log_at_start sectors) old) → FailsCheck sectors old (gate_fault fault)
 gate_fails sectors old journals.Memory volume damaged = tt
 gate_fails sectors old journals.Damaged volume damaged = (volume, λ nodes run kept base. damaged refl base.base base.settles)
 gate_fails sectors old journals.Fault volume damaged = tt
@@ -70,16 +70,16 @@ gate_fails sectors old journals.TooMany volume damaged = tt
 gate_fails sectors old journals.Down volume damaged = tt
 
 -- what is viewed of a volume
-pub view_holds : (sectors : ℕ) (old : History) (log : Log) (found : Superblock) → 0 < sectors → HasViewed (in_front sectors) old log → log.size ≡ sectors
+pub view_holds : (sectors : ℕ) (old : History) (log : Log) (found : Superblock) → 0 < sectors → HasViewed (log_at_start sectors) old log → log.size ≡ sectors
     → seen old.now 0 ≡ superblock found.version found.sectors found.nodes found.run → HoldsVolume found log.size log.base
 view_holds sectors old log found some viewed size first = record {
-  first = first_kept (in_front sectors) (seen old.now) log.base some viewed.base ∙ first;
+  first = first_kept (log_at_start sectors) (seen old.now) log.base some viewed.base ∙ first;
   sectors = λ n within. viewed.sectors n within;
 }
 
 module _ (sectors : ℕ) (old : History) (found : Superblock) (base : Image) (sectors_is : found.sectors ≡ sectors) (few : found.nodes < 2 ^ 32) (counted : found.run < 2 ^ 32)
     (volume : first_verdict sectors old ≢ verdicts.NotVolume) (first : seen old.now 0 ≡ superblock found.version found.sectors found.nodes found.run)
-    (settles : Settles (in_front sectors) (seen old.now) base) where
+    (settles : Settles (log_at_start sectors) (seen old.now) base) where
   -- refused because of its nodes
   pub nodes_fail : (fault : MountFault) → (fault ≡ mounts.Damaged → (kept : Kept) → StandsOn found base kept → ⊥)
       → (fault ≡ mounts.Device) ⊎ ((fault ≡ mounts.Damaged) ⊎ (fault ≡ mounts.Memory)) → FailsCheck sectors old fault
@@ -96,18 +96,18 @@ module _ (sectors : ℕ) (old : History) (found : Superblock) (base : Image) (se
       only
 
   -- the volume holds the tree of its nodes
-  pub has_checked : (keeps_word : Type 0) → keeps_word → (mark : Option ℕ) (cards : List (Option CachedNode)) (seats : Seats) (places : List Bool) → AreLoaded keeps_word found base mark cards seats places
+  pub has_checked : (keeps_word : Type 0) → keeps_word → (mark : Option ℕ) (cached_nodes : List (Option CachedNode)) (seats : Seats) (places : List Bool) → AreLoaded keeps_word found base mark cached_nodes seats places
       → (checked : Checked) → checked.sectors ≡ found.sectors → checked.nodes ≡ found.nodes → checked.count ≡ found.run → HasChecked sectors old checked
-  has_checked keeps_word k mark cards seats places loaded checked same_sectors same_nodes same_run = record {
+  has_checked keeps_word k mark cached_nodes seats places loaded checked same_sectors same_nodes same_run = record {
     first = volume;
     sectors_are = same_sectors ∙ sectors_is;
-    kept = read_as base cards seats;
-    stands = subst (λ (n : ℕ). StandsFor sectors n checked.count (read_as base cards seats) (seen old.now)) (sym same_nodes)
-        (subst (λ (r : ℕ). StandsFor sectors found.nodes r (read_as base cards seats) (seen old.now)) (sym same_run)
+    kept = read_as base cached_nodes seats;
+    stands = subst (λ (n : ℕ). StandsFor sectors n checked.count (read_as base cached_nodes seats) (seen old.now)) (sym same_nodes)
+        (subst (λ (r : ℕ). StandsFor sectors found.nodes r (read_as base cached_nodes seats) (seen old.now)) (sym same_run)
         (∥∥₁_map (loaded.stood k) (λ stands. record {
           base = base;
           settles = settles;
-          stands = subst (λ (s : ℕ). VolumeStands s found.nodes base found.run (read_as base cards seats)) sectors_is
-              (stands_by found.version mark found.sectors found.nodes base found.run (read_as base cards seats) loaded.marked stands.may stands.keeps stands.stands);
+          stands = subst (λ (s : ℕ). VolumeStands s found.nodes base found.run (read_as base cached_nodes seats)) sectors_is
+              (stands_by found.version mark found.sectors found.nodes base found.run (read_as base cached_nodes seats) loaded.marked stands.may stands.keeps stands.stands);
         })));
   }

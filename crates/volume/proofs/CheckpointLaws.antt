@@ -5,50 +5,50 @@ use Rattle.std.specs.List.{IsAmong}
 use Rattle.disk.specs.declared.update.Update.{Update}
 use Rattle.disk.specs.Moments.{Image, applied, moment}
 use Rattle.journal.specs.Calls.{IsSafe, HasCheckpointed}
-use Rattle.journal.specs.Layout.{in_front}
+use Rattle.journal.specs.Layout.{log_at_start}
 use Rattle.journal.specs.Log.{Log}
 use Rattle.journal.specs.Settled.{AreSame}
-use Rattle.journal.proofs.Fronts.{applied_keeps}
+use Rattle.journal.proofs.Prefixes.{applied_keeps}
 use Rattle.layout.specs.CachedNodes.{CachedNode}
 use Rattle.layout.specs.Stands.{Kept}
 use Rattle.layout.proofs.KeptLaws.{same_kept}
 use Rattle.model_tree.specs.declared.limits.Limits.{Limits}
 use Rattle.volume.specs.Changes.{Done, Stays, VolumeChanges}
-use Rattle.volume.specs.VolumeState.{VolumeState, KeepsRecent, fronts_from, kept_of}
+use Rattle.volume.specs.VolumeState.{VolumeState, KeepsRecent, prefixes_from, kept_of}
 use Rattle.volume.specs.Known.{IsServing}
 use Rattle.volume.specs.Stands.{VolumeStands}
 use Rattle.volume.specs.Views.{volume_state_by}
-use Rattle.volume.proofs.FrontLaws.{among_more, among_rest, front_among}
+use Rattle.volume.proofs.PrefixLaws.{among_more, among_rest, prefix_among}
 use Rattle.volume.proofs.OneTree.{Seats-set, Tree-set}
-use Rattle.volume.proofs.ServeLaws.{among_one, few_for_call, few_in_front, flush_adds, seats_stay, tree_stays}
+use Rattle.volume.proofs.ServeLaws.{among_one, few_for_call, few_at_start, flush_adds, seats_stay, tree_stays}
 use Rattle.volume.proofs.StandLaws.{placed_on, same_placed, settles_placed, stands_same}
 
 -- each of the moved base's fronts has the sectors of one of the old base's
-front_same : (size : ℕ) (base moved : Image) (list : List (List Update)) (front : Image) → AreSame size base moved → IsAmong (fronts_from moved list) front
-    → (other : Image) × IsAmong (fronts_from base list) other × AreSame size other front
-front_same size base moved [] front same among =
-    (base, (0, (omega arith, refl)), λ n kept. same n kept ∙ ap (λ (image : Image). image n) (sym (among_one moved front among)))
-front_same size base moved (updates ∷ list) front same among = ⊎_elim
-    (λ (first : front ≡ moved). (base, (0, (omega arith, refl)), λ n kept. same n kept ∙ ap (λ (image : Image). image n) (sym first)))
-    (λ (rest : IsAmong (fronts_from (applied updates moved) list) front).
-    let there = front_same size (applied updates base) (applied updates moved) list front (applied_keeps size updates base moved same) rest in
-    (there.0, among_rest base (fronts_from (applied updates base) list) there.0 there.1, there.2))
-    (among_more moved (fronts_from (applied updates moved) list) front among)
+prefix_same : (size : ℕ) (base moved : Image) (list : List (List Update)) (prefix : Image) → AreSame size base moved → IsAmong (prefixes_from moved list) prefix
+    → (other : Image) × IsAmong (prefixes_from base list) other × AreSame size other prefix
+prefix_same size base moved [] prefix same among =
+    (base, (0, (omega arith, refl)), λ n kept. same n kept ∙ ap (λ (image : Image). image n) (sym (among_one moved prefix among)))
+prefix_same size base moved (updates ∷ list) prefix same among = ⊎_elim
+    (λ (first : prefix ≡ moved). (base, (0, (omega arith, refl)), λ n kept. same n kept ∙ ap (λ (image : Image). image n) (sym first)))
+    (λ (rest : IsAmong (prefixes_from (applied updates moved) list) prefix).
+    let there = prefix_same size (applied updates base) (applied updates moved) list prefix (applied_keeps size updates base moved same) rest in
+    (there.0, among_rest base (prefixes_from (applied updates base) list) there.0 there.1, there.2))
+    (among_more moved (prefixes_from (applied updates moved) list) prefix among)
 
-module _ (keeps_word : Type 0) (limits : Limits) (run : ℕ) (cards : List (Option CachedNode)) (shown : List ℕ) (old new : Log)
-    (safe : IsSafe keeps_word old new) (placed : old.area ≡ in_front old.size) (listed : new.list ≡ old.list) (up : new.is_down ≡ false) (done : HasCheckpointed keeps_word shown old new)
-    (serves : keeps_word → ∥ IsServing old limits.nodes run cards ∥₁) where
+module _ (keeps_word : Type 0) (limits : Limits) (run : ℕ) (cached_nodes : List (Option CachedNode)) (shown : List ℕ) (old new : Log)
+    (safe : IsSafe keeps_word old new) (placed : old.area ≡ log_at_start old.size) (listed : new.list ≡ old.list) (up : new.is_down ≡ false) (done : HasCheckpointed keeps_word shown old new)
+    (serves : keeps_word → ∥ IsServing old limits.nodes run cached_nodes ∥₁) where
   abbrev was : VolumeState
-  was = volume_state_by limits run cards old
+  was = volume_state_by limits run cached_nodes old
 
   abbrev is : VolumeState
-  is = volume_state_by limits run cards new
+  is = volume_state_by limits run cached_nodes new
 
   pub checkpoint_keeps : keeps_word → is.tree ≡ was.tree
-  checkpoint_keeps k = ∥∥₁_elim (serves k) (Tree-set is.tree was.tree) (tree_stays limits.nodes run cards old new (same_placed old.area old.size _ _ placed (done.contents k)))
+  checkpoint_keeps k = ∥∥₁_elim (serves k) (Tree-set is.tree was.tree) (tree_stays limits.nodes run cached_nodes old new (same_placed old.area old.size _ _ placed (done.contents k)))
 
   pub checkpoint_seats : keeps_word → is.seats ≡ was.seats
-  checkpoint_seats k = ∥∥₁_elim (serves k) (Seats-set is.seats was.seats) (seats_stay limits.nodes run cards old new (same_placed old.area old.size _ _ placed (done.contents k)))
+  checkpoint_seats k = ∥∥₁_elim (serves k) (Seats-set is.seats was.seats) (seats_stay limits.nodes run cached_nodes old new (same_placed old.area old.size _ _ placed (done.contents k)))
 
   -- if the old base holds a tree, so does the new one
   stands_on : (a b : Image) (kept : Kept) → AreSame old.size a b → VolumeStands old.size limits.nodes a run kept → VolumeStands new.size limits.nodes b run kept
@@ -60,7 +60,7 @@ module _ (keeps_word : Type 0) (limits : Limits) (run : ℕ) (cards : List (Opti
 
   pub checkpoint_recent : keeps_word → KeepsRecent was is
   checkpoint_recent k recent ready =
-      let first = ready.covers old.base (front_among old.base old.list 0 (omega arith)) in
+      let first = ready.covers old.base (prefix_among old.base old.list 0 (omega arith)) in
       record {
         leaves = λ image left. (
           first.0,
@@ -71,13 +71,13 @@ module _ (keeps_word : Type 0) (limits : Limits) (run : ℕ) (cards : List (Opti
             stands = stands_on old.base new.base first.0 (same_placed old.area old.size _ _ placed (done.base k)) stands;
           }),
         );
-        covers = λ front among.
-            let there = front_same old.size old.base new.base old.list front (same_placed old.area old.size _ _ placed (done.base k))
-            (subst (λ (list : List (List Update)). IsAmong (fronts_from new.base list) front) listed among) in
+        covers = λ prefix among.
+            let there = prefix_same old.size old.base new.base old.list prefix (same_placed old.area old.size _ _ placed (done.base k))
+            (subst (λ (list : List (List Update)). IsAmong (prefixes_from new.base list) prefix) listed among) in
             let covered = ready.covers there.0 there.1 in (
               covered.0,
               covered.1,
-              ∥∥₁_map covered.2 (λ stands. stands_on there.0 front covered.0 there.2 stands),
+              ∥∥₁_map covered.2 (λ stands. stands_on there.0 prefix covered.0 there.2 stands),
             );
         newest = subst (λ (kept : Kept). IsAmong recent kept) (sym (checkpoint_kept k)) ready.newest;
       }
@@ -87,8 +87,8 @@ module _ (keeps_word : Type 0) (limits : Limits) (run : ℕ) (cards : List (Opti
     same = record { sectors = safe.size; limits = refl; run = refl };
     later = later;
     none = λ other. told;
-    moments = λ k kept lasts given. flush_adds limits run cards old new kept placed (safe.moments k);
-    brief = λ k. few_for_call (moment old.history) (moment new.history) (few_in_front old.area old.size (moment old.history) (moment new.history) placed (safe.brief k));
+    moments = λ k kept lasts given. flush_adds limits run cached_nodes old new kept placed (safe.moments k);
+    brief = λ k. few_for_call (moment old.history) (moment new.history) (few_at_start old.area old.size (moment old.history) (moment new.history) placed (safe.brief k));
     ends = record {
       still_up = up;
       seats = λ k kept lasts given. checkpoint_seats k ∙ sym (ap (λ (of : Kept). of.seats) given.0);

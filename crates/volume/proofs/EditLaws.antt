@@ -15,9 +15,9 @@ use Rattle.tree_edits.proofs.DoableLaws.{doable_alike, few_alike}
 use Rattle.tree_edits.proofs.DoingLaws.{outline_fixed}
 use Rattle.tree_edits.proofs.PlaceLaws.{there_at}
 use Rattle.tree_edits.proofs.FitLaws.{fits-without_data}
-use Rattle.tree_transaction.proofs.KnownLaws.{card_at}
+use Rattle.tree_transaction.proofs.KnownLaws.{cached_at}
 use Rattle.layout.specs.CachedNodes.{CachedNode, tree_of}
-use Rattle.layout.specs.Known.{AreCards}
+use Rattle.layout.specs.Known.{AreCached}
 use Rattle.layout.specs.Laid.{AreNumbered}
 use Rattle.layout.proofs.Answering.{tree-has}
 use Rattle.model_tree.specs.declared.limits.Limits.{Limits}
@@ -28,7 +28,7 @@ use Rattle.model_tree.specs.Trees.Keyed.{at, total}
 use Rattle.model_tree.specs.Trees.Limits.{limits_of}
 use Rattle.model_tree.specs.Trees.Tree.{Tree}
 use Rattle.directory.specs.declared.names.TheConstants.Names.{MAX_NAMES}
-use Rattle.volume.specs.Edits.{edited_by, front_of, named_by, IsChange}
+use Rattle.volume.specs.Edits.{edited_by, prefix_of, named_by, IsChange}
 use Rattle.volume.specs.VolumeState.{VolumeState}
 
 -- Trees that are blanked alike are edited alike and fit alike
@@ -40,14 +40,14 @@ pub fits_alike : (limits : Limits) (tree other : Tree) → without_data other �
 fits_alike limits tree other alike = sym (fits-without_data limits other) ∙ ap (fits limits) alike ∙ fits-without_data limits tree
 
 -- all trees of these cached nodes are blanked alike
-pub outline_alike : (image : Image) (cards : List (Option CachedNode)) → without_data (tree_without_data cards) ≡ without_data (tree_of image cards)
-outline_alike image cards = outline_fixed cards ∙ sym (each_outline image cards)
+pub outline_alike : (image : Image) (cached_nodes : List (Option CachedNode)) → without_data (tree_without_data cached_nodes) ≡ without_data (tree_of image cached_nodes)
+outline_alike image cached_nodes = outline_fixed cached_nodes ∙ sym (each_outline image cached_nodes)
 
 -- the cached nodes determine whether the tree after edits fits
-pub fits_outline : (limits : Limits) (edits : List model.Edit) (image : Image) (cards : List (Option CachedNode))
-    → fits limits (edited edits (tree_without_data cards)) ≡ fits limits (edited edits (tree_of image cards))
-fits_outline limits edits image cards = fits_alike limits (edited edits (tree_of image cards)) (edited edits (tree_without_data cards))
-    (edited_alike edits (tree_of image cards) (tree_without_data cards) (outline_alike image cards))
+pub fits_outline : (limits : Limits) (edits : List model.Edit) (image : Image) (cached_nodes : List (Option CachedNode))
+    → fits limits (edited edits (tree_without_data cached_nodes)) ≡ fits limits (edited edits (tree_of image cached_nodes))
+fits_outline limits edits image cached_nodes = fits_alike limits (edited edits (tree_of image cached_nodes)) (edited edits (tree_without_data cached_nodes))
+    (edited_alike edits (tree_of image cached_nodes) (tree_without_data cached_nodes) (outline_alike image cached_nodes))
 
 -- What a tree that fits has
 
@@ -67,12 +67,12 @@ fit_parts limits tree fit =
       few = both.1;
     }
 
-few_fronts : (limits : Limits) → limits.names ≡ MAX_NAMES → (edits : List Edit) (tree : Tree)
+few_prefixes : (limits : Limits) → limits.names ≡ MAX_NAMES → (edits : List Edit) (tree : Tree)
     → ((count : ℕ) → IsTrue (fits limits (edited (take count (edits_of edits)) tree))) → StayFew tree edits
-few_fronts limits names [] tree fronts = tt
-few_fronts limits names (edit ∷ edits) tree fronts = (
-  subst (λ (most : ℕ). IsTrue (few_names most (done (edit_of edit) tree))) names (first (edits_of edits) (fronts 1)),
-  few_fronts limits names edits (done (edit_of edit) tree) (λ count. fronts (suc count)),
+few_prefixes limits names [] tree prefixes = tt
+few_prefixes limits names (edit ∷ edits) tree prefixes = (
+  subst (λ (most : ℕ). IsTrue (few_names most (done (edit_of edit) tree))) names (first (edits_of edits) (prefixes 1)),
+  few_prefixes limits names edits (done (edit_of edit) tree) (λ count. prefixes (suc count)),
 )
   where
     first : (rest : List model.Edit) → IsTrue (fits limits (edited (take 1 (edit_of edit ∷ rest)) tree)) → IsTrue (few_names limits.names (done (edit_of edit) tree))
@@ -80,32 +80,32 @@ few_fronts limits names (edit ∷ edits) tree fronts = (
 
 -- A change over the cached nodes of a volume
 
-module _ (held : VolumeState) (edits : List Edit) (change : IsChange held edits) (image : Image) (cards : List (Option CachedNode)) (tree_is : held.tree ≡ tree_of image cards) where
-  pub outline_held : without_data (tree_without_data cards) ≡ without_data held.tree
-  outline_held = outline_alike image cards ∙ ap without_data (sym tree_is)
+module _ (held : VolumeState) (edits : List Edit) (change : IsChange held edits) (image : Image) (cached_nodes : List (Option CachedNode)) (tree_is : held.tree ≡ tree_of image cached_nodes) where
+  pub outline_held : without_data (tree_without_data cached_nodes) ≡ without_data held.tree
+  outline_held = outline_alike image cached_nodes ∙ ap without_data (sym tree_is)
 
   -- its edits can be done there
-  pub outline_doable : AreDoable (tree_without_data cards) edits
-  outline_doable = doable_alike held.tree (tree_without_data cards) edits outline_held change.doable
+  pub outline_doable : AreDoable (tree_without_data cached_nodes) edits
+  outline_doable = doable_alike held.tree (tree_without_data cached_nodes) edits outline_held change.doable
 
   module _ (sectors nodes places : ℕ) (limits_are : held.limits ≡ limits_of sectors nodes) (whole : sectors ≡ 148 + nodes + places)
       (fit : IsTrue (fits held.limits (edited_by held edits))) where
     -- with few names
-    pub outline_few : StayFew (tree_without_data cards) edits
-    outline_few = few_alike held.tree (tree_without_data cards) edits outline_held
-        (few_fronts held.limits (ap (λ (limits : Limits). limits.names) limits_are) edits held.tree (λ count. change.fronts count fit))
+    pub outline_few : StayFew (tree_without_data cached_nodes) edits
+    outline_few = few_alike held.tree (tree_without_data cached_nodes) edits outline_held
+        (few_prefixes held.limits (ap (λ (limits : Limits). limits.names) limits_are) edits held.tree (λ count. change.prefixes count fit))
 
     -- and there is room after each of them
-    front_fits : (count : ℕ) → DoesFit (limits_of sectors nodes) (edited (take count (edits_of edits)) (tree_without_data cards))
-    front_fits count = fit_parts (limits_of sectors nodes) (edited (take count (edits_of edits)) (tree_without_data cards))
-        (subst (λ (limits : Limits). IsTrue (fits limits (edited (take count (edits_of edits)) (tree_without_data cards)))) limits_are
-        (fits_alike held.limits (front_of held edits count) (edited (take count (edits_of edits)) (tree_without_data cards))
-        (edited_alike (take count (edits_of edits)) held.tree (tree_without_data cards) outline_held) ∙ change.fronts count fit))
+    prefix_fits : (count : ℕ) → DoesFit (limits_of sectors nodes) (edited (take count (edits_of edits)) (tree_without_data cached_nodes))
+    prefix_fits count = fit_parts (limits_of sectors nodes) (edited (take count (edits_of edits)) (tree_without_data cached_nodes))
+        (subst (λ (limits : Limits). IsTrue (fits limits (edited (take count (edits_of edits)) (tree_without_data cached_nodes)))) limits_are
+        (fits_alike held.limits (prefix_of held edits count) (edited (take count (edits_of edits)) (tree_without_data cached_nodes))
+        (edited_alike (take count (edits_of edits)) held.tree (tree_without_data cached_nodes) outline_held) ∙ change.prefixes count fit))
 
-    pub front_room : (count : ℕ) → (total charge (edited (take count (edits_of edits)) (tree_without_data cards)) ≤ places)
-        × (length (edited (take count (edits_of edits)) (tree_without_data cards)) ≤ nodes)
-    front_room count =
-        let is = front_fits count in
+    pub prefix_room : (count : ℕ) → (total charge (edited (take count (edits_of edits)) (tree_without_data cached_nodes)) ≤ places)
+        × (length (edited (take count (edits_of edits)) (tree_without_data cached_nodes)) ≤ nodes)
+    prefix_room count =
+        let is = prefix_fits count in
         let few = is.charge in
         (omega (arith, few, whole), is.nodes)
 
@@ -138,9 +138,9 @@ module _ (held : VolumeState) (edits : List Edit) (change : IsChange held edits)
       let it = there_at old place other stands in
       change.fresh number among other (ap is_some (ap (at other) tree_is ∙ ap (λ (n : ℕ). at n (tree_of image old)) (sym it.number_is) ∙ tree-has image old place it.cached apart it.there))
 
-  pub can_settle : (nodes : ℕ) (mark marked : ℕ → ℕ) → AreCards nodes mark old → AreCards nodes marked new → HaveOwnPlaces new → CanBecome old new
+  pub can_settle : (nodes : ℕ) (mark marked : ℕ → ℕ) → AreCached nodes mark old → AreCached nodes marked new → HaveOwnPlaces new → CanBecome old new
   can_settle nodes mark marked known new_known own = record {
-    fresh = λ place number is. (let it = there_at new place number is.now in let card = card_at nodes marked new place it.cached new_known it.there in let some = card.number in record {
+    fresh = λ place number is. (let it = there_at new place number is.now in let cached_node = cached_at nodes marked new place it.cached new_known it.there in let some = cached_node.number in record {
       some = omega (arith, some, it.number_is);
       above = made_above known.apart number (made_among place number is);
     });

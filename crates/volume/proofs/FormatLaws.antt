@@ -7,7 +7,7 @@ use Rattle.disk.specs.Calls.{zero_sector}
 use Rattle.disk.specs.Moments.{Image, History, Left, AddsOnly}
 use Rattle.disk.proofs.MomentLemmas.{AddsOnly-weaken}
 use Rattle.journal.specs.Format.{AddsFormats, IsFormatted, formatted}
-use Rattle.journal.specs.Layout.{AreTargets, in_front, targets}
+use Rattle.journal.specs.Layout.{AreTargets, log_at_start, targets}
 use Rattle.journal.specs.Settled.{Settles}
 use Rattle.journal.proofs.Images.{put_other}
 use Rattle.journal.proofs.Lists.{targets_of-Fit}
@@ -56,17 +56,17 @@ module _ (sectors nodes : ℕ) (size : IsTrue (is_size sectors nodes)) where
   pub root_fits : AreTargets sectors (targets (root_update ∷ []))
   root_fits = let parts = sized sectors nodes size in targets_of-Fit sectors (148 ∷ []) (omega arith, omega (arith, parts.some, parts.room), tt, tt)
 
-  pub format_moments : (old new : History) → AddsFormats (in_front sectors) (superblock Two sectors nodes 0) (root_update ∷ []) old new
+  pub format_moments : (old new : History) → AddsFormats (log_at_start sectors) (superblock Two sectors nodes 0) (root_update ∷ []) old new
       → AddsOnly (λ image. (image 0 ≡ zero_sector) ⊎ formats.IsFresh sectors nodes image) old new
   format_moments old new moments = AddsOnly-weaken
-      (λ image. (image 0 ≡ zero_sector) ⊎ Settles (in_front sectors) image (new_volume sectors nodes))
+      (λ image. (image 0 ≡ zero_sector) ⊎ Settles (log_at_start sectors) image (new_volume sectors nodes))
       (λ image. (image 0 ≡ zero_sector) ⊎ formats.IsFresh sectors nodes image) old new
       (λ image either. elim either [
         | inl zeros ↦ inl zeros
         | inr settles ↦ inr ∣ (new_volume sectors nodes, settles, stands) ∣₁
       ]) moments
 
-  pub format_stands : (new : History) → IsFormatted (in_front sectors) (superblock Two sectors nodes 0) (root_update ∷ []) new
+  pub format_stands : (new : History) → IsFormatted (log_at_start sectors) (superblock Two sectors nodes 0) (root_update ∷ []) new
       → (image : Image) → Left new.now image → formats.IsFresh sectors nodes image
   format_stands new is image left = ∣ (new_volume sectors nodes, is image left, stands) ∣₁
 

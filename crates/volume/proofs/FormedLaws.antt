@@ -8,7 +8,7 @@ use Rattle.tree_edits.proofs.BlankLaws.{each_outline}
 use Rattle.tree_edits.proofs.DoingLaws.{outline_fixed}
 use Rattle.journal.specs.Log.{Log}
 use Rattle.layout.specs.CachedNodes.{CachedNode, tree_of}
-use Rattle.layout.specs.Known.{AreCards}
+use Rattle.layout.specs.Known.{AreCached}
 use Rattle.model_tree.specs.declared.limits.Limits.{Limits}
 use Rattle.model_tree.specs.Trees.Limits.{limits_of}
 use Rattle.model_tree.specs.Trees.Stamp.{stamp}
@@ -24,12 +24,12 @@ use Rattle.volume.specs.Loads.{IsLoaded}
 use Rattle.volume.specs.declared.mount.Superblock.{Superblock}
 
 -- what was loaded is so, under the limits of the volume
-pub loaded_formed : (keeps_word : Type 0) (found : Superblock) (log : Log) (mark : Option ℕ) (cards : List (Option CachedNode)) (seats : Seats) (places : List Bool) → IsLoaded keeps_word found log mark cards seats places
-    → (limits : Limits) → limits ≡ limits_of found.sectors found.nodes → IsFormed limits (stamp (found.run + 1) 0) (tree_without_data cards)
-loaded_formed keeps_word found log mark cards seats places loaded limits is =
-    let each = each_known_tree found.nodes _ cards loaded.known.are_cards (limits_of found.sectors found.nodes) (omega arith) (stamp (found.run + 1) 0) in
-    let same = sym (outline_fixed cards) in
-    subst (λ (l : Limits). IsFormed l (stamp (found.run + 1) 0) (tree_without_data cards)) (sym is) (record {
+pub loaded_formed : (keeps_word : Type 0) (found : Superblock) (log : Log) (mark : Option ℕ) (cached_nodes : List (Option CachedNode)) (seats : Seats) (places : List Bool) → IsLoaded keeps_word found log mark cached_nodes seats places
+    → (limits : Limits) → limits ≡ limits_of found.sectors found.nodes → IsFormed limits (stamp (found.run + 1) 0) (tree_without_data cached_nodes)
+loaded_formed keeps_word found log mark cached_nodes seats places loaded limits is =
+    let each = each_known_tree found.nodes _ cached_nodes loaded.known.are_cached_nodes (limits_of found.sectors found.nodes) (omega arith) (stamp (found.run + 1) 0) in
+    let same = sym (outline_fixed cached_nodes) in
+    subst (λ (l : Limits). IsFormed l (stamp (found.run + 1) 0) (tree_without_data cached_nodes)) (sym is) (record {
       well_formed = ∥∥₁_map loaded.well_formed (λ are. subst (IsWellFormed (limits_of found.sectors found.nodes)) same (each.0 are).0);
       before = ∥∥₁_elim loaded.well_formed (Prim.hlevel props) (λ are. subst (IsBefore (stamp (found.run + 1) 0)) same (each.0 are).1);
     })
@@ -39,26 +39,26 @@ pub formed_later : (limits : Limits) (early late : ℕ) (tree : Tree) → early 
 formed_later limits early late tree rise formed = record { well_formed = formed.well_formed; before = was_before early late (without_data tree) formed.before rise }
 
 -- and so is each tree of these cached nodes
-pub tree_formed : (limits : Limits) (at : ℕ) (image : Image) (cards : List (Option CachedNode)) → IsFormed limits at (tree_without_data cards) → IsFormed limits at (tree_of image cards)
-tree_formed limits at image cards formed =
-    let same : without_data (tree_without_data cards) ≡ without_data (tree_of image cards) = outline_fixed cards ∙ sym (each_outline image cards) in
+pub tree_formed : (limits : Limits) (at : ℕ) (image : Image) (cached_nodes : List (Option CachedNode)) → IsFormed limits at (tree_without_data cached_nodes) → IsFormed limits at (tree_of image cached_nodes)
+tree_formed limits at image cached_nodes formed =
+    let same : without_data (tree_without_data cached_nodes) ≡ without_data (tree_of image cached_nodes) = outline_fixed cached_nodes ∙ sym (each_outline image cached_nodes) in
     record {
       well_formed = ∥∥₁_map formed.well_formed (subst (IsWellFormed limits) same);
       before = subst (IsBefore at) same formed.before;
     }
 
 -- two trees of the same cached nodes show one another
-pub shows_same : (keeps_word : Type 0) (old new : Image) (cards : List (Option CachedNode)) → (keeps_word → tree_of new cards ≡ tree_of old cards) → ShowsTree keeps_word (tree_of old cards) (tree_of new cards)
-shows_same keeps_word old new cards kept = record {
-  outline = each_outline new cards ∙ sym (each_outline old cards);
+pub shows_same : (keeps_word : Type 0) (old new : Image) (cached_nodes : List (Option CachedNode)) → (keeps_word → tree_of new cached_nodes ≡ tree_of old cached_nodes) → ShowsTree keeps_word (tree_of old cached_nodes) (tree_of new cached_nodes)
+shows_same keeps_word old new cached_nodes kept = record {
+  outline = each_outline new cached_nodes ∙ sym (each_outline old cached_nodes);
   tree_is = kept;
 }
 
 -- cached nodes whose tree is well formed are one tree
-pub formed_tree : (limits : Limits) → MAX_NAMES ≤ limits.names → (at nodes : ℕ) (mark : ℕ → ℕ) (cards : List (Option CachedNode)) → AreCards nodes mark cards → IsFormed limits at (tree_without_data cards) → ∥ IsOneTree cards ∥₁
-formed_tree limits most at nodes mark cards known formed = ∥∥₁_map formed.well_formed (λ well. (let are =
-    (each_known_tree nodes mark cards known limits most at).1
-    (subst (IsWellFormed limits) (outline_fixed cards) well, subst (IsBefore at) (outline_fixed cards) formed.before) in are.tree))
+pub formed_tree : (limits : Limits) → MAX_NAMES ≤ limits.names → (at nodes : ℕ) (mark : ℕ → ℕ) (cached_nodes : List (Option CachedNode)) → AreCached nodes mark cached_nodes → IsFormed limits at (tree_without_data cached_nodes) → ∥ IsOneTree cached_nodes ∥₁
+formed_tree limits most at nodes mark cached_nodes known formed = ∥∥₁_map formed.well_formed (λ well. (let are =
+    (each_known_tree nodes mark cached_nodes known limits most at).1
+    (subst (IsWellFormed limits) (outline_fixed cached_nodes) well, subst (IsBefore at) (outline_fixed cached_nodes) formed.before) in are.tree))
 
 -- no volume has a lower limit of names
 pub names_most : (size nodes : ℕ) (limits : Limits) → limits ≡ limits_of size nodes → MAX_NAMES ≤ limits.names

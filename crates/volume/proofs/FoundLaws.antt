@@ -6,7 +6,7 @@ use Rattle.std.specs.Prelude.{Result, Ok, Err, IfOk, IfErr, bytes_eq}
 use Rattle.std.specs.Cmp.Lexicographic.{bytes_decides}
 use Rattle.disk.specs.Moments.{Image, History, AddsOnly}
 use Rattle.disk.proofs.MomentLemmas.{AddsOnly-weaken, AddsOnly-join}
-use Rattle.journal.specs.Layout.{in_front}
+use Rattle.journal.specs.Layout.{log_at_start}
 use Rattle.journal.specs.Settled.{Settles, SettlesAs}
 use Rattle.journal.specs.declared.fault.JournalFault.{JournalFault}
 use Rattle.journal.specs.declared.fault.JournalFault.TheVariants as journals
@@ -23,7 +23,7 @@ use Rattle.volume.specs.Stands.{VolumeStands, IsBase, StandsFor, StandsForIn}
 use Rattle.volume.specs.Superblock.{is_volume, superblock, mount_verdict, version_in, word, last_run}
 use Rattle.journal.proofs.First.{first_kept}
 use Rattle.volume.proofs.FirstLaws.{word_nodes, word_run, version_back, volume_first}
-use Rattle.volume.proofs.StandLaws.{is_front, sized, large, stands_same}
+use Rattle.volume.proofs.StandLaws.{is_prefix, sized, large, stands_same}
 
 -- Results
 
@@ -59,7 +59,7 @@ module _ (size nodes run : ℕ) (kept : Kept) (seen : Image) (base : IsBase size
       ap (λ (of : Version). of.number) parts.4 ∙ version_number parts.0 parts.1 kept.seats
 
   first_is : seen 0 ≡ superblock version size nodes run
-  first_is = sym (first_kept (in_front size) seen base.base (omega (arith, enough)) base.settles)
+  first_is = sym (first_kept (log_at_start size) seen base.base (omega (arith, enough)) base.settles)
       ∙ (base.stands.stands.first ∙ ap (λ (number : ℕ). layout.superblock number size nodes run) number_is)
 
   pub nodes_is : word 16 (seen 0) ≡ nodes
@@ -71,8 +71,8 @@ module _ (size nodes run : ℕ) (kept : Kept) (seen : Image) (base : IsBase size
   version_is : version_in (seen 0) ≡ version
   version_is = ap version_in first_is ∙ version_back version size nodes run
 
-  pub spelled : seen 0 ≡ superblock (version_in (seen 0)) size (word 16 (seen 0)) (word 20 (seen 0))
-  spelled = first_is ∙ (ap (λ (n : ℕ). superblock version size n run) (sym nodes_is) ∙ (ap (λ (r : ℕ). superblock version size (word 16 (seen 0)) r) (sym run_is)
+  pub encoded : seen 0 ≡ superblock (version_in (seen 0)) size (word 16 (seen 0)) (word 20 (seen 0))
+  encoded = first_is ∙ (ap (λ (n : ℕ). superblock version size n run) (sym nodes_is) ∙ (ap (λ (r : ℕ). superblock version size (word 16 (seen 0)) r) (sym run_is)
       ∙ ap (λ (v : VersionNumber). superblock v size (word 16 (seen 0)) (word 20 (seen 0))) (sym version_is)))
 
   never_damaged : (volume worn same : Bool) → same ≡ true → cond (not volume) NotVolume (cond worn Worn (cond same Sound Damaged)) ≡ Damaged → ⊥
@@ -85,7 +85,7 @@ module _ (size nodes run : ℕ) (kept : Kept) (seen : Image) (base : IsBase size
   pub not_damaged : mount_verdict size (seen 0) ≡ Damaged → ⊥
   unfolding mount_verdict
   not_damaged is = never_damaged (is_volume size (seen 0)) (eqb (word 20 (seen 0)) last_run) (bytes_eq (seen 0) (superblock (version_in (seen 0)) size (word 16 (seen 0)) (word 20 (seen 0))))
-      ((bytes_decides (seen 0) (superblock (version_in (seen 0)) size (word 16 (seen 0)) (word 20 (seen 0)))).1 spelled) is
+      ((bytes_decides (seen 0) (superblock (version_in (seen 0)) size (word 16 (seen 0)) (word 20 (seen 0)))).1 encoded) is
 
   never_none : (volume worn same : Bool) → volume ≡ true → cond (not volume) NotVolume (cond worn Worn (cond same Sound Damaged)) ≡ NotVolume → ⊥
   never_none true true same is h = cc
@@ -119,11 +119,11 @@ module _ (size nodes run : ℕ) (kept : Kept) (seen : Image) (base : IsBase size
   Leaves image = StandsForIn base.stands.version.number size nodes run kept image ⊎ StandsForIn served_version size nodes (run + 1) kept image
 
   -- a crash within the journal's mount leaves it
-  pub settled_moments : (old new : History) → AddsOnly (SettlesAs (in_front size) seen) old new → AddsOnly Leaves old new
-  settled_moments old new moments = AddsOnly-weaken (SettlesAs (in_front size) seen) Leaves old new
+  pub settled_moments : (old new : History) → AddsOnly (SettlesAs (log_at_start size) seen) old new → AddsOnly Leaves old new
+  settled_moments old new moments = AddsOnly-weaken (SettlesAs (log_at_start size) seen) Leaves old new
       (λ image same. inl ∣ (record { base = base.base; settles = same base.base base.settles; stands = base.stands }, refl) ∣₁) moments
 
-  module _ (at : Image) (settles : Settles (in_front size) seen at) (told : VersionNumber) (sectors found_nodes found_run : ℕ) (sectors_is : sectors ≡ size)
+  module _ (at : Image) (settles : Settles (log_at_start size) seen at) (told : VersionNumber) (sectors found_nodes found_run : ℕ) (sectors_is : sectors ≡ size)
       (fits : found_nodes < 2 ^ 32) (counts : found_run < 2 ^ 32) (first : seen 0 ≡ superblock told sectors found_nodes found_run) where
     found_first : superblock told size found_nodes found_run ≡ seen 0
     found_first = ap (λ (n : ℕ). superblock told n found_nodes found_run) (sym sectors_is) ∙ sym first
@@ -139,12 +139,12 @@ module _ (size nodes run : ℕ) (kept : Kept) (seen : Image) (base : IsBase size
     found_stands = subst (λ (s : ℕ). VolumeStands s found_nodes at found_run kept) (sym sectors_is)
         (subst (λ (n : ℕ). VolumeStands size n at found_run kept) (sym same_nodes)
         (subst (λ (r : ℕ). VolumeStands size nodes at r kept) (sym same_run)
-        (stands_same size nodes base.base at run kept (settles_once (in_front size) (is_front size) seen base.base at small base.settles settles) base.stands)))
+        (stands_same size nodes base.base at run kept (settles_once (log_at_start size) (is_prefix size) seen base.base at small base.settles settles) base.stands)))
 
     told_number : number_of_version told ≡ base.stands.version.number
     told_number = ap number_of_version (sym (version_back told size found_nodes found_run) ∙ (ap version_in found_first ∙ version_is)) ∙ sym number_is
 
-    pub found_moments : (old mid new : History) → AddsOnly (SettlesAs (in_front size) seen) old mid
+    pub found_moments : (old mid new : History) → AddsOnly (SettlesAs (log_at_start size) seen) old mid
         → (VolumeStands sectors found_nodes at found_run kept
         → AddsOnly (λ image. StandsForIn (number_of_version told) sectors found_nodes found_run kept image ⊎ StandsForIn served_version sectors found_nodes (found_run + 1) kept image) mid new)
         → AddsOnly Leaves old new
@@ -157,7 +157,7 @@ module _ (size nodes run : ℕ) (kept : Kept) (seen : Image) (base : IsBase size
         (after found_stands)))))
 
 -- what the base that was found holds, the image that was seen represented
-pub seen_stands : (size nodes run sectors found_nodes found_run fs_run : ℕ) (kept : Kept) (seen at : Image) → Settles (in_front size) seen at → sectors ≡ size → fs_run ≡ found_run + 1
+pub seen_stands : (size nodes run sectors found_nodes found_run fs_run : ℕ) (kept : Kept) (seen at : Image) → Settles (log_at_start size) seen at → sectors ≡ size → fs_run ≡ found_run + 1
     → nodes ≡ found_nodes → fs_run ≡ run + 1 → ∥ VolumeStands sectors found_nodes at found_run kept ∥₁ → StandsFor size nodes run kept seen
 seen_stands size nodes run sectors found_nodes found_run fs_run kept seen at settles sectors_is run_is nodes_is counted stands =
     let same_run : found_run ≡ run = omega (arith, run_is, counted) in

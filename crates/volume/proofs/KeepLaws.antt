@@ -12,7 +12,7 @@ use Rattle.layout.proofs.KeptLaws.{same_kept}
 use Rattle.volume.specs.Changes.{Given, Ending, Done, Nothing, Broken, IsTree, VolumeChanges, ending_of}
 use Rattle.volume.specs.Formed.{ShowsTree}
 use Rattle.volume.specs.VolumeState.{VolumeState, IsSameVolume, StandsForOne, MakesAtMost, MayAdd, AddsKept, kept_of}
-use Rattle.volume.specs.Shown.{ShowsAs}
+use Rattle.volume.specs.Alike.{ShowsAs}
 use Rattle.volume.specs.Stands.{StandsFor}
 use Rattle.volume.specs.declared.fault.VolumeFault.{VolumeFault}
 use Rattle.volume.specs.declared.fault.VolumeFault.TheVariants as faults

@@ -9,7 +9,7 @@ pub mod FirstLaws
 pub mod FormatLaws
 pub mod FormedLaws
 pub mod FoundLaws
-pub mod FrontLaws
+pub mod PrefixLaws
 pub mod KeepLaws
 pub mod LeftLaws
 pub mod LoadLaws

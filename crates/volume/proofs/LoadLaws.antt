@@ -9,14 +9,14 @@ use Rattle.node_table.specs.Tables.{AreNumbered}
 use Rattle.node_table.specs.declared.fault.TableFault.{TableFault}
 use Rattle.node_table.specs.declared.fault.TableFault.TheVariants as tables
 use Rattle.disk.specs.Moments.{Image, IsSector}
-use Rattle.tree_transaction.proofs.KnownLaws.{card_at}
+use Rattle.tree_transaction.proofs.KnownLaws.{cached_at}
 use Rattle.tree_edits.proofs.PlaceLaws.{there_at}
-use Rattle.layout.specs.CachedNodes.{CachedNode, tree_of, cards_in}
-use Rattle.layout.specs.Laid.{AreLaid, HoldsPlace, HoldsCard, HoldsContent}
+use Rattle.layout.specs.CachedNodes.{CachedNode, tree_of, cached_nodes_in}
+use Rattle.layout.specs.Laid.{AreLaid, HoldsPlace, HoldsCached, HoldsContent}
 use Rattle.layout.specs.Marks.{mark_in, mark_by}
 use Rattle.layout.specs.Stands as layout
 use Rattle.inode.specs.declared.node.Form.TheVariants.{Two}
-use Rattle.layout.specs.Known.{AreCards}
+use Rattle.layout.specs.Known.{AreCached}
 use Rattle.layout.specs.Rewriting.{all_second, in_second, second_image, IsLaidSecond}
 use Rattle.layout.specs.Stands.{Kept, MayHaveSeats, Version, marked_by, IsVersion, By, IsLaid, IsMark, current_version, version_by, with_region}
 use Rattle.layout.specs.declared.versions.Marking.TheVariants.{InSectors}
@@ -59,42 +59,42 @@ pub any_limits : (nodes : ℕ) (version : Version) (seats : Seats) → IsVersion
 any_limits nodes _ _ (By number mark seats is may) = version_limits number mark seats
 
 -- what is laid in versions one and two is so with their own marks, up to the end of the volume
-pub laid_own : (number : VersionNumber) (mark : Option ℕ) (seats : Seats) (size sectors nodes : ℕ) (image : Image) (cards : List (Option CachedNode)) → size ≡ sectors
-    → IsLaid (with_region InSectors sectors (version_by number mark seats)) size nodes image cards ↔ IsLaid (version_by number mark seats) sectors nodes image cards
-laid_own number mark seats size sectors nodes image cards same =
+pub laid_own : (number : VersionNumber) (mark : Option ℕ) (seats : Seats) (size sectors nodes : ℕ) (image : Image) (cached_nodes : List (Option CachedNode)) → size ≡ sectors
+    → IsLaid (with_region InSectors sectors (version_by number mark seats)) size nodes image cached_nodes ↔ IsLaid (version_by number mark seats) sectors nodes image cached_nodes
+laid_own number mark seats size sectors nodes image cached_nodes same =
     let own = version_by number mark seats in
-    let both = laid_as own InSectors sectors size nodes image cards (version_marking number mark seats) (version_end number mark seats size ∙ same) in (
-      λ laid. subst (λ (s : ℕ). IsLaid own s nodes image cards) same (both.0 laid),
-      λ laid. both.1 (subst (λ (s : ℕ). IsLaid own s nodes image cards) (sym same) laid),
+    let both = laid_as own InSectors sectors size nodes image cached_nodes (version_marking number mark seats) (version_end number mark seats size ∙ same) in (
+      λ laid. subst (λ (s : ℕ). IsLaid own s nodes image cached_nodes) same (both.0 laid),
+      λ laid. both.1 (subst (λ (s : ℕ). IsLaid own s nodes image cached_nodes) (sym same) laid),
     )
 
 abbrev HoldsSectors : (size : ℕ) → Image → Type 0
 HoldsSectors size image = (n : ℕ) → n < size → IsSector (image n)
 
 -- there are bytes in each marked place of the data region
-marked_bytes : (version : Version) (size nodes : ℕ) (image : Image) (cards : List (Option CachedNode)) → IsLaid version size nodes image cards → version.data_end size ≤ size
-    → (bytes : (n : ℕ) → 148 + nodes ≤ n → n < size → IsSector (image n)) → HoldBytes image (marked_by version.marking nodes image cards)
-marked_bytes version size nodes image cards laid ends bytes n marked = elim (cases_lt n size) [
+marked_bytes : (version : Version) (size nodes : ℕ) (image : Image) (cached_nodes : List (Option CachedNode)) → IsLaid version size nodes image cached_nodes → version.data_end size ≤ size
+    → (bytes : (n : ℕ) → 148 + nodes ≤ n → n < size → IsSector (image n)) → HoldBytes image (marked_by version.marking nodes image cached_nodes)
+marked_bytes version size nodes image cached_nodes laid ends bytes n marked = elim (cases_lt n size) [
   | inl within ↦ (bytes n (laid.laid.behind n marked) within).bytes
   | inr past ↦ absurd (omega (arith, marked, laid.within n (omega (arith, ends, past))))
 ]
 
 -- The cached nodes on the sectors, and as they are once each node has form two
-module _ (number : VersionNumber) (mark : Option ℕ) (seats : Seats) (size nodes run : ℕ) (image : Image) (cards : List (Option CachedNode))
-    (laid : IsLaid (version_by number mark seats) size nodes image cards) (read : cards ≡ cards_in nodes image) (sectors : HoldsSectors size image)
+module _ (number : VersionNumber) (mark : Option ℕ) (seats : Seats) (size nodes run : ℕ) (image : Image) (cached_nodes : List (Option CachedNode))
+    (laid : IsLaid (version_by number mark seats) size nodes image cached_nodes) (read : cached_nodes ≡ cached_nodes_in nodes image) (sectors : HoldsSectors size image)
     (sized : IsTrue (is_size size nodes)) where
   below : 148 + nodes ≤ size
   below = let parts = sized_parts size nodes sized in omega (arith, parts.room)
 
   abbrev second : List (Option CachedNode)
-  second = all_second cards
+  second = all_second cached_nodes
 
-  as_second : IsLaidSecond size nodes image cards
-  as_second = laid_as_second (version_by number mark seats) size nodes image cards (version_marking number mark seats) (version_end number mark seats size) laid below
+  as_second : IsLaidSecond size nodes image cached_nodes
+  as_second = laid_as_second (version_by number mark seats) size nodes image cached_nodes (version_marking number mark seats) (version_end number mark seats size) laid below
 
   second_bytes : HoldBytes (second_image nodes image) (mark_in nodes (second_image nodes image))
   second_bytes = marked_bytes (current_version no_seats) size nodes (second_image nodes image) second as_second.laid (omega arith)
-      (λ n behind within. subst IsSector (sym ((then_second (version_by number mark seats) size nodes image cards laid below (version_marking number mark seats) (version_end number mark seats size)).region n behind (omega (arith, within, version_end number mark seats size)))) (sectors n within))
+      (λ n behind within. subst IsSector (sym ((then_second (version_by number mark seats) size nodes image cached_nodes laid below (version_marking number mark seats) (version_end number mark seats size)).region n behind (omega (arith, within, version_end number mark seats size)))) (sectors n within))
 
   same_tree : tree_of (second_image nodes image) second ≡ tree_of image second
   same_tree = as_second.tree ∙ sym as_second.shown
@@ -128,7 +128,7 @@ module _ (number : VersionNumber) (mark : Option ℕ) (seats : Seats) (size node
 
 -- what a volume holds is laid out in the version that the first sector gives
 pub laid_told : (number : VersionNumber) (size nodes run : ℕ) (image : Image) (kept : Kept) → image 0 ≡ superblock number size nodes run → VolumeStands size nodes image run kept
-    → (mark : Option ℕ) × IsMark number nodes mark × MayHaveSeats number mark kept.seats × IsLaid (version_by number mark kept.seats) size nodes image (cards_in nodes image)
+    → (mark : Option ℕ) × IsMark number nodes mark × MayHaveSeats number mark kept.seats × IsLaid (version_by number mark kept.seats) size nodes image (cached_nodes_in nodes image)
 laid_told number size nodes run image kept first stands =
     let parts = version_parts nodes stands.version kept.seats stands.is_version in
     let seats = kept.seats in
@@ -138,59 +138,59 @@ laid_told number size nodes run image kept first stands =
       parts.1,
       subst (λ (n : VersionNumber). IsMark n nodes parts.1) same parts.2,
       subst (λ (n : VersionNumber). MayHaveSeats n parts.1 seats) same parts.3,
-      subst (λ (n : VersionNumber). IsLaid (version_by n parts.1 seats) size nodes image (cards_in nodes image)) same there.laid,
+      subst (λ (n : VersionNumber). IsLaid (version_by n parts.1 seats) size nodes image (cached_nodes_in nodes image)) same there.laid,
     )
 
-some_form : (cards : List (Option CachedNode)) (place : ℕ) (card : CachedNode) → get_or (all_second cards) place None ≡ Some card → card.form ≡ Two
-some_form cards place card there = form_at (get_or cards place None) card (sym (second_at cards place) ∙ there)
+some_form : (cached_nodes : List (Option CachedNode)) (place : ℕ) (cached_node : CachedNode) → get_or (all_second cached_nodes) place None ≡ Some cached_node → cached_node.form ≡ Two
+some_form cached_nodes place cached_node there = form_at (get_or cached_nodes place None) cached_node (sym (second_at cached_nodes place) ∙ there)
   where
-    form_at : (one : Option CachedNode) (card : CachedNode) → in_second one ≡ Some card
-        → card.form ≡ Two
-    form_at None card e = absurd (cc)
-    form_at (Some one) card e = cc
+    form_at : (one : Option CachedNode) (cached_node : CachedNode) → in_second one ≡ Some cached_node
+        → cached_node.form ≡ Two
+    form_at None cached_node e = absurd (cc)
+    form_at (Some one) cached_node e = cc
 
 -- the cached nodes are known on any device, once each has form two
-pub known_second : (sectors nodes : ℕ) (cards : List (Option CachedNode)) (places : List Bool) → AreCards nodes (mark_by (148 + nodes) places) cards
-    → sectors ≡ 148 + nodes + length places → AreKnownNodes sectors nodes (all_second cards) places
-known_second sectors nodes cards places known whole = record {
-  are_cards = known_as_second nodes (mark_by (148 + nodes) places) cards known;
-  forms = λ place card there. some_form cards place card there;
+pub known_second : (sectors nodes : ℕ) (cached_nodes : List (Option CachedNode)) (places : List Bool) → AreCached nodes (mark_by (148 + nodes) places) cached_nodes
+    → sectors ≡ 148 + nodes + length places → AreKnownNodes sectors nodes (all_second cached_nodes) places
+known_second sectors nodes cached_nodes places known whole = record {
+  are_cached_nodes = known_as_second nodes (mark_by (148 + nodes) places) cached_nodes known;
+  forms = λ place cached_node there. some_form cached_nodes place cached_node there;
   whole = whole;
 }
 
 -- and each has a number
-pub second_numbered : (nodes : ℕ) (mark : ℕ → ℕ) (cards : List (Option CachedNode)) → AreCards nodes mark cards → AreNumbered (all_second cards)
-second_numbered nodes mark cards known place number there =
-    let it = there_at (all_second cards) place number there in
-    let is = card_at nodes mark (all_second cards) place it.cached (known_as_second nodes mark cards known) it.there in
+pub second_numbered : (nodes : ℕ) (mark : ℕ → ℕ) (cached_nodes : List (Option CachedNode)) → AreCached nodes mark cached_nodes → AreNumbered (all_second cached_nodes)
+second_numbered nodes mark cached_nodes known place number there =
+    let it = there_at (all_second cached_nodes) place number there in
+    let is = cached_at nodes mark (all_second cached_nodes) place it.cached (known_as_second nodes mark cached_nodes known) it.there in
     omega (arith, is.number, it.number_is)
 
 -- what holds of the table holds of the cached nodes
-pub asked : (limits told : Limits) (at by : ℕ) (table cards : List (Option CachedNode)) → limits ≡ told → at ≡ by → table ≡ cards
-    → AreWellFormed limits at table → AreWellFormed told by cards
-asked limits told at by table cards a b c are =
-    subst (λ (l : Limits). AreWellFormed l by cards) a (subst (λ (n : ℕ). AreWellFormed limits n cards) b (subst (AreWellFormed limits at) c are))
+pub asked : (limits told : Limits) (at by : ℕ) (table cached_nodes : List (Option CachedNode)) → limits ≡ told → at ≡ by → table ≡ cached_nodes
+    → AreWellFormed limits at table → AreWellFormed told by cached_nodes
+asked limits told at by table cached_nodes a b c are =
+    subst (λ (l : Limits). AreWellFormed l by cached_nodes) a (subst (λ (n : ℕ). AreWellFormed limits n cached_nodes) b (subst (AreWellFormed limits at) c are))
 
 -- a node that the limits allow has few blocks
 
-few_blocks : (size nodes : ℕ) (image : Image) (kind : NodeKind) (card : CachedNode) → HoldsContent image kind card → IsContentAllowed (limits_of size nodes) kind card
-    → blocks_of kind card.fields.size ≤ 4096
-few_blocks size nodes image kind.File card holds allowed = omega (arith, allowed)
-few_blocks size nodes image kind.Directory card holds allowed = omega (arith, holds.count, holds.names.few)
+few_blocks : (size nodes : ℕ) (image : Image) (kind : NodeKind) (cached_node : CachedNode) → HoldsContent image kind cached_node → IsContentAllowed (limits_of size nodes) kind cached_node
+    → blocks_of kind cached_node.fields.size ≤ 4096
+few_blocks size nodes image kind.File cached_node holds allowed = omega (arith, allowed)
+few_blocks size nodes image kind.Directory cached_node holds allowed = omega (arith, holds.count, holds.names.few)
 
-few_at : (size nodes place : ℕ) (image : Image) (there : Option CachedNode) (card : CachedNode) → there ≡ Some card → HoldsPlace image place there
-    → IsNodeAllowed (limits_of size nodes) card → length card.blocks ≤ 4096
-few_at size nodes place image None card is holds allowed = absurd (cc)
-few_at size nodes place image (Some other) card is holds allowed =
-    let same : other ≡ card = cc in
-    let held : HoldsCard image place card = subst (HoldsCard image place) same holds in
-    omega (arith, held.node.blocks, few_blocks size nodes image card.fields.kind card held.content allowed.content)
+few_at : (size nodes place : ℕ) (image : Image) (there : Option CachedNode) (cached_node : CachedNode) → there ≡ Some cached_node → HoldsPlace image place there
+    → IsNodeAllowed (limits_of size nodes) cached_node → length cached_node.blocks ≤ 4096
+few_at size nodes place image None cached_node is holds allowed = absurd (cc)
+few_at size nodes place image (Some other) cached_node is holds allowed =
+    let same : other ≡ cached_node = cc in
+    let held : HoldsCached image place cached_node = subst (HoldsCached image place) same holds in
+    omega (arith, held.node.blocks, few_blocks size nodes image cached_node.fields.kind cached_node held.content allowed.content)
 
-allowed_few : (size nodes : ℕ) (image : Image) (mark : ℕ → ℕ) (cards : List (Option CachedNode)) → AreLaid nodes image mark cards
-    → AreNodesAllowed (limits_of size nodes) cards → AreFew cards
-allowed_few size nodes image mark cards laid allowed place card there = elim (cases_lt place nodes) [
-  | inl within ↦ few_at size nodes place image (get_or cards place None) card there (laid.held place within) (allowed.each place card there)
-  | inr past ↦ absurd (none_some card (sym (get_or_past cards place None (omega (arith, laid.count, past))) ∙ there))
+allowed_few : (size nodes : ℕ) (image : Image) (mark : ℕ → ℕ) (cached_nodes : List (Option CachedNode)) → AreLaid nodes image mark cached_nodes
+    → AreNodesAllowed (limits_of size nodes) cached_nodes → AreFew cached_nodes
+allowed_few size nodes image mark cached_nodes laid allowed place cached_node there = elim (cases_lt place nodes) [
+  | inl within ↦ few_at size nodes place image (get_or cached_nodes place None) cached_node there (laid.held place within) (allowed.each place cached_node there)
+  | inr past ↦ absurd (none_some cached_node (sym (get_or_past cached_nodes place None (omega (arith, laid.count, past))) ∙ there))
 ]
   where
     none_some : (x : CachedNode) → (let none : Option CachedNode = None in none ≡ Some x) → ⊥
@@ -198,14 +198,14 @@ allowed_few size nodes image mark cards laid allowed place card there = elim (ca
 
 -- so in a volume that holds a tree, each node has few blocks
 pub stands_few : (size nodes run : ℕ) (image : Image) (kept : Kept) → HoldsSectors size image → VolumeStands size nodes image run kept
-    → (AreFew (cards_in nodes image) → ⊥) → ⊥
+    → (AreFew (cached_nodes_in nodes image) → ⊥) → ⊥
 stands_few size nodes run image kept sectors stands never = ∥∥₁_elim stands.stands.well_formed (Prim.hlevel props) (λ well_formed.
-    let cards = cards_in nodes image in
-    let bytes = marked_bytes stands.version size nodes image cards stands.stands.laid stands.stands.region.within (λ n behind within. sectors n within) in
+    let cached_nodes = cached_nodes_in nodes image in
+    let bytes = marked_bytes stands.version size nodes image cached_nodes stands.stands.laid stands.stands.region.within (λ n behind within. sectors n within) in
     let well = subst (λ (f : ℕ → ℕ → Limits). IsWellFormed (f size nodes) kept.tree) (any_limits nodes stands.version kept.seats stands.is_version) well_formed in
-    let are = (each_tree nodes image (marked_by stands.version.marking nodes image cards) cards stands.stands.laid.laid bytes (limits_of size nodes) (omega arith) (stamp (run + 1) 0)).1
+    let are = (each_tree nodes image (marked_by stands.version.marking nodes image cached_nodes) cached_nodes stands.stands.laid.laid bytes (limits_of size nodes) (omega arith) (stamp (run + 1) 0)).1
     (subst (IsWellFormed (limits_of size nodes)) stands.stands.tree_is well, subst (IsBefore (stamp (run + 1) 0)) stands.stands.tree_is stands.stands.before) in
-    never (allowed_few size nodes image (marked_by stands.version.marking nodes image cards) cards stands.stands.laid.laid are.nodes))
+    never (allowed_few size nodes image (marked_by stands.version.marking nodes image cached_nodes) cached_nodes stands.stands.laid.laid are.nodes))
 
 -- which fault of the layer below a fault that is passed on comes from
 pub only_damaged : (fault : ScanFault) → mount_fault fault ≡ mounts.Damaged → fault ≡ scans.Damaged

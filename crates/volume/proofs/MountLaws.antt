@@ -6,7 +6,7 @@ use Rattle.disk.specs.Moments.{Image, History, AddsOnly, put, applied}
 use Rattle.disk.proofs.MomentLemmas.{AddsOnly-weaken}
 use Rattle.inode.specs.declared.node.Form.{Form}
 use Rattle.inode.specs.declared.node.Form.TheVariants as forms
-use Rattle.journal.specs.Layout.{in_front}
+use Rattle.journal.specs.Layout.{log_at_start}
 use Rattle.journal.specs.Commit.{AddsEither}
 use Rattle.journal.specs.Settled.{Settles, AreSame}
 use Rattle.journal.proofs.Images.{put_same, put_other}
@@ -18,7 +18,7 @@ use Rattle.layout.specs.declared.versions.VersionNumber.{VersionNumber}
 use Rattle.layout.specs.declared.versions.VersionNumber.TheVariants.{One, Two}
 use Rattle.layout.proofs.MarkOnce.{version_number}
 use Rattle.layout.proofs.SeatLaws.{kept_later, version_spare}
-use Rattle.layout.proofs.Rewriting.{form_stays, rewritten_cards, rewritten_stands}
+use Rattle.layout.proofs.Rewriting.{form_stays, rewritten_cached_nodes, rewritten_stands}
 use Rattle.model_tree.specs.Seats.Seats.{Seats}
 use Rattle.model_tree.specs.Trees.Tree.{Tree}
 use Rattle.volume.specs.Mounts.{AllHaveMoved, IsRaisedTo, StandsForEither, StandsIn}
@@ -27,7 +27,7 @@ use Rattle.volume.specs.declared.mount.Superblock.{Superblock}
 use Rattle.model_tree.specs.declared.limits.Limits.{Limits}
 use Rattle.volume.proofs.LoadLaws.{version_limits}
 use Rattle.volume_load.proofs.VolumeLaws.{version_marking, version_end}
-use Rattle.volume.proofs.StandLaws.{cards_same, sized, tree_same}
+use Rattle.volume.proofs.StandLaws.{cached_nodes_same, sized, tree_same}
 
 abbrev pub first_update : (sectors nodes run : ℕ) → Update
 first_update sectors nodes run = record { target = 0; content = superblock Two sectors nodes run }
@@ -99,7 +99,7 @@ module _ (found : Superblock) (base : Image) (counted : found.run + 1 < 2 ^ 32) 
       may = may_after found.version found.nodes mark kept.seats moved stood.may;
       keeps = kept_later found.run (found.run + 1) kept.seats (omega arith) stood.keeps;
       stands = rewritten_stands was is found.sectors found.nodes found.run (found.run + 1) base raised tree stands (omega arith) counted is_rewritten;
-      cards = rewritten_cards was is found.sectors found.nodes found.run (found.run + 1) base raised tree stands is_rewritten;
+      cached_nodes = rewritten_cached_nodes was is found.sectors found.nodes found.run (found.run + 1) base raised tree stands is_rewritten;
     }
 
     pub raised_base : (after : Image) → AreSame found.sectors raised after → IsRaisedTo mark found kept base after
@@ -107,13 +107,13 @@ module _ (found : Superblock) (base : Image) (counted : found.run + 1 < 2 ^ 32) 
       may = raised_to.may;
       keeps = raised_to.keeps;
       stands = tree_same is found.sectors found.nodes raised after (found.run + 1) tree same raised_to.stands;
-      cards = ap all_second (cards_same is found.sectors found.nodes raised after (found.run + 1) tree same raised_to.stands) ∙ raised_to.cards;
+      cached_nodes = ap all_second (cached_nodes_same is found.sectors found.nodes raised after (found.run + 1) tree same raised_to.stands) ∙ raised_to.cached_nodes;
     }
 
-    pub raise_moments : (old new : History) → AddsEither (in_front found.sectors) (first_update found.sectors found.nodes (found.run + 1) ∷ []) base old new
+    pub raise_moments : (old new : History) → AddsEither (log_at_start found.sectors) (first_update found.sectors found.nodes (found.run + 1) ∷ []) base old new
         → AddsOnly (StandsForEither found kept) old new
     raise_moments old new moments = AddsOnly-weaken
-        (λ image. Settles (in_front found.sectors) image base ⊎ Settles (in_front found.sectors) image (applied (first_update found.sectors found.nodes (found.run + 1) ∷ []) base))
+        (λ image. Settles (log_at_start found.sectors) image base ⊎ Settles (log_at_start found.sectors) image (applied (first_update found.sectors found.nodes (found.run + 1) ∷ []) base))
         (StandsForEither found kept) old new
         (λ image either. elim either [
           | inl settles ↦ inl ∣ (

@@ -4,7 +4,7 @@ use Rattle.disk.specs.Cause.{IsCounted}
 use Rattle.disk.specs.Moments.{Image, History, AddsOnly, moment, seen, synced}
 use Rattle.journal.specs.declared.fault.JournalFault.{JournalFault}
 use Rattle.journal.specs.declared.fault.JournalFault.TheVariants as journals
-use Rattle.journal.specs.Layout.{in_front}
+use Rattle.journal.specs.Layout.{log_at_start}
 use Rattle.journal.specs.Recover.{LeavesOnlySynced, recovery_cost}
 use Rattle.journal.specs.Settled.{Settles, SettlesAs}
 use Rattle.volume.specs.declared.fault.MountFault.{MountFault}
@@ -25,7 +25,7 @@ use Rattle.volume.proofs.FoundLaws.{not_damaged, is_volume_there, count_full, se
 
 untouched_replays : (sectors : ℕ) (old new : History) → new ≡ old → OnlyReplays sectors old new
 untouched_replays sectors old new same = record {
-  moments = subst (λ (h : History). AddsOnly (SettlesAs (in_front sectors) (seen old.now)) old h) (sym same) (AddsOnly-same (SettlesAs (in_front sectors) (seen old.now)) old);
+  moments = subst (λ (h : History). AddsOnly (SettlesAs (log_at_start sectors) (seen old.now)) old h) (sym same) (AddsOnly-same (SettlesAs (log_at_start sectors) (seen old.now)) old);
   formless = λ none. inl same;
 }
 
@@ -48,7 +48,7 @@ recovery_few : (to : List ℕ) → length to ≤ 96 → recovery_cost to ≤ 102
 recovery_few [] few = omega arith
 recovery_few (sector ∷ to) few = omega (arith, few)
 
-pub recovered_few : (sectors : ℕ) (old new : History) (base : Image) (settles : Settles (in_front sectors) (seen old.now) base) → moment new ≡ moment old + recovery_cost settles.to
+pub recovered_few : (sectors : ℕ) (old new : History) (base : Image) (settles : Settles (log_at_start sectors) (seen old.now) base) → moment new ≡ moment old + recovery_cost settles.to
     → moment new ≤ moment old + 102
 recovered_few sectors old new base settles cost = let most = recovery_few settles.to settles.few in omega (arith, cost, most)
 
@@ -103,7 +103,7 @@ gate_counted before after fault reasons counted is = ⊎_elim counted
     (λ (memory : fault ≡ journals.Memory). let other : mounts.Memory ≡ mounts.Device = sym (ap gate_fault memory) ∙ is in let never : ⊥ = cc in absurd never))
     reasons
 
-module _ (sectors : ℕ) (old new : History) (sound : first_verdict sectors old ≡ verdicts.Sound) (replays : AddsOnly (SettlesAs (in_front sectors) (seen old.now)) old new)
+module _ (sectors : ℕ) (old new : History) (sound : first_verdict sectors old ≡ verdicts.Sound) (replays : AddsOnly (SettlesAs (log_at_start sectors) (seen old.now)) old new)
     (few : moment new ≤ moment old + 102) where
   settled_mount : AddsMount sectors old new
   settled_mount nodes run kept base = settled_moments sectors nodes run kept (seen old.now) base old new replays
@@ -117,7 +117,7 @@ module _ (sectors : ℕ) (old new : History) (sound : first_verdict sectors old 
     reason = tt;
   }
 
-  pub gate_refused : (fault : JournalFault) → (fault ≡ journals.Damaged → LeavesOnlySynced (in_front sectors) old new) → (fault ≡ journals.Memory → new ≡ old)
+  pub gate_refused : (fault : JournalFault) → (fault ≡ journals.Damaged → LeavesOnlySynced (log_at_start sectors) old new) → (fault ≡ journals.Memory → new ≡ old)
       → IsMountRefused sectors old new (gate_fault fault)
   gate_refused journals.Memory damaged memory = refused_untouched sectors old new mounts.Memory (memory refl) tt
   gate_refused journals.Damaged damaged memory = record {
@@ -134,7 +134,7 @@ module _ (sectors : ℕ) (old new : History) (sound : first_verdict sectors old 
 -- on the base that the journal found
 module _ (sectors : ℕ) (old mid : History) (found : Superblock) (base : Image) (sectors_is : found.sectors ≡ sectors) (few : found.nodes < 2 ^ 32) (counted : found.run < 2 ^ 32)
     (sound : first_verdict sectors old ≡ verdicts.Sound) (first : seen old.now 0 ≡ superblock found.version found.sectors found.nodes found.run)
-    (settles : Settles (in_front sectors) (seen old.now) base) (replays : AddsOnly (SettlesAs (in_front sectors) (seen old.now)) old mid) (few_moments : moment mid ≤ moment old + 102) where
+    (settles : Settles (log_at_start sectors) (seen old.now) base) (replays : AddsOnly (SettlesAs (log_at_start sectors) (seen old.now)) old mid) (few_moments : moment mid ≤ moment old + 102) where
   needs_no_move : NeedsNoMigration sectors old → NeedsNoMove found base
   needs_no_move needs = (
     sym (version_back found.version found.sectors found.nodes found.run) ∙ (ap version_in (sym first) ∙ needs.version),
@@ -152,7 +152,7 @@ module _ (sectors : ℕ) (old mid : History) (found : Superblock) (base : Image)
       let same : mount_cost (seen old.now 0) ≡ 102 + begin_cost found = rw (version, nodes) omega arith in
       omega (arith, begins, few_moments, same)
 
-  pub begun_found : (held : VolumeState) → AddsOnly (SettlesAs (in_front sectors) (seen old.now)) (synced old) mid → HasBegun found base mid held → HasMounted sectors old held
+  pub begun_found : (held : VolumeState) → AddsOnly (SettlesAs (log_at_start sectors) (seen old.now)) (synced old) mid → HasBegun found base mid held → HasMounted sectors old held
   begun_found held since begun = record {
     first = sound;
     found = record {
@@ -178,7 +178,7 @@ module _ (sectors : ℕ) (old mid : History) (found : Superblock) (base : Image)
     brief = mounts_briefly new refused.brief;
     bounded = mount_bounded new refused.bounded;
     writes = λ other. record {
-      moments = subst (λ (h : History). AddsOnly (SettlesAs (in_front sectors) (seen old.now)) old h) (sym (refused.untouched other)) replays;
+      moments = subst (λ (h : History). AddsOnly (SettlesAs (log_at_start sectors) (seen old.now)) old h) (sym (refused.untouched other)) replays;
       formless = λ none. absurd (none base settles);
     };
     reason = ⊎_elim

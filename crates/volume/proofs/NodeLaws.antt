@@ -14,35 +14,35 @@ use Rattle.model_tree.specs.declared.node.NodeKind.TheVariants as kind
 use Rattle.model_tree.specs.Trees.Keyed.{at}
 use Rattle.volume.specs.Nodes.{ShowsContent, IsNodeOf}
 
-shows : (image : Image) (kind : NodeKind) (card : CachedNode) → ShowsContent kind card (content_of image kind card)
+shows : (image : Image) (kind : NodeKind) (cached : CachedNode) → ShowsContent kind cached (content_of image kind cached)
 unfolding bytes_in
-shows image kind.File card = record {
-  bytes = bytes_in image card.blocks card.fields.size;
+shows image kind.File cached = record {
+  bytes = bytes_in image cached.blocks cached.fields.size;
   file = refl;
-  size_is = length-map (range_with_len 0 card.fields.size) (byte_at image card.blocks) ∙ length-range_with_len 0 card.fields.size;
+  size_is = length-map (range_with_len 0 cached.fields.size) (byte_at image cached.blocks) ∙ length-range_with_len 0 cached.fields.size;
 }
-shows image kind.Directory card = refl
+shows image kind.Directory cached = refl
 
-shown_number : (card : CachedNode) (option : Option CachedNode) (number : ℕ) → option ≡ Some card → node_number option ≡ Some number → card.fields.number ≡ number
-shown_number card None number there is = absurd (cc)
-shown_number card (Some other) number there is = cc
+shown_number : (cached : CachedNode) (option : Option CachedNode) (number : ℕ) → option ≡ Some cached → node_number option ≡ Some number → cached.fields.number ≡ number
+shown_number cached None number there is = absurd (cc)
+shown_number cached (Some other) number there is = cc
 
-pub node_there : (image : Image) (cards : List (Option CachedNode)) (place number : ℕ) (card : CachedNode) → AreNumbered cards → get_or cards place None ≡ Some card
-    → node_number_at cards place ≡ Some number → IsNodeOf (tree_of image cards) number card
+pub node_there : (image : Image) (cached_nodes : List (Option CachedNode)) (place number : ℕ) (cached : CachedNode) → AreNumbered cached_nodes → get_or cached_nodes place None ≡ Some cached
+    → node_number_at cached_nodes place ≡ Some number → IsNodeOf (tree_of image cached_nodes) number cached
 unfolding node_of
-node_there image cards place number card apart there is =
-    let same : card.fields.number ≡ number = shown_number card (get_or cards place None) number there is in
+node_there image cached_nodes place number cached apart there is =
+    let same : cached.fields.number ≡ number = shown_number cached (get_or cached_nodes place None) number there is in
     record {
       number_is = same;
-      node = node_of image card;
-      there = ap (λ (n : ℕ). at n (tree_of image cards)) (sym same) ∙ tree-has image cards place card apart there;
+      node = node_of image cached;
+      there = ap (λ (n : ℕ). at n (tree_of image cached_nodes)) (sym same) ∙ tree-has image cached_nodes place cached apart there;
       owner = refl;
       group = refl;
       acl = refl;
       change = refl;
       time_modify = refl;
-      content = shows image card.fields.kind card;
+      content = shows image cached.fields.kind cached;
     }
 
-pub none_there : (image : Image) (cards : List (Option CachedNode)) (number : ℕ) → HasNoNode cards number → at number (tree_of image cards) ≡ None
-none_there image cards number has_not = tree-lacks image cards number (λ i card there same. has_not i (ap node_number there ∙ ap (λ (n : ℕ). Some n) same))
+pub none_there : (image : Image) (cached_nodes : List (Option CachedNode)) (number : ℕ) → HasNoNode cached_nodes number → at number (tree_of image cached_nodes) ≡ None
+none_there image cached_nodes number has_not = tree-lacks image cached_nodes number (λ i cached there same. has_not i (ap node_number there ∙ ap (λ (n : ℕ). Some n) same))

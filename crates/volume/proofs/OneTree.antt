@@ -4,13 +4,13 @@ use Rattle.std.proofs.Math.Logic.{∥∥₁_elim}
 use Rattle.std.proofs.Props.{props}
 use Rattle.disk.specs.Moments.{Image}
 use Rattle.journal.proofs.Recovers.{settles_once}
-use Rattle.journal.specs.Layout.{in_front}
+use Rattle.journal.specs.Layout.{log_at_start}
 use Rattle.layout.specs.Stands.{Kept}
 use Rattle.layout.proofs.KeptLaws.{one_kept}
 use Rattle.model_tree.specs.Seats.Seats.{Seats}
 use Rattle.model_tree.specs.Trees.Tree.{Tree}
 use Rattle.volume.specs.Stands.{VolumeStands, IsBase, IsOne, OneStands}
-use Rattle.volume.proofs.StandLaws.{is_front, sized, stands_same}
+use Rattle.volume.proofs.StandLaws.{is_prefix, sized, stands_same}
 
 pub Tree-set : IsSet Tree
 Tree-set = Prim.hlevel props
@@ -30,7 +30,7 @@ one_base sectors nodes run other_nodes other_run kept other image left right =
     let few = sized sectors nodes left.stands.stands.sized in
     let small : sectors < 2 ^ 32 = omega (arith, few.most) in
     let here : VolumeStands sectors nodes right.base run kept =
-    stands_same sectors nodes left.base right.base run kept (settles_once (in_front sectors) (is_front sectors) image left.base right.base small left.settles right.settles) left.stands in
+    stands_same sectors nodes left.base right.base run kept (settles_once (log_at_start sectors) (is_prefix sectors) image left.base right.base small left.settles right.settles) left.stands in
     let one = one_kept sectors sectors nodes other_nodes run other_run right.base kept other here right.stands in
     record { kept_is = one.kept_is; nodes_are = one.same.nodes_are; run_is = one.same.run_is }
 

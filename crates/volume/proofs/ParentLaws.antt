@@ -7,7 +7,7 @@ use Rattle.std.specs.List.{IsAmong}
 use Rattle.std.proofs.lemmas.Option.{same_Some}
 use Rattle.node_table.specs.Tables.{node_number, node_number_at, HasNoNode}
 use Rattle.disk.specs.Moments.{Image}
-use Rattle.tree_transaction.specs.Nodes.{no_content, shown_of}
+use Rattle.tree_transaction.specs.Nodes.{no_content, metadata_of}
 use Rattle.tree_edits.specs.declared.edit.Edit.{Edit}
 use Rattle.tree_edits.specs.declared.edit.Edit.TheVariants as edit
 use Rattle.tree_edits.specs.Doing.{made_by, AreMade}
@@ -15,7 +15,7 @@ use Rattle.tree_edits.specs.Edits.{edit_of, edits_of, fresh_node}
 use Rattle.tree_edits.specs.Outlines.{without_data, tree_without_data}
 use Rattle.tree_edits.proofs.BlankLaws.{names-without_data}
 use Rattle.layout.specs.CachedNodes.{CachedNode, tree_of}
-use Rattle.layout.specs.Known.{AreCards}
+use Rattle.layout.specs.Known.{AreCached}
 use Rattle.layout.specs.Marks.{once_if, times}
 use Rattle.model_tree.specs.declared.limits.Limits.{Limits}
 use Rattle.model_tree.specs.declared.node.NodeKind.{NodeKind}
@@ -29,7 +29,7 @@ use Rattle.directory.specs.declared.names.TheConstants.Names.{MAX_NAMES}
 use Rattle.volume.specs.ParentIndex.{HasChild, AreParents}
 use Rattle.volume.proofs.ParentMoves.{KeepsNames, MovesName, each_kept, each_move}
 use Rattle.volume.proofs.ParentLinks.{own-places, no_other}
-use Rattle.volume.proofs.ParentTrees.{name_of_card, card_of_name}
+use Rattle.volume.proofs.ParentTrees.{name_of_cached, cached_of_name}
 use Rattle.tree_check.specs.Trees.{IsOneTree}
 use Rattle.tree_check.proofs.TreeLaws.{find, Finds, There, Nowhere, numbered}
 use Rattle.volume.specs.Edits.{edited_by, named_by, put_by, HasPut, IsChange}
@@ -118,9 +118,9 @@ fresh_links kind.File number = refl
 fresh_links kind.Directory number = refl
 
 links_done : (one : Edit) (tree : Tree) (of number : ℕ) → times number (named_by (one ∷ [])) ≡ 0 → links_at (done (edit_of one) tree) of number ≤ links_at tree of number
-links_done (edit.PutNode key kind shown) tree of number none = links_with tree key (fresh_node kind (shown_of shown)) of number (omega (arith, fresh_links kind number))
+links_done (edit.PutNode key kind shown) tree of number none = links_with tree key (fresh_node kind (metadata_of shown)) of number (omega (arith, fresh_links kind number))
 links_done (edit.DropNode key) tree of number none = links_without tree key of number
-links_done (edit.Show key shown) tree of number none = links_altered (showing (shown_of shown)) tree key of number (λ node. omega arith)
+links_done (edit.Show key shown) tree of number none = links_altered (showing (metadata_of shown)) tree key of number (λ node. omega arith)
 links_done (edit.PutName directory stamp name leads) tree of number none =
     let entry : DirEntry = record { name = name.now; number = leads } in
     let off : one_if (eqb leads number) ≡ 0 = one_off leads number (omega (arith, none)) in
@@ -132,20 +132,20 @@ links_done (edit.PutBytes file offset bytes) tree of number none =
 links_done (edit.SetSize file size) tree of number none =
     links_altered (λ node. with_content node (File (resized (bytes_of node.content) size))) tree file of number (λ node. omega arith)
 
-named-front : (one : Edit) (edits : List Edit) (number : ℕ) → times number (named_by (one ∷ edits)) ≡ times number (named_by (one ∷ [])) + times number (named_by edits)
-named-front (edit.PutNode key kind shown) edits number = omega arith
-named-front (edit.DropNode key) edits number = omega arith
-named-front (edit.Show key shown) edits number = omega arith
-named-front (edit.PutName directory stamp name leads) edits number = omega arith
-named-front (edit.DropName directory stamp name) edits number = omega arith
-named-front (edit.PutBytes file offset bytes) edits number = omega arith
-named-front (edit.SetSize file size) edits number = omega arith
+named-prefix : (one : Edit) (edits : List Edit) (number : ℕ) → times number (named_by (one ∷ edits)) ≡ times number (named_by (one ∷ [])) + times number (named_by edits)
+named-prefix (edit.PutNode key kind shown) edits number = omega arith
+named-prefix (edit.DropNode key) edits number = omega arith
+named-prefix (edit.Show key shown) edits number = omega arith
+named-prefix (edit.PutName directory stamp name leads) edits number = omega arith
+named-prefix (edit.DropName directory stamp name) edits number = omega arith
+named-prefix (edit.PutBytes file offset bytes) edits number = omega arith
+named-prefix (edit.SetSize file size) edits number = omega arith
 
 links_edited : (edits : List Edit) (tree : Tree) (of number : ℕ) → times number (named_by edits) ≡ 0 → links_at (edited (edits_of edits) tree) of number ≤ links_at tree of number
 links_edited [] tree of number none = omega arith
 links_edited (one ∷ edits) tree of number none =
-    let front = named-front one edits number in
-    omega (arith, links_edited edits (done (edit_of one) tree) of number (omega (arith, none, front)), links_done one tree of number (omega (arith, none, front)))
+    let prefix = named-prefix one edits number in
+    omega (arith, links_edited edits (done (edit_of one) tree) of number (omega (arith, none, prefix)), links_done one tree of number (omega (arith, none, prefix)))
 
 -- The name that edits put
 
@@ -200,7 +200,7 @@ others_none (first ∷ []) number other few among off =
 -- Over a change of cached nodes
 
 module _ (held : VolumeState) (edits : List Edit) (change : IsChange held edits) (image : Image) (nodes : ℕ) (mark marked : ℕ → ℕ) (old new : List (Option CachedNode)) (tree_is : held.tree ≡ tree_of image old)
-    (known : AreCards nodes mark old) (new_known : AreCards nodes marked new) (are_made : AreMade old new (made_by edits))
+    (known : AreCached nodes mark old) (new_known : AreCached nodes marked new) (are_made : AreMade old new (made_by edits))
     (outline : tree_without_data new
     ≡ without_data (edited (edits_of edits) (tree_without_data old))) where
   -- the names of the outline are those of the tree after the edits
@@ -216,7 +216,7 @@ module _ (held : VolumeState) (edits : List Edit) (change : IsChange held edits)
   -- each name of another number was there
   name_was : (of number : ℕ) → times number (named_by edits) ≡ 0 → HasChild new of number → HasChild old of number
   name_was of number none has =
-      let now = card_of_name nodes marked new new_known (λ n. []) number of has in
+      let now = cached_of_name nodes marked new new_known (λ n. []) number of has in
       name_there (omega (arith, links_edited edits (tree_without_data old) of number none, links_new of number, links_node of number (tree_without_data new) now.0 now.1.0, now.1.1))
     where
       name_there : 0 < links_at (tree_without_data old) of number → HasChild old of number
@@ -224,7 +224,7 @@ module _ (held : VolumeState) (edits : List Edit) (change : IsChange held edits)
         where
           by_node : (found : Option Node) → at of (tree_without_data old) ≡ found → 0 < links_in number (names_of_node found) → HasChild old of number
           by_node None is leads = absurd (omega (arith, leads))
-          by_node (Some node) is leads = name_of_card nodes mark old known (λ n. []) number of node is leads
+          by_node (Some node) is leads = name_of_cached nodes mark old known (λ n. []) number of node is leads
 
   count_is : length new ≡ length old
   count_is = new_known.count ∙ sym known.count
@@ -257,7 +257,7 @@ module _ (held : VolumeState) (edits : List Edit) (change : IsChange held edits)
       where
         by_node : (found : Option Node) → at directory (tree_without_data new) ≡ found → 0 < links_in number (names_of_node found) → HasChild new directory number
         by_node None is leads = absurd (omega (arith, leads))
-        by_node (Some node) is leads = name_of_card nodes marked new new_known (λ n. []) number directory node is leads
+        by_node (Some node) is leads = name_of_cached nodes marked new new_known (λ n. []) number directory node is leads
 
     moves_name : (place : ℕ) → node_number_at new place ≡ Some number → MovesName old new number place directory
     moves_name place there = record {
@@ -290,7 +290,7 @@ module _ (held : VolumeState) (edits : List Edit) (change : IsChange held edits)
     parents_after behind puts = by_put (put_by edits) refl
       where
         by_place : (number directory : ℕ) → put_by edits ≡ Some (number, directory) → Finds new number → AreParents new behind
-        by_place number directory some (There place card there is) =
+        by_place number directory some (There place cached there is) =
             let stands : node_number_at new place ≡ Some number = ap node_number there ∙ ap Some is in
             subst (AreParents new) (sym (puts.some number directory place some stands)) (parents_put number directory place some stands)
         by_place number directory some (Nowhere none) = absurd (put_stands number directory some (λ place there. (let it = numbered new place number there in none place it.0 it.1.0 it.1.1)))

@@ -7,7 +7,7 @@ use Rattle.disk.specs.Moments.{Image}
 use Rattle.layout.specs.CachedNodes.{CachedNode, content_at, byte_at, bytes_in}
 use Rattle.layout.proofs.FileLaws.{in-block, zeros-at}
 use Rattle.volume.specs.FileBlocks.{GetsMore}
-use Rattle.volume.specs.FileParts.{Appends, IsBytesFront}
+use Rattle.volume.specs.FileParts.{Appends, IsBytesPrefix}
 
 -- a part of one block: of its sector, or of a hole
 
@@ -63,12 +63,12 @@ part_on word image blocks offset done at more old mid new at_is first second = r
 
 -- the old bytes come first, and how many come after them
 
-pub front_is : (old part new : List ℕ) → new ≡ old ++ part → IsBytesFront old new
-front_is old part new is = ap (take (length old)) is ∙ take-append-le (length old) old part (omega arith) ∙ take_all (length old) old (omega arith)
+pub prefix_is : (old part new : List ℕ) → new ≡ old ++ part → IsBytesPrefix old new
+prefix_is old part new is = ap (take (length old)) is ∙ take-append-le (length old) old part (omega arith) ∙ take_all (length old) old (omega arith)
 
 pub gets_more : (word : Type 0) (image : Image) (blocks : List (Option ℕ)) (offset count : ℕ) (old new : List ℕ) → Appends word image blocks offset count old new → GetsMore old new count
 gets_more word image blocks offset count old new appends = record {
-  front = front_is old appends.part new appends.is;
+  prefix = prefix_is old appends.part new appends.is;
   count_is = ap length appends.is ∙ omega (arith, length-append old appends.part, appends.many);
 }
 
@@ -89,18 +89,18 @@ whole_part word image blocks size offset len old new appends w =
 
 -- of a cached node as it is seen, after room was made
 
-pub read_whole : (word : Type 0) (image : Image) (inside card : CachedNode) (offset len count : ℕ) (old mid new : List ℕ) → inside ≡ card → mid ≡ old → count ≡ min len (inside.fields.size - offset)
-    → Appends word image inside.blocks offset count mid new → word → new ≡ old ++ take len (drop offset (bytes_in image card.blocks card.fields.size))
-read_whole word image inside card offset len count old mid new seen same count_is appends w =
+pub read_whole : (word : Type 0) (image : Image) (inside cached : CachedNode) (offset len count : ℕ) (old mid new : List ℕ) → inside ≡ cached → mid ≡ old → count ≡ min len (inside.fields.size - offset)
+    → Appends word image inside.blocks offset count mid new → word → new ≡ old ++ take len (drop offset (bytes_in image cached.blocks cached.fields.size))
+read_whole word image inside cached offset len count old mid new seen same count_is appends w =
     whole_part word image inside.blocks inside.fields.size offset len mid new (subst (λ (n : ℕ). Appends word image inside.blocks offset n mid new) count_is appends) w
     ∙ ap (λ (x : CachedNode). mid ++ take len (drop offset (bytes_in image x.blocks x.fields.size)))
     seen
-    ∙ ap (λ (s : List ℕ). s ++ take len (drop offset (bytes_in image card.blocks card.fields.size))) same
+    ∙ ap (λ (s : List ℕ). s ++ take len (drop offset (bytes_in image cached.blocks cached.fields.size))) same
 
-pub read_more : (word : Type 0) (image : Image) (inside card : CachedNode) (offset len count : ℕ) (old mid new : List ℕ) → inside ≡ card → mid ≡ old → count ≡ min len (inside.fields.size - offset)
-    → Appends word image inside.blocks offset count mid new → GetsMore old new (min len (card.fields.size - offset))
-read_more word image inside card offset len count old mid new seen same count_is appends =
-    let whole : count ≡ min len (card.fields.size - offset) = count_is ∙ ap (λ (x : CachedNode). min len (x.fields.size - offset)) seen in
+pub read_more : (word : Type 0) (image : Image) (inside cached : CachedNode) (offset len count : ℕ) (old mid new : List ℕ) → inside ≡ cached → mid ≡ old → count ≡ min len (inside.fields.size - offset)
+    → Appends word image inside.blocks offset count mid new → GetsMore old new (min len (cached.fields.size - offset))
+read_more word image inside cached offset len count old mid new seen same count_is appends =
+    let whole : count ≡ min len (cached.fields.size - offset) = count_is ∙ ap (λ (x : CachedNode). min len (x.fields.size - offset)) seen in
     subst (λ (n : ℕ). GetsMore old new n) whole (subst (λ (s : List ℕ). GetsMore s new count) same (gets_more word image inside.blocks offset count mid new appends))
 
 pub on_ok : {A E P Q : Type 0} (r : Result A E) → OnOk r P → (P → Q) → OnOk r Q

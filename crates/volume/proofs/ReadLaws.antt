@@ -21,36 +21,36 @@ use Rattle.volume.specs.Reading.{HasFile}
 use Rattle.volume.proofs.NodeLaws.{node_there, none_there}
 
 -- its blocks are the volume's
-pub blocks_within : (size nodes place : ℕ) (cards : List (Option CachedNode)) (places : List Bool) (card : CachedNode) → AreKnownNodes size nodes cards places → get_or cards place None ≡ Some card → FileWithin size card.blocks
+pub blocks_within : (size nodes place : ℕ) (cached_nodes : List (Option CachedNode)) (places : List Bool) (cached : CachedNode) → AreKnownNodes size nodes cached_nodes places → get_or cached_nodes place None ≡ Some cached → FileWithin size cached.blocks
 unfolding namings_of
-blocks_within size nodes place cards places card known there block sector is =
+blocks_within size nodes place cached_nodes places cached known there block sector is =
     let each = each_mark (148 + nodes) places 0 in
-    let some = times_set-at card.blocks block sector is in
+    let some = times_set-at cached.blocks block sector is in
     let here = ap (namings_of sector) there in
     elim (cases_lt sector size) [
       | inl low ↦ low
-      | inr high ↦ absurd (let none = each.within sector (omega (arith, known.whole)) in omega (arith, named-at sector cards place, known.are_cards.marks sector))
+      | inr high ↦ absurd (let none = each.within sector (omega (arith, known.whole)) in omega (arith, named-at sector cached_nodes place, known.are_cached_nodes.marks sector))
     ]
 
-content_bytes : (image : Image) (of : NodeKind) (card : CachedNode) → kind_of (content_of image of card) ≡ kind.File → bytes_of (content_of image of card) ≡ bytes_in image card.blocks card.fields.size
-content_bytes image kind.File card is = refl
-content_bytes image kind.Directory card is = absurd (cc)
+content_bytes : (image : Image) (of : NodeKind) (cached : CachedNode) → kind_of (content_of image of cached) ≡ kind.File → bytes_of (content_of image of cached) ≡ bytes_in image cached.blocks cached.fields.size
+content_bytes image kind.File cached is = refl
+content_bytes image kind.Directory cached is = absurd (cc)
 
 -- its bytes are those of its cached node
-pub file_bytes : (image : Image) (cards : List (Option CachedNode)) (place number : ℕ) (card : CachedNode) → AreNumbered cards → get_or cards place None ≡ Some card → node_number_at cards place ≡ Some number
-    → HasFile (tree_of image cards) number → bytes_at (tree_of image cards) number ≡ bytes_in image card.blocks card.fields.size
+pub file_bytes : (image : Image) (cached_nodes : List (Option CachedNode)) (place number : ℕ) (cached : CachedNode) → AreNumbered cached_nodes → get_or cached_nodes place None ≡ Some cached → node_number_at cached_nodes place ≡ Some number
+    → HasFile (tree_of image cached_nodes) number → bytes_at (tree_of image cached_nodes) number ≡ bytes_in image cached.blocks cached.fields.size
 unfolding node_of
-file_bytes image cards place number card apart there is file =
-    let shown = node_there image cards place number card apart there is in
-    let same : card.fields.number ≡ number = shown.number_is in
-    let found : at number (tree_of image cards) ≡ Some (node_of image card) = ap (λ (n : ℕ). at n (tree_of image cards)) (sym same) ∙ tree-has image cards place card apart there in
-    let node : file.node ≡ node_of image card = (let was = file.there in cc) in
-    ap bytes_of_node found ∙ content_bytes image card.fields.kind card (ap (λ (n : Node). kind_of n.content) (sym node) ∙ file.file)
+file_bytes image cached_nodes place number cached apart there is file =
+    let shown = node_there image cached_nodes place number cached apart there is in
+    let same : cached.fields.number ≡ number = shown.number_is in
+    let found : at number (tree_of image cached_nodes) ≡ Some (node_of image cached) = ap (λ (n : ℕ). at n (tree_of image cached_nodes)) (sym same) ∙ tree-has image cached_nodes place cached apart there in
+    let node : file.node ≡ node_of image cached = (let was = file.there in cc) in
+    ap bytes_of_node found ∙ content_bytes image cached.fields.kind cached (ap (λ (n : Node). kind_of n.content) (sym node) ∙ file.file)
 
 -- and its place is there
-pub place_there : (image : Image) (cards : List (Option CachedNode)) (number : ℕ) (place : Option ℕ) → IfNone place (HasNoNode cards number) → HasFile (tree_of image cards) number → IsSome place
-place_there image cards number (Some place) none file = refl
-place_there image cards number None none file = absurd (let lacks = none_there image cards number none in let there = file.there in cc)
+pub place_there : (image : Image) (cached_nodes : List (Option CachedNode)) (number : ℕ) (place : Option ℕ) → IfNone place (HasNoNode cached_nodes number) → HasFile (tree_of image cached_nodes) number → IsSome place
+place_there image cached_nodes number (Some place) none file = refl
+place_there image cached_nodes number None none file = absurd (let lacks = none_there image cached_nodes number none in let there = file.there in cc)
 
 -- what is known of what was found
 pub some_at : {T : Type 0} (option : Option T) (P : T → Type 0) (value : T) → option ≡ Some value → IfSome option P → P value

@@ -23,10 +23,10 @@ rests_left first image left = ⊎_elim
     left
 
 -- what a crash may leave of a device as it was at one of its moments, it may leave of the device
-front_left : (device earlier : History) (t : ℕ) (image : Image) → IsMomentOf device earlier → t ≤ moment earlier → LeftSince earlier t image → LeftSince device t image
-front_left device earlier t image Now late left = left
-front_left device earlier t image (Before {now = now} {before = before} {past = past} front) late left =
-    front_left device (record { now = now; past = before ∷ past }) t image front (omega (arith, late)) (⊎_elim
+prefix_left : (device earlier : History) (t : ℕ) (image : Image) → IsMomentOf device earlier → t ≤ moment earlier → LeftSince earlier t image → LeftSince device t image
+prefix_left device earlier t image Now late left = left
+prefix_left device earlier t image (Before {now = now} {before = before} {past = past} prefix) late left =
+    prefix_left device (record { now = now; past = before ∷ past }) t image prefix (omega (arith, late)) (⊎_elim
     (λ (here : Left before image). inr (inl (late, here)))
     (λ (was : LeftWithin past t image). inr (inr was))
     left)
@@ -71,8 +71,8 @@ module _ (sectors nodes run : ℕ) (good : Kept → Type 0) where
   lasting first since device from good Stays = good
   lasting first since device from good (Mounts {old = old} {new = new} {from = at} before adds) =
       mounted_on old new at (lasting first since old at good before) adds
-  lasting first since device from good (Ends {old = old} {new = new} {from = at} before front late) =
-      record { within = late; leaves = λ image left. (lasting first since old at good before).leaves image (front_left old new at image front late left) }
+  lasting first since device from good (Ends {old = old} {new = new} {from = at} before prefix late) =
+      record { within = late; leaves = λ image left. (lasting first since old at good before).leaves image (prefix_left old new at image prefix late left) }
   lasting first since device from good (Stops {old = old} {image = stopped} {from = at} before was) =
       record {
         within = omega arith;

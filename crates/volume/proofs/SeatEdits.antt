@@ -14,7 +14,7 @@ use Rattle.model_tree.specs.Seats.Seats.{HeldReply, Seat, Seats}
 use Rattle.model_tree.specs.declared.seats.SeatEdit as code_edit
 use Rattle.model_tree.specs.declared.seats.SeatEdits as code
 use Rattle.model_tree.specs.declared.seats.SeatEdit.TheVariants as kinds
-use Rattle.seats.specs.Spelling.{ArePlaces, IsHeld, IsSeatPlace, IsSeat, IsSlot, seat_sector}
+use Rattle.seats.specs.Encoding.{ArePlaces, IsHeld, IsSeatPlace, IsSeat, IsSlot, seat_sector}
 use Rattle.seats.proofs.Every.{every_held, every_seat}
 use Rattle.volume.specs.SeatTransactions.{AreUpdates}
 use Rattle.volume.specs.SeatUpdates.{edit_updates, updates_from}

@@ -8,7 +8,7 @@ use Rattle.journal.specs.Layout.{targets}
 use Rattle.journal.proofs.Images.{Out, Fit, applied_out}
 use Rattle.model_tree.specs.Seats.SeatEdits.{SeatEdit, Stays, Frees, Takes, Holds, CanEdit, edited_seat}
 use Rattle.model_tree.specs.Seats.Seats.{HeldReply, Seat, with_held}
-use Rattle.seats.specs.Spelling.{IsSeatPlace, part_of, seat_sector, slot_text}
+use Rattle.seats.specs.Encoding.{IsSeatPlace, part_of, seat_sector, slot_text}
 use Rattle.seats.proofs.Edits.{held_sector, kept_sector}
 use Rattle.volume.specs.SeatUpdates.{row, edit_updates, slot_updates}
 use Rattle.volume.proofs.SeatRows.{row_out, row_fit, row_there, length-row}

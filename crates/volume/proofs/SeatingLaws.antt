@@ -9,17 +9,17 @@ use Rattle.disk.specs.declared.update.Update.{Update}
 use Rattle.journal.specs.Log.{Log, AnswersByDevice, contents}
 use Rattle.journal.specs.declared.fault.JournalFault.{JournalFault}
 use Rattle.journal.specs.declared.fault.JournalFault.TheVariants as faults
-use Rattle.layout.specs.CachedNodes.{CachedNode, cards_in, node_sector, tree_of}
+use Rattle.layout.specs.CachedNodes.{CachedNode, cached_nodes_in, node_sector, tree_of}
 use Rattle.layout.specs.Rewriting.{IsRewritten}
 use Rattle.layout.specs.Stands as layout
 use Rattle.layout.specs.Stands.{HoldSeats, StandsNow, current_version, seats_at, spare_by}
-use Rattle.layout.proofs.Rewriting.{current_second, form_stays, rewritten_cards, rewritten_stands}
+use Rattle.layout.proofs.Rewriting.{current_second, form_stays, rewritten_cached_nodes, rewritten_stands}
 use Rattle.layout.proofs.SeatLaws.{spare_seats}
 use Rattle.model_tree.specs.Seats.SeatEdits.{SeatEdit, AreEdits, edited_all}
 use Rattle.model_tree.specs.Seats.Seats.{Seats}
 use Rattle.model_tree.specs.Trees.Tree.{Tree}
 use Rattle.volume.specs.SeatTransactions.{AreUpdates}
-use Rattle.seats.specs.Spelling.{ArePlaces, seat_sector, seats_sector}
+use Rattle.seats.specs.Encoding.{ArePlaces, seat_sector, seats_sector}
 use Rattle.volume.specs.Known.{IsServing, kept_in_image}
 use Rattle.volume.proofs.ApplyLaws.{StandsWith}
 use Rattle.volume.proofs.ChangeLaws.{StandsWith-prop}
@@ -32,8 +32,8 @@ use Rattle.volume.proofs.ServeLaws.{up_answered}
 behind_seats : (seats : Seats) (n : ℕ) → length seats ≡ 5 → 45 ≤ n → n < 47 → seats_sector n seats ≡ seat_sector (n % 9) None
 behind_seats seats n five low high = ap (seat_sector (n % 9)) (get_or_past seats (n / 9) None (omega (arith, five, low)))
 
-module _ (nodes run : ℕ) (log : Log) (cards : List (Option CachedNode)) (edits : List SeatEdit) (updates : List Update) (are : AreUpdates edits updates)
-    (read : cards ≡ cards_in nodes (contents log)) (stood : StandsNow log.size nodes (contents log) run (kept_in_image (contents log) cards))
+module _ (nodes run : ℕ) (log : Log) (cached_nodes : List (Option CachedNode)) (edits : List SeatEdit) (updates : List Update) (are : AreUpdates edits updates)
+    (read : cached_nodes ≡ cached_nodes_in nodes (contents log)) (stood : StandsNow log.size nodes (contents log) run (kept_in_image (contents log) cached_nodes))
     (can : AreEdits run edits (seats_at (contents log))) where
   abbrev image : Image
   image = contents log
@@ -48,7 +48,7 @@ module _ (nodes run : ℕ) (log : Log) (cards : List (Option CachedNode)) (edits
   is = edited_all edits was
 
   abbrev tree : Tree
-  tree = tree_of image cards
+  tree = tree_of image cached_nodes
 
   stands : layout.TreeStands (current_version was) log.size nodes image run tree
   stands = stood.stands
@@ -99,26 +99,26 @@ module _ (nodes run : ℕ) (log : Log) (cards : List (Option CachedNode)) (edits
   now_stands : layout.TreeStands (current_version is) log.size nodes now run tree
   now_stands = rewritten_stands (current_version was) (current_version is) log.size nodes run run image now tree stands (omega arith) stands.counted rewrites
 
-  same_cards : cards_in nodes now ≡ cards_in nodes image
-  same_cards =
-      sym (current_second (cards_in nodes now) now_stands.laid.forms)
-      ∙ (rewritten_cards (current_version was) (current_version is) log.size nodes run run image now tree stands rewrites
-      ∙ current_second (cards_in nodes image) stands.laid.forms)
+  same_cached_nodes : cached_nodes_in nodes now ≡ cached_nodes_in nodes image
+  same_cached_nodes =
+      sym (current_second (cached_nodes_in nodes now) now_stands.laid.forms)
+      ∙ (rewritten_cached_nodes (current_version was) (current_version is) log.size nodes run run image now tree stands rewrites
+      ∙ current_second (cached_nodes_in nodes image) stands.laid.forms)
 
-  pub seated_with : StandsWith nodes run log updates cards (record { tree = tree; seats = is })
+  pub seated_with : StandsWith nodes run log updates cached_nodes (record { tree = tree; seats = is })
   seated_with = record {
-    read = read ∙ sym same_cards;
-    tree = ap (tree_of now) (read ∙ sym same_cards) ∙ sym now_stands.tree_is;
+    read = read ∙ sym same_cached_nodes;
+    tree = ap (tree_of now) (read ∙ sym same_cached_nodes) ∙ sym now_stands.tree_is;
     stands = ∣ record { keeps = record { places = places; of_runs = can.of_runs }; stands = now_stands } ∣₁;
   }
 
 -- if a volume serves
-pub seats_behind : (nodes run : ℕ) (log : Log) (cards : List (Option CachedNode)) (edits : List SeatEdit) (updates : List Update) → AreUpdates edits updates
-    → AreEdits run edits (seats_at (contents log)) → ∥ IsServing log nodes run cards ∥₁
-    → StandsWith nodes run log updates cards (record { tree = tree_of (contents log) cards; seats = edited_all edits (seats_at (contents log)) })
-seats_behind nodes run log cards edits updates are can serving =
-    ∥∥₁_elim serving (StandsWith-prop nodes run log updates cards _) (λ served.
-    ∥∥₁_elim served.stands (StandsWith-prop nodes run log updates cards _) (λ stood. seated_with nodes run log cards edits updates are served.read stood can))
+pub seats_behind : (nodes run : ℕ) (log : Log) (cached_nodes : List (Option CachedNode)) (edits : List SeatEdit) (updates : List Update) → AreUpdates edits updates
+    → AreEdits run edits (seats_at (contents log)) → ∥ IsServing log nodes run cached_nodes ∥₁
+    → StandsWith nodes run log updates cached_nodes (record { tree = tree_of (contents log) cached_nodes; seats = edited_all edits (seats_at (contents log)) })
+seats_behind nodes run log cached_nodes edits updates are can serving =
+    ∥∥₁_elim serving (StandsWith-prop nodes run log updates cached_nodes _) (λ served.
+    ∥∥₁_elim served.stands (StandsWith-prop nodes run log updates cached_nodes _) (λ stood. seated_with nodes run log cached_nodes edits updates are served.read stood can))
 
 -- a transaction that is small enough is refused only because of the device
 either_fault : (fault : JournalFault) → (fault ≡ faults.TooMany → ⊥) → (fault ≡ faults.TooMany) ⊎ ((fault ≡ faults.Fault) ⊎ (fault ≡ faults.Down))

@@ -14,7 +14,7 @@ use Rattle.model_tree.specs.Trees.Keyed.{at}
 use Rattle.model_tree.specs.Trees.Tree.{Tree, Node, Content, File, Directory, root, bytes_of, names_of}
 use Rattle.model_tree.specs.Trees.WellFormed.{links_from, links_in}
 use Rattle.volume.specs.Nodes.{IsNodeOf, ShowsContent}
-use Rattle.volume.specs.Shown.{ShowsAs, AnswersByShown}
+use Rattle.volume.specs.Alike.{ShowsAs, AnswersByShown}
 
 -- Parents and ancestors
 
@@ -42,16 +42,16 @@ below-without_data tree upper number = ap (list_any (λ (of : ℕ). of == upper)
 -- Nodes
 
 -- a content of the same blank is shown by the same cached nodes
-content_alike : (of : NodeKind) (card : CachedNode) (content other : Content) → blank other ≡ blank content → ShowsContent of card content → ShowsContent of card other
-content_alike kind.File card content (File bytes) alike shown = record {
+content_alike : (of : NodeKind) (cached : CachedNode) (content other : Content) → blank other ≡ blank content → ShowsContent of cached content → ShowsContent of cached other
+content_alike kind.File cached content (File bytes) alike shown = record {
   bytes = bytes;
   file = refl;
   size_is = sym (length-zeros (length bytes)) ∙ ap (λ (c : Content). length (bytes_of c)) (alike ∙ ap blank shown.file) ∙ length-zeros (length shown.bytes) ∙ shown.size_is;
 }
-content_alike kind.File card content (Directory names) alike shown = absurd (let file = shown.file in cc)
-content_alike kind.Directory card (Directory names) (Directory others) alike shown = alike ∙ shown
-content_alike kind.Directory card (Directory names) (File bytes) alike shown = absurd (cc)
-content_alike kind.Directory card (File bytes) other alike shown = absurd (cc)
+content_alike kind.File cached content (Directory names) alike shown = absurd (let file = shown.file in cc)
+content_alike kind.Directory cached (Directory names) (Directory others) alike shown = alike ∙ shown
+content_alike kind.Directory cached (Directory names) (File bytes) alike shown = absurd (cc)
+content_alike kind.Directory cached (File bytes) other alike shown = absurd (cc)
 
 module _ (tree shown : Tree) (alike : ShowsAs tree shown) where
   found_alike : (number : ℕ) → option_map blank_node (at number shown) ≡ option_map blank_node (at number tree)
@@ -62,8 +62,8 @@ module _ (tree shown : Tree) (alike : ShowsAs tree shown) where
   none_alike number None is none = refl
   none_alike number (Some node) is none = absurd (let same = found_alike number in cc)
 
-  module _ (number : ℕ) (card : CachedNode) (is : IsNodeOf tree number card) where
-    node_alike : (found : Option Node) → at number shown ≡ found → IsNodeOf shown number card
+  module _ (number : ℕ) (cached : CachedNode) (is : IsNodeOf tree number cached) where
+    node_alike : (found : Option Node) → at number shown ≡ found → IsNodeOf shown number cached
     node_alike None there = absurd (let same = found_alike number in let stands = is.there in cc)
     node_alike (Some node) there =
         let same : blank_node node ≡ blank_node is.node = same_Some (blank_node node) (blank_node is.node)
@@ -77,12 +77,12 @@ module _ (tree shown : Tree) (alike : ShowsAs tree shown) where
           acl = ap (λ (n : Node). n.acl) same ∙ is.acl;
           change = ap (λ (n : Node). n.change) same ∙ is.change;
           time_modify = ap (λ (n : Node). n.time_modify) same ∙ is.time_modify;
-          content = content_alike card.fields.kind card is.node.content node.content (ap (λ (n : Node). n.content) same) is.content;
+          content = content_alike cached.fields.kind cached is.node.content node.content (ap (λ (n : Node). n.content) same) is.content;
         }
 
 pub answers_by_shown : AnswersByShown
 answers_by_shown tree shown alike = record {
-  node = λ number card is. node_alike tree shown alike number card is (at number shown) refl;
+  node = λ number cached is. node_alike tree shown alike number cached is (at number shown) refl;
   none = λ number none. none_alike tree shown alike number (at number shown) refl none;
   parent = λ number. sym (parent-without_data shown number) ∙ ap (λ (t : Tree). parent_of t number) alike ∙ parent-without_data tree number;
   below = λ upper number. sym (below-without_data shown upper number) ∙ ap (λ (t : Tree). is_below t upper number) alike ∙ below-without_data tree upper number;

@@ -13,7 +13,7 @@ use Rattle.tree_edits.specs.Outlines.{blank, blank_node, without_data}
 use Rattle.tree_edits.specs.Parts.{PartsAreBytes}
 use Rattle.tree_edits.proofs.BlankLaws.{length-zeros, at-without_data, key-without_data, directory-without_data, names-without_data}
 use Rattle.tree_edits.proofs.FitLaws.{fits-without_data}
-use Rattle.tree_transaction.specs.Nodes.{shown_of}
+use Rattle.tree_transaction.specs.Nodes.{metadata_of}
 use Rattle.model_tree.specs.declared.limits.Limits.{Limits}
 use Rattle.model_tree.specs.declared.node.NodeKind.{NodeKind}
 use Rattle.model_tree.specs.declared.node.NodeKind.TheVariants as kind
@@ -94,7 +94,7 @@ bytes_done (PutBytes file offset part) puts tree are = bytes_altered (λ node. w
 bytes_done (SetSize file size) puts tree are = bytes_altered (λ node. with_content node (File (resized (bytes_of node.content) size)))
     (λ node has. resized_bytes (bytes_of node.content) size has) tree file are
 
-fresh_bytes : (of : NodeKind) (shown : model.Shown) → HasBytes (fresh_node of shown).content
+fresh_bytes : (of : NodeKind) (shown : model.Metadata) → HasBytes (fresh_node of shown).content
 fresh_bytes kind.File shown = no_bytes
 fresh_bytes kind.Directory shown = no_bytes
 
@@ -102,9 +102,9 @@ fresh_bytes kind.Directory shown = no_bytes
 pub edited_bytes : (edits : List Edit) → PartsAreBytes edits → (tree : Tree) → AreBytes tree → AreBytes (edited (edits_of edits) tree)
 edited_bytes [] parts tree are = are
 edited_bytes (declared.PutNode number of shown ∷ edits) parts tree are =
-    edited_bytes edits parts.1 _ (bytes_done (PutNode number (fresh_node of (shown_of shown))) (fresh_bytes of (shown_of shown)) tree are)
+    edited_bytes edits parts.1 _ (bytes_done (PutNode number (fresh_node of (metadata_of shown))) (fresh_bytes of (metadata_of shown)) tree are)
 edited_bytes (declared.DropNode number ∷ edits) parts tree are = edited_bytes edits parts.1 _ (bytes_done (DropNode number) tt tree are)
-edited_bytes (declared.Show number shown ∷ edits) parts tree are = edited_bytes edits parts.1 _ (bytes_done (Show number (shown_of shown)) tt tree are)
+edited_bytes (declared.Show number shown ∷ edits) parts tree are = edited_bytes edits parts.1 _ (bytes_done (Show number (metadata_of shown)) tt tree are)
 edited_bytes (declared.PutName directory stamp name number ∷ edits) parts tree are =
     edited_bytes edits parts.1 _ (bytes_done (PutName directory stamp (record { name = name.now; number = number })) tt tree are)
 edited_bytes (declared.DropName directory stamp name ∷ edits) parts tree are = edited_bytes edits parts.1 _ (bytes_done (DropName directory stamp) tt tree are)

@@ -3,10 +3,10 @@
 use Rattle.std.proofs.Common.{ℕ, ◌≡◌, ◌≤◌, inl, inr, refl, rules, arith, ap, subst, sym, ◌∙◌}
 use Rattle.std.specs.Prelude.{IsTrue}
 use Rattle.disk.specs.Moments.{Image}
-use Rattle.journal.specs.Layout.{IsArea, in_front}
+use Rattle.journal.specs.Layout.{IsArea, log_at_start}
 use Rattle.journal.specs.Settled.{AreSame, Settles}
 use Rattle.journal.specs.declared.layout.LogArea.{LogArea}
-use Rattle.layout.specs.CachedNodes.{cards_in}
+use Rattle.layout.specs.CachedNodes.{cached_nodes_in}
 use Rattle.layout.specs.Stands as layout
 use Rattle.layout.specs.Stands.{Kept, StandsNow, current_version, seats_at}
 use Rattle.layout.specs.Superblock.{is_size}
@@ -24,17 +24,17 @@ large sectors nodes size = search rules
 
 -- the log is before the sectors that transactions write
 
-pub placed_on : (area was : LogArea) (size old : ℕ) → area ≡ was → size ≡ old → was ≡ in_front old → area ≡ in_front size
-placed_on area was size old same sizes placed = same ∙ (placed ∙ ap in_front (sym sizes))
+pub placed_on : (area was : LogArea) (size old : ℕ) → area ≡ was → size ≡ old → was ≡ log_at_start old → area ≡ log_at_start size
+placed_on area was size old same sizes placed = same ∙ (placed ∙ ap log_at_start (sym sizes))
 
 -- such a log is one
-pub is_front : (size : ℕ) → IsArea (in_front size)
-is_front size = record { behind = omega arith; beside = λ in_front_of. omega arith; numbers = omega arith; few = omega arith; room = omega arith }
+pub is_prefix : (size : ℕ) → IsArea (log_at_start size)
+is_prefix size = record { behind = omega arith; beside = λ at_start_of. omega arith; numbers = omega arith; few = omega arith; room = omega arith }
 
-pub same_placed : (area : LogArea) (size : ℕ) (a b : Image) → area ≡ in_front size → AreSame area.end a b → AreSame size a b
+pub same_placed : (area : LogArea) (size : ℕ) (a b : Image) → area ≡ log_at_start size → AreSame area.end a b → AreSame size a b
 same_placed area size a b placed same = subst (λ (l : LogArea). AreSame l.end a b) placed same
 
-pub settles_placed : (area : LogArea) (size : ℕ) (image base : Image) → area ≡ in_front size → Settles area image base → Settles (in_front size) image base
+pub settles_placed : (area : LogArea) (size : ℕ) (image base : Image) → area ≡ log_at_start size → Settles area image base → Settles (log_at_start size) image base
 settles_placed area size image base placed settles = subst (λ (l : LogArea). Settles l image base) placed settles
 
 -- the volume is the same if the kept sectors are
@@ -70,8 +70,8 @@ seats_same sectors nodes a b run kept same now =
     now_told sectors nodes b run kept (now_same sectors nodes a b run kept same now) ∙ sym (now_told sectors nodes a run kept now)
 
 -- and so are the cached nodes
-pub cards_same : (version : layout.Version) (sectors nodes : ℕ) (a b : Image) (run : ℕ) (tree : Tree) → AreSame sectors a b
-    → layout.TreeStands version sectors nodes a run tree → cards_in nodes b ≡ cards_in nodes a
-cards_same version sectors nodes a b run tree same stands =
-    (kept_alone version sectors nodes a b (cards_in nodes a) stands.region.behind stands.laid
-    (λ n above below. sym (same n (inr above, omega (arith, below, stands.region.within))))).same_cards
+pub cached_nodes_same : (version : layout.Version) (sectors nodes : ℕ) (a b : Image) (run : ℕ) (tree : Tree) → AreSame sectors a b
+    → layout.TreeStands version sectors nodes a run tree → cached_nodes_in nodes b ≡ cached_nodes_in nodes a
+cached_nodes_same version sectors nodes a b run tree same stands =
+    (kept_alone version sectors nodes a b (cached_nodes_in nodes a) stands.region.behind stands.laid
+    (λ n above below. sym (same n (inr above, omega (arith, below, stands.region.within))))).same_cached_nodes

@@ -5,12 +5,12 @@ use Rattle.std.specs.Prelude.{IsTrue, OnOk, Result, Ok, Err}
 use Rattle.std.specs.Option.{unwrap_or}
 use Rattle.disk.specs.Moments.{Image, History, AddsOnly, moment}
 use Rattle.disk.proofs.MomentLemmas.{AddsOnly-weaken, AddsOnly-join}
-use Rattle.journal.specs.Layout.{in_front}
+use Rattle.journal.specs.Layout.{log_at_start}
 use Rattle.journal.specs.declared.layout.LogArea.{LogArea}
 use Rattle.journal.specs.Calls.{IsSafe}
-use Rattle.journal.specs.Log.{Log, MakesAtMost, StandsForFront}
+use Rattle.journal.specs.Log.{Log, MakesAtMost, StandsForPrefix}
 use Rattle.journal.specs.Settled.{Settles}
-use Rattle.layout.specs.CachedNodes.{CachedNode, cards_in}
+use Rattle.layout.specs.CachedNodes.{CachedNode, cached_nodes_in}
 use Rattle.layout.specs.Rewriting.{all_second}
 use Rattle.layout.specs.Stands as layout
 use Rattle.layout.specs.Stands.{By, IsMark, Kept, MayHaveSeats, StandsNow, bare, current_version, served_version, mark_held, moved_by, number_of_version, version_1, version_2, version_by}
@@ -20,7 +20,7 @@ use Rattle.layout.specs.declared.versions.VersionNumber.TheVariants.{One, Two}
 use Rattle.layout.proofs.KeptLaws.{same_kept}
 use Rattle.layout.proofs.MarkOnce.{stands_told, version_number}
 use Rattle.layout.proofs.Rewriting.{current_second}
-use Rattle.migration.proofs.Committing.{no_front}
+use Rattle.migration.proofs.Committing.{no_prefix}
 use Rattle.migration.specs.Migrations.{BeginsMoving, StandsStill, AddsStill, HasMovedAll, Rests, StaysInPlace, transaction_cost}
 use Rattle.migration.specs.Plans.{transactions_for}
 use Rattle.model_tree.specs.Seats.Seats.{Seats, no_seats}
@@ -33,11 +33,11 @@ use Rattle.volume.specs.declared.mount.Superblock.{Superblock}
 use Rattle.volume.proofs.StandLaws.{placed_on, settles_placed, sized}
 
 -- an image that still holds the tree, as a migration sees it, represents it
-still_is : (number : ℕ) (area : LogArea) (size nodes run : ℕ) (tree : Tree) (image : Image) → area ≡ in_front size → StandsStill number area size nodes run tree image → StandsForIn number size nodes run (bare tree) image
+still_is : (number : ℕ) (area : LogArea) (size nodes run : ℕ) (tree : Tree) (image : Image) → area ≡ log_at_start size → StandsStill number area size nodes run tree image → StandsForIn number size nodes run (bare tree) image
 still_is number area size nodes run tree image placed still =
     ∥∥₁_map still (λ is. (record { base = is.base; settles = settles_placed area size image is.base placed is.settles; stands = is.stands }, is.number_is))
 
-pub still_for : (number size nodes run : ℕ) (tree : Tree) (old new : Log) → size ≡ old.size → old.area ≡ in_front old.size → AddsStill number nodes run tree old new
+pub still_for : (number size nodes run : ℕ) (tree : Tree) (old new : Log) → size ≡ old.size → old.area ≡ log_at_start old.size → AddsStill number nodes run tree old new
     → AddsOnly (StandsForIn number size nodes run (bare tree)) old.history new.history
 still_for number size nodes run tree old new same placed adds = AddsOnly-weaken (StandsStill number old.area old.size nodes run tree) (StandsForIn number size nodes run (bare tree)) old.history new.history
     (λ image still. subst (λ (s : ℕ). StandsForIn number s nodes run (bare tree) image) (sym same) (still_is number old.area old.size nodes run tree image placed still)) adds
@@ -50,7 +50,7 @@ pub so_moves : {T E : Type 0} (result : Result T E) (P Q : Type 0) → (P → Q)
 so_moves (Ok done) P Q so is = so is
 so_moves (Err fault) P Q so is = tt
 
-pub ends_at_rest : {T E : Type 0} (old log : Log) (result : Result T E) → old.area ≡ in_front old.size → StaysInPlace old log → OnOk result (Rests log) → OnOk result (IsAtRest log)
+pub ends_at_rest : {T E : Type 0} (old log : Log) (result : Result T E) → old.area ≡ log_at_start old.size → StaysInPlace old log → OnOk result (Rests log) → OnOk result (IsAtRest log)
 ends_at_rest old log result placed stays is = so_moves result (Rests log) (IsAtRest log)
     (λ rests. record { up = rests.up; listed = rests.listed; placed = placed_on log.area old.area log.size old.size stays.area stays.size placed }) is
 
@@ -62,14 +62,14 @@ pub one_not_two : One ≡ Two → ⊥
 one_not_two same = cc
 
 -- Nodes of version 1 move
-module _ (keeps_word : Type 0) (found : Superblock) (mark : Option ℕ) (cards : List (Option CachedNode)) (seats : Seats) (places : List Bool) (old new : Log)
-    (size : found.sectors ≡ old.size) (placed : old.area ≡ in_front old.size) (one : found.version ≡ One) (loaded : AreLoaded keeps_word found old.base mark cards seats places) where
-  count : length cards ≡ found.nodes
-  count = loaded.known.are_cards.count
+module _ (keeps_word : Type 0) (found : Superblock) (mark : Option ℕ) (cached_nodes : List (Option CachedNode)) (seats : Seats) (places : List Bool) (old new : Log)
+    (size : found.sectors ≡ old.size) (placed : old.area ≡ log_at_start old.size) (one : found.version ≡ One) (loaded : AreLoaded keeps_word found old.base mark cached_nodes seats places) where
+  count : length cached_nodes ≡ found.nodes
+  count = loaded.known.are_cached_nodes.count
 
-  as_one : (kept : Kept) → StandsIn found mark old.base kept → layout.TreeStands (version_1 mark) old.size (length cards) old.base found.run kept.tree
+  as_one : (kept : Kept) → StandsIn found mark old.base kept → layout.TreeStands (version_1 mark) old.size (length cached_nodes) old.base found.run kept.tree
   as_one kept stands =
-      subst (λ (s : ℕ). layout.TreeStands (version_1 mark) s (length cards) old.base found.run kept.tree) size
+      subst (λ (s : ℕ). layout.TreeStands (version_1 mark) s (length cached_nodes) old.base found.run kept.tree) size
       (subst (λ (n : ℕ). layout.TreeStands (version_1 mark) found.sectors n old.base found.run kept.tree) (sym count)
       (subst (λ (v : VersionNumber). layout.TreeStands (version_by v mark kept.seats) found.sectors found.nodes old.base found.run kept.tree) one stands.stands))
 
@@ -80,22 +80,22 @@ module _ (keeps_word : Type 0) (found : Superblock) (mark : Option ℕ) (cards :
   as_bare : (kept : Kept) → StandsIn found mark old.base kept → bare kept.tree ≡ kept
   as_bare kept stands = same_kept (bare kept.tree) kept refl (sym (is_bare kept stands))
 
-  pub begins : keeps_word → (kept : Kept) → StandsIn found mark old.base kept → BeginsMoving mark (moved_by mark) found.run kept.tree cards old
+  pub begins : keeps_word → (kept : Kept) → StandsIn found mark old.base kept → BeginsMoving mark (moved_by mark) found.run kept.tree cached_nodes old
   begins k kept stands = record {
     marked = subst (λ (n : ℕ). IsMark One n mark) (sym count) (subst (λ (v : VersionNumber). IsMark v found.nodes mark) one loaded.marked);
     told = refl;
     stands = as_one kept stands;
-    read = loaded.read k ∙ ap (λ (n : ℕ). all_second (cards_in n old.base)) (sym count);
+    read = loaded.read k ∙ ap (λ (n : ℕ). all_second (cached_nodes_in n old.base)) (sym count);
   }
 
-  pub moves_safely : (kept : Kept) → StandsIn found mark old.base kept → AddsStill 1 (length cards) found.run kept.tree old new
+  pub moves_safely : (kept : Kept) → StandsIn found mark old.base kept → AddsStill 1 (length cached_nodes) found.run kept.tree old new
       → AddsOnly (StandsForIn (number_of_version found.version) found.sectors found.nodes found.run kept) old.history new.history
   moves_safely kept stands adds = subst (λ (v : VersionNumber). AddsOnly (StandsForIn (number_of_version v) found.sectors found.nodes found.run kept) old.history new.history) (sym one)
       (subst (λ (n : ℕ). AddsOnly (StandsForIn 1 found.sectors n found.run kept) old.history new.history) count
-      (subst (λ (of : Kept). AddsOnly (StandsForIn 1 found.sectors (length cards) found.run of) old.history new.history) (as_bare kept stands)
-      (still_for 1 found.sectors (length cards) found.run kept.tree old new size placed adds)))
+      (subst (λ (of : Kept). AddsOnly (StandsForIn 1 found.sectors (length cached_nodes) found.run of) old.history new.history) (as_bare kept stands)
+      (still_for 1 found.sectors (length cached_nodes) found.run kept.tree old new size placed adds)))
 
-  pub moved_to : HasMovedAll (moved_by mark) cards old new → keeps_word → (kept : Kept) → StandsIn found mark old.base kept → HasMovedTo found mark kept old.base new.base
+  pub moved_to : HasMovedAll (moved_by mark) cached_nodes old new → keeps_word → (kept : Kept) → StandsIn found mark old.base kept → HasMovedTo found mark kept old.base new.base
   moved_to has k kept stands =
       let tree = kept.tree in
       let is = has mark found.run tree (begins k kept stands) in
@@ -105,9 +105,9 @@ module _ (keeps_word : Type 0) (found : Superblock) (mark : Option ℕ) (cards :
           keeps = stands.keeps;
           stands = subst (λ (v : VersionNumber). layout.TreeStands (version_by v (moved_mark v found.nodes mark) kept.seats) found.sectors found.nodes new.base found.run tree) (sym one)
               (subst (λ (n : ℕ). layout.TreeStands (version_1 (Some n)) found.sectors n new.base found.run tree) count
-              (subst (λ (s : ℕ). layout.TreeStands (version_1 (Some (length cards))) s (length cards) new.base found.run tree) (sym size) is.stands));
+              (subst (λ (s : ℕ). layout.TreeStands (version_1 (Some (length cached_nodes))) s (length cached_nodes) new.base found.run tree) (sym size) is.stands));
         };
-        cards = subst (λ (n : ℕ). all_second (cards_in n new.base) ≡ all_second (cards_in n old.base)) count is.cards;
+        cached_nodes = subst (λ (n : ℕ). all_second (cached_nodes_in n new.base) ≡ all_second (cached_nodes_in n old.base)) count is.cached_nodes;
       }
 
 -- those of version 2 stay
@@ -120,21 +120,21 @@ stay_moved found mark kept base two stands = record {
     stands = subst (λ (v : VersionNumber). layout.TreeStands (version_by v (moved_mark v found.nodes mark) kept.seats) found.sectors found.nodes base found.run kept.tree) (sym two)
         (subst (λ (v : VersionNumber). layout.TreeStands (version_by v mark kept.seats) found.sectors found.nodes base found.run kept.tree) two stands.stands);
   };
-  cards = refl;
+  cached_nodes = refl;
 }
 
 -- The commit record was written again, and the volume still holds what it held
 module _ (keeps_word : Type 0) (found : Superblock) (mark : Option ℕ) (old new : Log) (size : found.sectors ≡ old.size) (marked : IsMark found.version found.nodes mark)
-    (listed : old.list ≡ []) (placed : old.area ≡ in_front old.size) (safe : IsSafe keeps_word old new) where
+    (listed : old.list ≡ []) (placed : old.area ≡ log_at_start old.size) (safe : IsSafe keeps_word old new) where
   pub rewritten_moments : keeps_word → (kept : Kept) → StandsIn found mark old.base kept
       → AddsOnly (StandsForIn (number_of_version found.version) found.sectors found.nodes found.run kept) old.history new.history
-  rewritten_moments k kept stands = AddsOnly-weaken (StandsForFront old.area old.base old.list)
+  rewritten_moments k kept stands = AddsOnly-weaken (StandsForPrefix old.area old.base old.list)
       (StandsForIn (number_of_version found.version) found.sectors found.nodes found.run kept) old.history new.history
-      (λ image front. ∣ (
+      (λ image prefix. ∣ (
         record {
           base = old.base;
-          settles = settles_placed old.area found.sectors image old.base (placed ∙ ap in_front (sym size))
-              (subst (Settles old.area image) (no_front old.list front.count old.base listed) front.settles);
+          settles = settles_placed old.area found.sectors image old.base (placed ∙ ap log_at_start (sym size))
+              (subst (Settles old.area image) (no_prefix old.list prefix.count old.base listed) prefix.settles);
           stands = record {
             version = version_by found.version mark kept.seats;
             is_version = By found.version mark kept.seats marked stands.may;
@@ -238,17 +238,17 @@ module _ (found : Superblock) (mark : Option ℕ) (old : Log) (marked : IsMark f
         unmark_later new clears kept stands = (clears kept (second_stands kept stands)).later
 
         -- and the nodes that were read are served
-        pub serves_from : (cards : List (Option CachedNode)) (seats : Seats) (new : Log) → cards ≡ all_second (cards_in found.nodes old.base) → StandsIn found mark old.base (read_as old.base cards seats)
+        pub serves_from : (cached_nodes : List (Option CachedNode)) (seats : Seats) (new : Log) → cached_nodes ≡ all_second (cached_nodes_in found.nodes old.base) → StandsIn found mark old.base (read_as old.base cached_nodes seats)
             → ((kept : Kept) → StandsInSecond then_mark raised.size found.nodes (found.run + 1) raised.base kept → IsCleared found.nodes (found.run + 1) kept raised new)
-            → ServesFrom found cards seats old.base new.base
-        serves_from cards seats new read stood clears =
-            let kept = read_as old.base cards seats in
+            → ServesFrom found cached_nodes seats old.base new.base
+        serves_from cached_nodes seats new read stood clears =
+            let kept = read_as old.base cached_nodes seats in
             let cleared = clears kept (second_stands kept stood) in
             let stands : StandsNow found.sectors found.nodes new.base (found.run + 1) kept =
             subst (λ (s : ℕ). StandsNow s found.nodes new.base (found.run + 1) kept) (sym size) cleared.stands in
             record {
-              read = read ∙ (sym (cleared.cards ∙ ((raised_to kept stood).cards ∙ (moves kept stood).cards))
-                  ∙ current_second (cards_in found.nodes new.base) stands.stands.laid.forms);
+              read = read ∙ (sym (cleared.cached_nodes ∙ ((raised_to kept stood).cached_nodes ∙ (moves kept stood).cached_nodes))
+                  ∙ current_second (cached_nodes_in found.nodes new.base) stands.stands.laid.forms);
               stands = stands;
             }
 
@@ -258,11 +258,11 @@ then_marked version nodes mark told is = still_marked version nodes mark ∙ sym
 -- What it costs to begin a run
 
 -- one flush of a volume
-few_flushed : (area : LogArea) (size : ℕ) → area ≡ in_front size → transaction_cost area ≡ 198
+few_flushed : (area : LogArea) (size : ℕ) → area ≡ log_at_start size → transaction_cost area ≡ 198
 few_flushed area size placed = ap transaction_cost placed
 
 -- the transactions that move the nodes of version 1
-pub moved_few : (version : VersionNumber) (nodes count moved : ℕ) (old new : Log) → version ≡ One → count ≡ nodes → old.area ≡ in_front old.size
+pub moved_few : (version : VersionNumber) (nodes count moved : ℕ) (old new : Log) → version ≡ One → count ≡ nodes → old.area ≡ log_at_start old.size
     → MakesAtMost (2 + transactions_for (count - moved) * transaction_cost old.area) old new → MakesAtMost (2 + 198 * moving_transactions version nodes) old new
 moved_few One nodes count moved old new one same placed few =
     let cost = few_flushed old.area old.size placed in
@@ -277,7 +277,7 @@ unmoved_few One nodes old new two few = absurd (one_not_two two)
 unmoved_few Two nodes old new two few = few
 
 -- the one that removes the mark
-pub cleared_few : (old new : Log) → old.area ≡ in_front old.size → MakesAtMost (transaction_cost old.area) old new → MakesAtMost 198 old new
+pub cleared_few : (old new : Log) → old.area ≡ log_at_start old.size → MakesAtMost (transaction_cost old.area) old new → MakesAtMost 198 old new
 cleared_few old new placed few = subst (λ (n : ℕ). MakesAtMost n old new) (few_flushed old.area old.size placed) few
 
 -- together

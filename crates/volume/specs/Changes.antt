@@ -10,7 +10,7 @@ use Rattle.volume.specs.declared.fault.VolumeFault.{VolumeFault}
 use Rattle.volume.specs.declared.fault.VolumeFault.TheVariants as fault
 use Rattle.volume.specs.VolumeState.{VolumeState, IsSameVolume, IsRecent, AddsKept, MakesAtMost}
 use Rattle.volume.specs.VolumeState.{kept_of, with_tree}
-use Rattle.volume.specs.Shown.{ShowsAs}
+use Rattle.volume.specs.Alike.{ShowsAs}
 
 -- how a call ends: it succeeded, it left all as it was, or the device failed in it
 pub data Ending : Type 0 where

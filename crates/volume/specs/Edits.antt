@@ -20,8 +20,8 @@ abbrev pub edited_by : VolumeState → List Edit → Tree
 edited_by held edits = edited (edits_of edits) held.tree
 
 -- the tree after the first `count` of them
-abbrev pub front_of : VolumeState → List Edit → (count : ℕ) → Tree
-front_of held edits count = edited (take count (edits_of edits)) held.tree
+abbrev pub prefix_of : VolumeState → List Edit → (count : ℕ) → Tree
+prefix_of held edits count = edited (take count (edits_of edits)) held.tree
 
 -- the node numbers of the names that edits put
 abbrev pub named_by : List Edit → List ℕ
@@ -83,8 +83,8 @@ pub record IsChange (held : VolumeState) (edits : List Edit) : Type 0 where
   -- a name that is put is there after all of them: none drops it again
   pub put : HasPut (edited_by held edits) edits
   -- what fits after the last of them fits after each
-  pub fronts : (count : ℕ) → IsTrue (fits held.limits (edited_by held edits))
-      → IsTrue (fits held.limits (front_of held edits count))
+  pub prefixes : (count : ℕ) → IsTrue (fits held.limits (edited_by held edits))
+      → IsTrue (fits held.limits (prefix_of held edits count))
   pub formed : IsTrue (fits held.limits (edited_by held edits))
       → IsFormed held.limits (stamp (held.run + 1) 0) (edited_by held edits)
 

@@ -9,5 +9,5 @@ FileWithin size blocks = (block sector : ℕ)
 
 -- the old bytes, and `count` more after them
 pub record GetsMore (old new : List ℕ) (count : ℕ) : Type 0 where
-  pub front : take (length old) new ≡ old
+  pub prefix : take (length old) new ≡ old
   pub count_is : length new ≡ length old + count

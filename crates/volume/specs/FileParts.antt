@@ -4,8 +4,8 @@ use Rattle.disk.specs.Moments.{Image}
 use Rattle.layout.specs.CachedNodes.{byte_at}
 
 -- the new bytes begin with the old ones
-abbrev pub IsBytesFront : (old new : List ℕ) → Type 0
-IsBytesFront old new = take (length old) new ≡ old
+abbrev pub IsBytesPrefix : (old new : List ℕ) → Type 0
+IsBytesPrefix old new = take (length old) new ≡ old
 
 -- `count` bytes follow the old ones. If the device keeps its word, which is `word` here, they are
 -- the bytes of these blocks from `offset` on.

@@ -4,10 +4,10 @@ use Rattle.disk.specs.Calls.{zero_sector}
 use Rattle.disk.specs.declared.update.Update.{Update}
 use Rattle.disk.specs.Moments.{Image, History, AddsOnly, Left}
 use Rattle.inode.specs.declared.node.Form.TheVariants.{Two}
-use Rattle.inode.specs.Spelling.{inode_sector}
+use Rattle.inode.specs.Encoding.{inode_sector}
 use Rattle.layout.specs.FreshLaws.{root_fields}
 use Rattle.layout.specs.CachedNodes.{node_sector}
-use Rattle.journal.specs.Layout.{in_front}
+use Rattle.journal.specs.Layout.{log_at_start}
 use Rattle.journal.specs.Settled.{Settles}
 use Rattle.layout.specs.Stands.{TreeStands, current_version}
 use Rattle.model_tree.specs.Seats.Seats.{no_seats}
@@ -19,7 +19,7 @@ root_update = record { target = node_sector 0; content = inode_sector Two root_f
 
 -- the new volume, of the current version: it has an empty root and was never mounted
 abbrev pub IsFresh : (sectors nodes : ℕ) → Image → Type 0
-IsFresh sectors nodes image = ∥ ((base : Image) × Settles (in_front sectors) image base
+IsFresh sectors nodes image = ∥ ((base : Image) × Settles (log_at_start sectors) image base
     × TreeStands (current_version no_seats) sectors nodes base 0 fresh_tree) ∥₁
 
 -- what a format adds to what a crash may leave: no volume, or the new one

@@ -5,7 +5,7 @@ pub mod FileBlocks
 pub mod FileParts
 pub mod Formats
 pub mod Formed
-pub mod Fronts
+pub mod Prefixes
 pub mod Kept
 pub mod Known
 pub mod KnownProps
@@ -23,7 +23,7 @@ pub mod Remounts
 pub mod Rooms
 pub mod SeatTransactions
 pub mod SeatUpdates
-pub mod Shown
+pub mod Alike
 pub mod Stands
 pub mod Starts
 pub mod Superblock

@@ -2,7 +2,7 @@
 use Rattle.std.specs.Prelude.{◌≡◌, ◌<◌, ◌+◌, ℕ, Bool, List, Option}
 use Rattle.disk.specs.Moments.{Image, IsSector}
 use Rattle.journal.specs.Log.{Log}
-use Rattle.layout.specs.CachedNodes.{CachedNode, tree_of, cards_in}
+use Rattle.layout.specs.CachedNodes.{CachedNode, tree_of, cached_nodes_in}
 use Rattle.layout.specs.Health.{Health, FailsOrStays}
 use Rattle.layout.specs.Rewriting.{all_second}
 use Rattle.layout.specs.Stands.{AreKept, IsMark, Kept, MayHaveSeats, mark_held}
@@ -25,27 +25,27 @@ HoldsBase found log = HoldsVolume found log.size log.base
 
 -- what was read from an image
 abbrev pub read_as : Image → List (Option CachedNode) → Seats → Kept
-read_as image cards seats = record { tree = tree_of image cards; seats = seats }
+read_as image cached_nodes seats = record { tree = tree_of image cached_nodes; seats = seats }
 
 -- The cached nodes are those of the sectors, as they are once each has form two, and the sectors
 -- hold their tree with the seats, in the version that was found and with this mark
 pub record AreLoaded (keeps_word : Type 0) (found : Superblock) (image : Image)
-    (mark : Option ℕ) (cards : List (Option CachedNode)) (seats : Seats) (places : List Bool)
+    (mark : Option ℕ) (cached_nodes : List (Option CachedNode)) (seats : Seats) (places : List Bool)
     : Type 0 where
-  pub known : AreKnownNodes found.sectors found.nodes cards places
+  pub known : AreKnownNodes found.sectors found.nodes cached_nodes places
   pub well_formed : ∥ AreWellFormed (limits_of found.sectors found.nodes)
-      (stamp (found.run + 1) 0) cards ∥₁
+      (stamp (found.run + 1) 0) cached_nodes ∥₁
   pub marked : IsMark found.version found.nodes mark
   pub may : MayHaveSeats found.version mark seats
   pub keeps : AreKept found.run seats
   pub marks : keeps_word → image 147 ≡ mark_held mark
-  pub read : keeps_word → cards ≡ all_second (cards_in found.nodes image)
-  pub stood : keeps_word → ∥ StandsIn found mark image (read_as image cards seats) ∥₁
+  pub read : keeps_word → cached_nodes ≡ all_second (cached_nodes_in found.nodes image)
+  pub stood : keeps_word → ∥ StandsIn found mark image (read_as image cached_nodes seats) ∥₁
 
 abbrev pub IsLoaded : (keeps_word : Type 0) → Superblock → Log → (mark : Option ℕ)
     → List (Option CachedNode) → Seats → List Bool → Type 0
-IsLoaded keeps_word found log mark cards seats places =
-    AreLoaded keeps_word found log.base mark cards seats places
+IsLoaded keeps_word found log mark cached_nodes seats places =
+    AreLoaded keeps_word found log.base mark cached_nodes seats places
 
 -- the journal is as it was, except that it is down if the device failed, and that was counted
 abbrev health : Log → (failures : ℕ) → Health

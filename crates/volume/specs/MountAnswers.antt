@@ -3,7 +3,7 @@ use Rattle.std.specs.Prelude.{ℕ, ⊤, List, ◌≡◌, ◌≤◌, ◌+◌, ◌
 use Rattle.disk.specs.Calls.{zero_sector}
 use Rattle.disk.specs.Cause.{IsCounted}
 use Rattle.disk.specs.Moments.{Image, History, AddsOnly, moment, seen, synced}
-use Rattle.journal.specs.Layout.{in_front}
+use Rattle.journal.specs.Layout.{log_at_start}
 use Rattle.journal.specs.Settled.{Settles, SettlesAs}
 use Rattle.layout.specs.Stands.{Kept}
 use Rattle.layout.specs.declared.versions.VersionNumber.TheVariants as numbers
@@ -31,7 +31,7 @@ NoTree sectors old =
 -- of it moves no node
 pub record NeedsNoMigration (sectors : ℕ) (old : History) : Type 0 where
   pub version : version_in (seen old.now 0) ≡ numbers.Two
-  pub unmarked : (base : Image) → Settles (in_front sectors) (seen old.now) base
+  pub unmarked : (base : Image) → Settles (log_at_start sectors) (seen old.now) base
       → base 147 ≡ zero_sector
 
 -- A mount of such a volume makes at most 106 writes and syncs: at most 102 by the journal, which
@@ -76,8 +76,8 @@ pub record FindsSeats (keeps_word : Type 0) (held : VolumeState) (seats : Seats)
 -- Nothing but the replay of a commit record that is set: what it names is copied home, so that each
 -- image left settles as the device did. If the record is not well formed, nothing is written.
 pub record OnlyReplays (sectors : ℕ) (old new : History) : Type 0 where
-  pub moments : AddsOnly (SettlesAs (in_front sectors) (seen old.now)) old new
-  pub formless : ((settled : Image) → Settles (in_front sectors) (seen old.now) settled → ⊥)
+  pub moments : AddsOnly (SettlesAs (log_at_start sectors) (seen old.now)) old new
+  pub formless : ((settled : Image) → Settles (log_at_start sectors) (seen old.now) settled → ⊥)
       → (new ≡ old) ⊎ (new ≡ synced old)
 
 -- NotVolume and Worn depend only on the first sector, and come before Damaged. If there is a tree,

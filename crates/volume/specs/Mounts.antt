@@ -2,9 +2,9 @@
 use Rattle.std.specs.Prelude.{ℕ, ⊤, false, [], Option, Some, Result, Ok, Err, ◌≡◌, ◌≤◌, ◌<◌, ◌+◌, ◌*◌, ◌^◌, ◌⊎◌, List, IsTrue}
 use Rattle.disk.specs.Calls.{zero_sector}
 use Rattle.disk.specs.Moments.{Image, History, AddsOnly, moment}
-use Rattle.journal.specs.Layout.{in_front}
+use Rattle.journal.specs.Layout.{log_at_start}
 use Rattle.journal.specs.Log.{Log, Costs, IsSettled}
-use Rattle.layout.specs.CachedNodes.{cards_in}
+use Rattle.layout.specs.CachedNodes.{cached_nodes_in}
 use Rattle.layout.specs.Rewriting.{all_second}
 use Rattle.layout.specs.Stands as layout
 use Rattle.layout.specs.Stands.{AreKept, IsMark, Kept, MayHaveSeats, served_version, number_of_version, version_2, version_by}
@@ -36,7 +36,7 @@ pub record IsVolumeOf (sectors : ℕ) (found : Superblock) : Type 0 where
 pub record IsAtRest (log : Log) : Type 0 where
   pub up : log.is_down ≡ false
   pub listed : log.list ≡ []
-  pub placed : log.area ≡ in_front log.size
+  pub placed : log.area ≡ log_at_start log.size
 
 -- what the first sector says, by the result of reading it
 abbrev pub IsTold : (sectors : ℕ) → (sector : List ℕ) → Result Superblock MountFault → Type 0
@@ -86,7 +86,7 @@ pub record IsRaisedTo (mark : Option ℕ) (found : Superblock) (kept : Kept) (ol
   pub keeps : AreKept (found.run + 1) kept.seats
   pub stands : layout.TreeStands (version_2 mark kept.seats)
       found.sectors found.nodes new (found.run + 1) kept.tree
-  pub cards : all_second (cards_in found.nodes new) ≡ all_second (cards_in found.nodes old)
+  pub cached_nodes : all_second (cached_nodes_in found.nodes new) ≡ all_second (cached_nodes_in found.nodes old)
 
 -- The count is raised with the version, once the nodes have moved, by a write and a sync
 pub record RaisesSafely (found : Superblock) (old : Log) (new : History) : Type 0 where

@@ -14,16 +14,16 @@ pub record IsFile (size : ℕ) (content : Content) : Type 0 where
   pub size_is : length bytes ≡ size
 
 abbrev pub ShowsContent : NodeKind → CachedNode → Content → Type 0
-ShowsContent kind.File card content = IsFile card.fields.size content
-ShowsContent kind.Directory card content = content ≡ Directory (by_stamp card.names)
+ShowsContent kind.File cached content = IsFile cached.fields.size content
+ShowsContent kind.Directory cached content = content ≡ Directory (by_stamp cached.names)
 
-pub record IsNodeOf (tree : Tree) (number : ℕ) (card : CachedNode) : Type 0 where
-  pub number_is : card.fields.number ≡ number
+pub record IsNodeOf (tree : Tree) (number : ℕ) (cached : CachedNode) : Type 0 where
+  pub number_is : cached.fields.number ≡ number
   pub node : Node
   pub there : at number tree ≡ Some node
-  pub owner : node.owner ≡ card.fields.owner
-  pub group : node.group ≡ card.fields.group
-  pub acl : node.acl ≡ card.fields.acl
-  pub change : node.change ≡ card.fields.change
-  pub time_modify : node.time_modify ≡ card.fields.time_modify
-  pub content : ShowsContent card.fields.kind card node.content
+  pub owner : node.owner ≡ cached.fields.owner
+  pub group : node.group ≡ cached.fields.group
+  pub acl : node.acl ≡ cached.fields.acl
+  pub change : node.change ≡ cached.fields.change
+  pub time_modify : node.time_modify ≡ cached.fields.time_modify
+  pub content : ShowsContent cached.fields.kind cached node.content

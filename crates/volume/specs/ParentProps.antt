@@ -4,6 +4,6 @@ use Rattle.std.proofs.Props.{props}
 use Rattle.layout.specs.CachedNodes.{CachedNode}
 use Rattle.volume.specs.ParentIndex.{AreParents}
 
-pub AreParents-prop : (cards : List (Option CachedNode)) (parents : List ℕ)
-    → IsProp (AreParents cards parents)
-AreParents-prop cards parents = Prim.hlevel props
+pub AreParents-prop : (cached_nodes : List (Option CachedNode)) (parents : List ℕ)
+    → IsProp (AreParents cached_nodes parents)
+AreParents-prop cached_nodes parents = Prim.hlevel props

@@ -6,7 +6,7 @@ use Rattle.journal.specs.Layout.{AreTargets, targets}
 use Rattle.layout.specs.Stands.{HoldSeats}
 use Rattle.model_tree.specs.Seats.SeatEdits.{SeatEdit, CanEditAll, edited_all}
 use Rattle.model_tree.specs.Seats.Seats.{Seats}
-use Rattle.seats.specs.Spelling.{ArePlaces}
+use Rattle.seats.specs.Encoding.{ArePlaces}
 
 -- an image that held the seats holds the edited ones after the updates, and those can be encoded
 pub record LaysEditedSeats (edits : List SeatEdit) (updates : List Update) (seats : Seats)

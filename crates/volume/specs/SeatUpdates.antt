@@ -4,7 +4,7 @@ use Rattle.std.specs.List.{range_with_len}
 use Rattle.disk.specs.declared.update.Update.{Update}
 use Rattle.model_tree.specs.Seats.SeatEdits.{SeatEdit, Stays, Frees, Takes, Holds}
 use Rattle.model_tree.specs.Seats.Seats.{HeldReply, Seat}
-use Rattle.seats.specs.Spelling.{part_of, seat_sector, slot_text}
+use Rattle.seats.specs.Encoding.{part_of, seat_sector, slot_text}
 
 -- `count` sectors, from the first one on
 unfoldable pub row : (first count : ℕ) → (ℕ → List ℕ) → List Update

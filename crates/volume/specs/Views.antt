@@ -8,20 +8,20 @@ use Rattle.layout.specs.Stands.{seats_at}
 use Rattle.model_tree.specs.declared.limits.Limits.{Limits}
 use Rattle.volume.specs.Changes.{Given, Ending, VolumeChanges}
 use Rattle.volume.specs.MountAnswers.{MountServes}
-use Rattle.volume.specs.VolumeState.{VolumeState, fronts_from}
+use Rattle.volume.specs.VolumeState.{VolumeState, prefixes_from}
 use Rattle.volume.specs.declared.volume.Volume.{Volume}
 
 -- what is seen of these nodes over a journal
 abbrev pub volume_state_by : Limits → (run : ℕ) → List (Option CachedNode) → Log → VolumeState
-volume_state_by limits run cards log = record {
+volume_state_by limits run cached_nodes log = record {
   limits = limits;
   run = run;
-  tree = tree_of (contents log) cards;
+  tree = tree_of (contents log) cached_nodes;
   seats = seats_at (contents log);
   is_down = log.is_down;
   sectors = log.size;
   history = log.history;
-  fronts = fronts_from log.base log.list;
+  prefixes = prefixes_from log.base log.list;
 }
 
 unfoldable pub volume_state : {D : _} {g : _} → Volume D g → VolumeState

@@ -3,7 +3,7 @@ use Rattle.std.specs.Prelude.{ℕ, Bool, false, List, [], ◌∷◌, ◌≡◌, 
 use Rattle.std.specs.List.{IsAmong}
 use Rattle.disk.specs.declared.update.Update.{Update}
 use Rattle.disk.specs.Moments.{History, Image, Left, AddsOnly, applied, moment}
-use Rattle.journal.specs.Layout.{in_front}
+use Rattle.journal.specs.Layout.{log_at_start}
 use Rattle.journal.specs.Settled.{Settles}
 use Rattle.layout.specs.Stands.{Kept, StandsNow}
 use Rattle.model_tree.specs.declared.limits.Limits.{Limits}
@@ -15,9 +15,9 @@ use Rattle.volume.specs.Formed.{IsFormed}
 use Rattle.volume.specs.Stands.{VolumeStands, StandsFor}
 
 -- an image, and what it is after each transaction
-abbrev pub fronts_from : Image → List (List Update) → List Image
-fronts_from base [] = base ∷ []
-fronts_from base (updates ∷ list) = base ∷ fronts_from (applied updates base) list
+abbrev pub prefixes_from : Image → List (List Update) → List Image
+prefixes_from base [] = base ∷ []
+prefixes_from base (updates ∷ list) = base ∷ prefixes_from (applied updates base) list
 
 pub record VolumeState : Type 0 where
   pub limits : Limits
@@ -28,7 +28,7 @@ pub record VolumeState : Type 0 where
   pub sectors : ℕ
   pub history : History
   -- the sectors with the flushed changes, and after each change that is not flushed yet
-  pub fronts : List Image
+  pub prefixes : List Image
 
 -- the same seats with another tree
 abbrev pub with_tree : VolumeState → Tree → Kept
@@ -65,9 +65,9 @@ LeavesOne held recent =
 -- fronts represents one of them, and what is in memory is among them.
 pub record IsRecent (held : VolumeState) (recent : List Kept) : Type 0 where
   pub leaves : LeavesOne held recent
-  pub covers : (front : Image) → IsAmong held.fronts front
+  pub covers : (prefix : Image) → IsAmong held.prefixes prefix
       → (kept : Kept) × IsAmong recent kept
-      × ∥ VolumeStands held.sectors held.limits.nodes front held.run kept ∥₁
+      × ∥ VolumeStands held.sectors held.limits.nodes prefix held.run kept ∥₁
   pub newest : IsAmong recent (kept_of held)
 
 -- a list of all that a crash may leave before is such a list after
@@ -81,7 +81,7 @@ MakesAtMost count old new = moment new.history ≤ moment old.history + count
 -- each image that a crash leaves is a volume of the current version that holds what is kept
 abbrev pub LeavesCurrent : VolumeState → Type 0
 LeavesCurrent held = (image : Image) → Left held.history.now image
-    → ∥ ((base : Image) × Settles (in_front held.sectors) image base
+    → ∥ ((base : Image) × Settles (log_at_start held.sectors) image base
     × StandsNow held.sectors held.limits.nodes base held.run (kept_of held)) ∥₁
 
 -- a crash leaves what is in memory

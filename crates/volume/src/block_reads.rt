@@ -5,7 +5,7 @@ ghost use Rattle.std.specs.Prelude.{length, take, drop, min, slice_index_or, OnO
 ghost use Rattle.layout.specs.CachedNodes.{bytes_in};
 ghost use Rattle.layout.specs.Health.{FailsOrStays};
 ghost use Rattle.volume.specs.FileBlocks.{FileWithin, GetsMore};
-ghost use Rattle.volume.specs.FileParts.{Appends, IsBytesFront};
+ghost use Rattle.volume.specs.FileParts.{Appends, IsBytesPrefix};
 
 use crate::fault::ReadingFault;
 use disk::SECTOR;
@@ -90,7 +90,7 @@ fn read_blocks<S: Sectors>(
     // What it appends
     ensures bytes { OnOk result (Appends S.keeps_word (S.image (S.kept base.old)) blocks.now
         offset count out.old.items out.new.items) }
-    ensures front { IsBytesFront out.old.items out.new.items }
+    ensures prefix { IsBytesPrefix out.old.items out.new.items }
     // It only reads the base
     ensures kept { S.kept base.new ≡ S.kept base.old }
     ensures health { FailsOrStays (S.health base.old) (S.health base.new)

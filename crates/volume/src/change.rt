@@ -34,7 +34,7 @@ impl<D: Device> Volume<D> {
     ghost use Rattle.volume.specs.Changes.{IsTree, ending_of};
     ghost use Rattle.volume.specs.Edits.{IsChange, IsEdited, edited_by};
     ghost use Rattle.volume.specs.Formed.{ShowsTree};
-    ghost use Rattle.volume.specs.Shown.{ShowsAs};
+    ghost use Rattle.volume.specs.Alike.{ShowsAs};
     ghost use Rattle.volume.specs.Views.{volume_state, AltersVolume};
     ghost use Rattle.volume.specs.VolumeState.{MakesAtMost};
 

@@ -2,9 +2,9 @@
 
 ghost use Rattle.std.specs.Prelude.{◌≡◌, ◌<◌, ◌^◌, ℕ};
 ghost use Rattle.layout.specs.declared.versions.VersionNumber.{VersionNumber};
-ghost use Rattle.volume.specs.Fronts.{KeepsFronts, AppliedRecent};
+ghost use Rattle.volume.specs.Prefixes.{KeepsPrefixes, AppliedRecent};
 ghost use Rattle.volume.specs.Remounts.{EveryRemount, StillStands};
-ghost use Rattle.volume.specs.Shown.{AnswersByShown};
+ghost use Rattle.volume.specs.Alike.{AnswersByShown};
 ghost use Rattle.volume.specs.Stands.{OneStands};
 ghost use Rattle.volume.specs.Superblock.{superblock, version_in, word};
 
@@ -43,6 +43,6 @@ pub fn answers_by_shown()
 
 /// A journal that holds unflushed changes.
 pub fn unflushed()
-    ensures keeps { KeepsFronts }
+    ensures keeps { KeepsPrefixes }
     ensures applied { AppliedRecent }
 {}

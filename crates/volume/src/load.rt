@@ -52,12 +52,12 @@ fn in_second(cached: Option<CachedNode>) -> Option<CachedNode>
 /// The cached nodes of all places as they are then.
 fn all_second(
     alloc: Global,
-    cards: Vec<Option<CachedNode>>,
+    cached_nodes: Vec<Option<CachedNode>>,
 ) -> Result<Vec<Option<CachedNode>>, AllocError>
-    ensures { IfOk result (λ second. second.items ≡ all_second cards.items) }
+    ensures { IfOk result (λ second. second.items ≡ all_second cached_nodes.items) }
 {
-    let mut second = Vec::with_capacity(alloc, cards.len())?;
-    for cached in cards {
+    let mut second = Vec::with_capacity(alloc, cached_nodes.len())?;
+    for cached in cached_nodes {
         second.push(in_second(cached))?;
     }
     Ok(second)
@@ -97,7 +97,7 @@ pub(crate) fn read_nodes<S: Sectors>(
         found.version,
         found.run,
     )?;
-    let table = Table::from_cards(alloc, all_second(alloc, contents.cards)?)?;
+    let table = Table::from_cached_nodes(alloc, all_second(alloc, contents.cached_nodes)?)?;
     let last_stamp = stamp(found.run, u32::MAX);
     if !are_well_formed(alloc, &table, &limits, last_stamp)? {
         return Err(MountFault::Damaged);

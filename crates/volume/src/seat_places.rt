@@ -5,7 +5,7 @@ ghost use Rattle.std.specs.Option.{option_map};
 ghost use Rattle.model_tree.specs.Seats.SeatEdits.{edit_view};
 ghost use Rattle.model_tree.specs.Seats.SeatViews.{held_view, seat_view};
 ghost use Rattle.volume.specs.SeatUpdates.{edit_updates, place_updates, slot_updates};
-ghost use Rattle.seats.specs.Spelling.{seat_sector};
+ghost use Rattle.seats.specs.Encoding.{seat_sector};
 
 use disk::{SECTOR, Update};
 use layout::places::{PLACE_SECTORS, SLOT_SECTORS, SPARE};

@@ -53,7 +53,7 @@ pub fn is_volume_size(sectors: u32, nodes: u32) -> bool
 
 /// Writes the fields of the first sector.
 fn put_fields(sector: &mut [u8; SECTOR], version: VersionNumber, sectors: u32, nodes: u32, run: u32)
-    ensures front { take 24 sector.new ≡ fields (number_of_version version) sectors nodes run }
+    ensures prefix { take 24 sector.new ≡ fields (number_of_version version) sectors nodes run }
     ensures len { length sector.new ≡ SECTOR }
 {
     put_bytes(sector, 0, &MAGIC);

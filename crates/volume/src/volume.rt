@@ -2,7 +2,7 @@
 
 ghost use Rattle.std.specs.Prelude.{◌≡◌, ◌<◌, ◌+◌, ◌^◌, false, IsTrue};
 ghost use Rattle.journal.specs.Journal.{log_of};
-ghost use Rattle.journal.specs.Layout.{in_front};
+ghost use Rattle.journal.specs.Layout.{log_at_start};
 ghost use Rattle.layout.specs.Superblock.{is_size};
 ghost use Rattle.model_tree.specs.Trees.Limits.{limits_of};
 ghost use Rattle.model_tree.specs.Trees.Stamp.{stamp};
@@ -44,7 +44,7 @@ pub struct Volume<D: Device> {
     pub(crate) parents: Parents,
     ghost bounded: { run < 2 ^ 32 },
     ghost sized: { IsTrue (is_size (log_of store.journal).size limits.nodes) },
-    ghost placed: { (log_of store.journal).area ≡ in_front (log_of store.journal).size },
+    ghost placed: { (log_of store.journal).area ≡ log_at_start (log_of store.journal).size },
     ghost limited: { limits ≡ limits_of (log_of store.journal).size limits.nodes },
     ghost formed: { IsFormed limits (stamp (run + 1) 0) (tree_without_data table) } by { IsFormed-prop limits (stamp (run + 1) 0) (tree_without_data table) },
     ghost known: { AreKnownNodes (log_of store.journal).size limits.nodes table places } by { AreKnownNodes-prop (log_of store.journal).size limits.nodes table places },
@@ -73,7 +73,7 @@ impl<D: Device> Volume<D> {
     ghost use Rattle.std.specs.Prelude.{◌≡◌, ◌≤◌, ◌↔◌, ◌⊎◌, true, None, length};
     ghost use Rattle.std.specs.Prelude.{IfSome, IfNone, IfOk, IfErr, OnOk, IsErrOf};
     ghost use Rattle.journal.specs.Journal.{log_of, journal_failures};
-    ghost use Rattle.layout.specs.Known.{IsCard};
+    ghost use Rattle.layout.specs.Known.{IsCached};
     ghost use Rattle.model_tree.specs.declared.acl.TheConstants.Acl.{MAX_STORED};
     ghost use Rattle.model_tree.specs.Trees.Keyed.{at};
     ghost use Rattle.model_tree.specs.Seats.SeatViews.{seats_view};
@@ -257,7 +257,7 @@ impl<D: Device> Volume<D> {
         ensures some { IfSome result
             (λ cached. IsNodeOf (volume_state self.now).tree number cached.now) }
         ensures none { IfNone result (at number (volume_state self.now).tree ≡ None) }
-        ensures fit { IfSome result (λ cached. IsCard cached.now) }
+        ensures fit { IfSome result (λ cached. IsCached cached.now) }
         ensures few { IfSome result (λ cached. length cached.now.fields.acl ≤ MAX_STORED) }
     {
         let place = self.table.find(number)?;

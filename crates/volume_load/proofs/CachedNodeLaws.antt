@@ -11,7 +11,7 @@ use Rattle.extents.proofs.ReadBack.{runs-back}
 use Rattle.inode.specs.declared.node.Form.{Form}
 use Rattle.inode.specs.declared.node.Form.TheVariants.{One, Two}
 use Rattle.inode.specs.Fields.{Fields}
-use Rattle.inode.specs.Spelling.{inode_sector}
+use Rattle.inode.specs.Encoding.{inode_sector}
 use Rattle.inode.proofs.ReadBack.{one_node}
 use Rattle.layout.specs.CachedNodes.{CachedNode, node_sector}
 use Rattle.layout.specs.Laid.{runs_of_sector}
@@ -41,7 +41,7 @@ one_runs word image sectors count a b w first second enough = ext_get_or no_run 
     of i runs found = omega (arith, length-take 500 (drop (500 * i) runs), length-drop (500 * i) runs, found.count_is)
 
     back : (i : ℕ) (runs : List Run) → FindsRuns word image sectors count runs → i < length sectors → runs_in (min 500 (count - 500 * i)) (image (get_or sectors i 0)) ≡ runs_of_sector i runs
-    back i runs found h = ap₂ runs_in (sym (of i runs found)) (found.spelled w i h) ∙ runs-back (runs_of_sector i runs) (all-take IsRun 500 (drop (500 * i) runs) (all-drop IsRun (500 * i) runs found.each))
+    back i runs found h = ap₂ runs_in (sym (of i runs found)) (found.encoded w i h) ∙ runs-back (runs_of_sector i runs) (all-take IsRun 500 (drop (500 * i) runs) (all-drop IsRun (500 * i) runs found.each))
 
     part : (i : ℕ) → i < length sectors → runs_of_sector i a ≡ runs_of_sector i b
     part i h = sym (back i a first h) ∙ back i b second h
@@ -74,12 +74,12 @@ can_blocks first places mid fields blocks marked can = can_more first places mid
 
 -- A place
 
-named-is : (n : ℕ) (card : CachedNode) → namings_of n (Some card) ≡ uses card.fields card.blocks n
+named-is : (n : ℕ) (cached : CachedNode) → namings_of n (Some cached) ≡ uses cached.fields cached.blocks n
 unfolding namings_of
-named-is n card = refl
+named-is n cached = refl
 
-pub marked_card : (first : ℕ) (old new : List Bool) (card : CachedNode) → AreMarked first old new (uses card.fields card.blocks) → AreMarked first old new (λ n. namings_of n (Some card))
-marked_card first old new card marked = record { len = marked.len; marks = λ n. omega (arith, marked.marks n, named-is n card) }
+pub marked_cached : (first : ℕ) (old new : List Bool) (cached : CachedNode) → AreMarked first old new (uses cached.fields cached.blocks) → AreMarked first old new (λ n. namings_of n (Some cached))
+marked_cached first old new cached marked = record { len = marked.len; marks = λ n. omega (arith, marked.marks n, named-is n cached) }
 
 pub marked_free : (first : ℕ) (places : List Bool) → AreMarked first places places (λ n. namings_of n None)
 marked_free first places = record { len = refl; marks = λ n. omega (arith, named-none n) }
@@ -94,28 +94,28 @@ not_both form content fields free used = absurd (let e : 0 ≡ 78 = sym (zero_se
 
 pub fields_there : Option CachedNode → Option Fields
 fields_there None = None
-fields_there (Some card) = Some card.fields
+fields_there (Some cached) = Some cached.fields
 
-pub found_there : (word : Type 0) (form : Form) (image : Image) (place : ℕ) (card : Option CachedNode) → FindsPlace word form image place card → FindsFields word form (image (node_sector place)) (fields_there card)
+pub found_there : (word : Type 0) (form : Form) (image : Image) (place : ℕ) (cached : Option CachedNode) → FindsPlace word form image place cached → FindsFields word form (image (node_sector place)) (fields_there cached)
 unfolding fields_there
 found_there word form image place None found = found
-found_there word form image place (Some card) found = found.node
+found_there word form image place (Some cached) found = found.node
 
 module _ (word : Type 0) (form : Form) (image : Image) (place first : ℕ) (places : List Bool) (fields : Fields) (w : word) (node : FindsNode word form (image (node_sector place)) fields) where
-  pub none_there : ((card : CachedNode) → card.fields ≡ fields → FindsRest word image card → CanMark first places (uses card.fields card.blocks) → ⊥) → (card : Option CachedNode) → FindsPlace word form image place card
-      → CanMark first places (λ n. namings_of n card) → ⊥
-  none_there none None found can = not_both form (image (node_sector place)) fields (found w) (node.spelled w)
-  none_there none (Some card) found can =
-      none card (one_node form form card.fields fields found.node.fits node.fits (sym (found.node.spelled w) ∙ node.spelled w)).1 found.rest (λ n. omega (arith, can n, named-is n card))
+  pub none_there : ((cached : CachedNode) → cached.fields ≡ fields → FindsRest word image cached → CanMark first places (uses cached.fields cached.blocks) → ⊥) → (cached : Option CachedNode) → FindsPlace word form image place cached
+      → CanMark first places (λ n. namings_of n cached) → ⊥
+  none_there none None found can = not_both form (image (node_sector place)) fields (found w) (node.encoded w)
+  none_there none (Some cached) found can =
+      none cached (one_node form form cached.fields fields found.node.fits node.fits (sym (found.node.encoded w) ∙ node.encoded w)).1 found.rest (λ n. omega (arith, can n, named-is n cached))
 
 pub same_find : (word : Type 0) (image : Image) (numbers others : List ℕ) (count more : ℕ) (runs : List Run) → numbers ≡ others → count ≡ more → FindsRuns word image numbers count runs → FindsRuns word image others more runs
 same_find word image numbers others count more runs a b found = subst (λ (n : ℕ). FindsRuns word image others n runs) b (subst (λ (l : List ℕ). FindsRuns word image l count runs) a found)
 
-pub content_there : (word : Type 0) (image other : Image) (fields : Fields) (card : CachedNode) (runs : List Run) (blocks : List (Option ℕ)) → word → image ≡ other → length fields.run_sectors ≡ (fields.runs + 499) / 500 → card.fields ≡ fields → FindsRest word image card → FindsBlocks word image fields runs blocks
-    → FindsContent word other fields.kind fields.size blocks card.names
-content_there word image other fields card runs blocks w moved enough same found read =
-    let there = subst (λ (f : Fields). FindsBlocks word image f card.runs card.blocks) same found.in_blocks in
-    let one : card.blocks ≡ blocks = same_blocks word image fields card.runs runs card.blocks blocks w enough there read in
-    subst (λ (i : Image). FindsContent word i fields.kind fields.size blocks card.names) moved
-    (subst (λ (l : List (Option ℕ)). FindsContent word image fields.kind fields.size l card.names) one
-    (subst (λ (f : Fields). FindsContent word image f.kind f.size card.blocks card.names) same found.content))
+pub content_there : (word : Type 0) (image other : Image) (fields : Fields) (cached : CachedNode) (runs : List Run) (blocks : List (Option ℕ)) → word → image ≡ other → length fields.run_sectors ≡ (fields.runs + 499) / 500 → cached.fields ≡ fields → FindsRest word image cached → FindsBlocks word image fields runs blocks
+    → FindsContent word other fields.kind fields.size blocks cached.names
+content_there word image other fields cached runs blocks w moved enough same found read =
+    let there = subst (λ (f : Fields). FindsBlocks word image f cached.runs cached.blocks) same found.in_blocks in
+    let one : cached.blocks ≡ blocks = same_blocks word image fields cached.runs runs cached.blocks blocks w enough there read in
+    subst (λ (i : Image). FindsContent word i fields.kind fields.size blocks cached.names) moved
+    (subst (λ (l : List (Option ℕ)). FindsContent word image fields.kind fields.size l cached.names) one
+    (subst (λ (f : Fields). FindsContent word image f.kind f.size cached.blocks cached.names) same found.content))

@@ -4,12 +4,12 @@ use Rattle.std.proofs.lemmas.Bool.{cases_lt, lt-leb, le-leb}
 use Rattle.std.proofs.lemmas.List.{length-set}
 use Rattle.freemap.specs.Places.{bit_from}
 use Rattle.layout.specs.Marks.{once_if, times, times_set, mark_by}
-use Rattle.layout.proofs.MarkProofs.{mark-front, mark-back, each_mark}
+use Rattle.layout.proofs.MarkProofs.{mark-prefix, mark-back, each_mark}
 use Rattle.layout.proofs.NumberLaws.{once-here}
 use Rattle.volume_load.specs.Marking.{max_marks, CanMark, AreMarked}
 
-most-front : (first count n : ℕ) → n < first → max_marks first count n ≡ 0
-most-front first count n h = rw (lt-leb first n h) refl
+most-prefix : (first count n : ℕ) → n < first → max_marks first count n ≡ 0
+most-prefix first count n h = rw (lt-leb first n h) refl
 
 most-behind : (first count n : ℕ) → first + count ≤ n → max_marks first count n ≡ 0
 most-behind first count n h = rw (le-leb first n (omega arith), le-ltb n (first + count) h) refl
@@ -19,7 +19,7 @@ most-in first count n low high = rw (le-leb first n low, lt-ltb n (first + count
 
 pub most-some : (first count n : ℕ) → 0 < max_marks first count n → (first ≤ n) × (n < first + count)
 most-some first count n some = elim (cases_lt n first) [
-  | inl low ↦ absurd (omega (arith, most-front first count n low))
+  | inl low ↦ absurd (omega (arith, most-prefix first count n low))
   | inr high ↦ elim (cases_lt n (first + count)) [
     | inl below ↦ (high, below)
     | inr behind ↦ absurd (omega (arith, most-behind first count n behind))
@@ -28,7 +28,7 @@ most-some first count n some = elim (cases_lt n first) [
 
 pub most-le : (first count n : ℕ) → max_marks first count n ≤ 1
 most-le first count n = elim (cases_lt n first) [
-  | inl low ↦ omega (arith, most-front first count n low)
+  | inl low ↦ omega (arith, most-prefix first count n low)
   | inr high ↦ elim (cases_lt n (first + count)) [
     | inl below ↦ omega (arith, most-in first count n high below)
     | inr behind ↦ omega (arith, most-behind first count n behind)
@@ -39,8 +39,8 @@ most-le first count n = elim (cases_lt n first) [
 cannot : (first : ℕ) (places : List Bool) (sector : ℕ) → max_marks first (length places) sector ≤ mark_by first places sector → CanMark first places (λ n. once_if (eqb n sector)) → ⊥
 cannot first places sector full can = omega (arith, can sector, once-here sector)
 
-pub cannot_front : (first : ℕ) (places : List Bool) (sector : ℕ) → sector < first → CanMark first places (λ n. once_if (eqb n sector)) → ⊥
-cannot_front first places sector low = cannot first places sector (omega (arith, most-front first (length places) sector low))
+pub cannot_prefix : (first : ℕ) (places : List Bool) (sector : ℕ) → sector < first → CanMark first places (λ n. once_if (eqb n sector)) → ⊥
+cannot_prefix first places sector low = cannot first places sector (omega (arith, most-prefix first (length places) sector low))
 
 pub cannot_behind : (first : ℕ) (places : List Bool) (sector : ℕ) → first + length places ≤ sector → CanMark first places (λ n. once_if (eqb n sector)) → ⊥
 cannot_behind first places sector high = cannot first places sector (omega (arith, most-behind first (length places) sector high))
@@ -82,10 +82,10 @@ times-take n sectors i d h = let e : i + 1 ≡ suc i = omega arith in ap (λ (k 
     step n (s ∷ sectors) zero d h = omega arith
     step n (s ∷ sectors) (suc i) d h = omega (arith, step n sectors i d (omega arith))
 
-pub times-front : (n : ℕ) (sectors : List ℕ) (i : ℕ) → times n (take i sectors) ≤ times n sectors
-times-front n sectors zero = omega arith
-times-front n [] (suc i) = omega arith
-times-front n (s ∷ sectors) (suc i) = omega (arith, times-front n sectors i)
+pub times-prefix : (n : ℕ) (sectors : List ℕ) (i : ℕ) → times n (take i sectors) ≤ times n sectors
+times-prefix n sectors zero = omega arith
+times-prefix n [] (suc i) = omega arith
+times-prefix n (s ∷ sectors) (suc i) = omega (arith, times-prefix n sectors i)
 
 pub times_set-take : (n : ℕ) (blocks : List (Option ℕ)) (i : ℕ) → i < length blocks → times_set n (take (i + 1) blocks) ≡ times_set n (take i blocks) + times_set n (get_or blocks i None ∷ [])
 times_set-take n blocks i h = let e : i + 1 ≡ suc i = omega arith in ap (λ (k : ℕ). times_set n (take k blocks)) e ∙ step n blocks i h
@@ -108,7 +108,7 @@ pub can_marked : (first : ℕ) (places : List Bool) (n : ℕ) → mark_by first 
 can_marked first places n =
     let each = each_mark first places 0 in
     elim (cases_lt n first) [
-      | inl low ↦ omega (arith, mark-front first places n low)
+      | inl low ↦ omega (arith, mark-prefix first places n low)
       | inr high ↦ elim (cases_lt n (first + length places)) [
         | inl below ↦ omega (arith, most-in first (length places) n high below, each.once n)
         | inr behind ↦ omega (arith, each.within n behind)

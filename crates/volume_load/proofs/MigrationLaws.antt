@@ -12,7 +12,7 @@ use Rattle.layout.specs.declared.versions.VersionNumber.TheVariants as numbers
 use Rattle.layout.proofs.FileLaws.{zero_sector-at}
 use Rattle.layout.proofs.SeatLaws.{spare_seats, version_spare}
 use Rattle.model_tree.specs.Seats.Seats.{Seats}
-use Rattle.seats.specs.Spelling.{seat_sector, seats_sector}
+use Rattle.seats.specs.Encoding.{seat_sector, seats_sector}
 use Rattle.volume_load.specs.Sectors.{AreSpare, AreZeroFrom}
 use Rattle.volume_load.proofs.SectorLaws.{zero-all}
 
@@ -58,18 +58,18 @@ free_sector k = refl
 behind_seats : (seats : Seats) (n : ℕ) → length seats ≡ 5 → 45 ≤ n → seats_sector n seats ≡ zero_sector
 behind_seats seats n five far = ap (seat_sector (n % 9)) (get_or_past seats (n / 9) None (omega (arith, five))) ∙ free_sector (n % 9)
 
-in-front : (mark : Option ℕ) (seats : Seats) (n : ℕ) → length seats ≡ 5 → 145 ≤ n → n < 147 → spare_by seats mark n ≡ zero_sector
-in-front mark seats n five far low = spare_seats seats mark n (λ e. absurd (omega arith)) ∙ behind_seats seats (n - 100) five (omega arith)
+in-prefix : (mark : Option ℕ) (seats : Seats) (n : ℕ) → length seats ≡ 5 → 145 ≤ n → n < 147 → spare_by seats mark n ≡ zero_sector
+in-prefix mark seats n five far low = spare_seats seats mark n (λ e. absurd (omega arith)) ∙ behind_seats seats (n - 100) five (omega arith)
 
 module _ (number : VersionNumber) (mark : Option ℕ) (seats : Seats) (image : Image) (may : MayHaveSeats number mark seats) where
   pub spare_there : length seats ≡ 5 → image 147 ≡ mark_held mark → HoldSeats image seats → AreSpare image → (n : ℕ) → 100 ≤ n → n < 148 → image n ≡ (version_by number mark seats).spare n
   spare_there five there holds spare n low high = elim (cases_eq n 147) [
     | inl at ↦ ap image at ∙ there ∙ ap (spare_by seats mark) (sym at) ∙ sym (version_spare number mark seats n may)
     | inr off ↦ elim (cases_lt n 145) [
-      | inl front ↦
+      | inl prefix ↦
           let e : n ≡ 100 + (n - 100) = omega arith in
           ap image e ∙ holds (n - 100) (omega arith) ∙ sym (spare_seats seats mark n off) ∙ sym (version_spare number mark seats n may)
-      | inr far ↦ let below : n < 147 = omega arith in spare n far below ∙ sym (in-front mark seats n five far below) ∙ sym (version_spare number mark seats n may)
+      | inr far ↦ let below : n < 147 = omega arith in spare n far below ∙ sym (in-prefix mark seats n five far below) ∙ sym (version_spare number mark seats n may)
     ]
   ]
 
@@ -77,8 +77,8 @@ module _ (number : VersionNumber) (mark : Option ℕ) (seats : Seats) (image : I
     pub mark_there : image 147 ≡ mark_held mark
     mark_there = spare 147 (omega arith) (omega arith) ∙ version_spare number mark seats 147 may
 
-    pub front_there : length seats ≡ 5 → AreSpare image
-    front_there five n low high = spare n (omega arith) (omega arith) ∙ version_spare number mark seats n may ∙ in-front mark seats n five low high
+    pub prefix_there : length seats ≡ 5 → AreSpare image
+    prefix_there five n low high = spare n (omega arith) (omega arith) ∙ version_spare number mark seats n may ∙ in-prefix mark seats n five low high
 
     pub seats_there : HoldSeats image seats
     seats_there n low =

@@ -5,7 +5,7 @@ use Rattle.std.proofs.lemmas.Bool.{cases_lt}
 use Rattle.std.proofs.lemmas.List.{length-append, length-take, length-drop, length-replicate, take_all, take-append-le, drop-append-le, drop_at, ext_get_or, get_or-take, get_or-drop}
 use Rattle.disk.specs.Moments.{Image}
 use Rattle.directory.specs.Records.{Record, IsRecord, record_from}
-use Rattle.directory.specs.Spelling.{record_bytes, directory_sector}
+use Rattle.directory.specs.Encoding.{record_bytes, directory_sector}
 use Rattle.directory.specs.Reading.{records_in}
 use Rattle.directory.proofs.ReadBack.{records-back}
 use Rattle.layout.specs.CachedNodes.{content_at}
@@ -17,11 +17,11 @@ use Rattle.volume_load.proofs.RunLaws.{all-append, all-take, all-drop}
 pub record AreReadTo (word : Type 0) (image : Image) (blocks : List (Option ℕ)) (count : ℕ) (i : ℕ) (names : List Record) : Type 0 where
   pub each : AllByRecursion IsRecord names
   pub long : length names ≡ min (15 * i) count
-  pub spelled : word → (k : ℕ) → k < i → content_at image (get_or blocks k None) ≡ directory_sector (names_of_block k names)
+  pub encoded : word → (k : ℕ) → k < i → content_at image (get_or blocks k None) ≡ directory_sector (names_of_block k names)
 
 module _ (word : Type 0) (image : Image) (blocks : List (Option ℕ)) (count : ℕ) (i : ℕ) (names part : List Record) (far : AreReadTo word image blocks count i names) (within : 15 * i < count) where
-  front_same : (k : ℕ) → k < i → names_of_block k (names ++ part) ≡ names_of_block k names
-  front_same k h = ap (take 15) (drop-append-le (15 * k) names part (omega (arith, far.long))) ∙ take-append-le 15 (drop (15 * k) names) part (omega (arith, length-drop (15 * k) names, far.long))
+  prefix_same : (k : ℕ) → k < i → names_of_block k (names ++ part) ≡ names_of_block k names
+  prefix_same k h = ap (take 15) (drop-append-le (15 * k) names part (omega (arith, far.long))) ∙ take-append-le 15 (drop (15 * k) names) part (omega (arith, length-drop (15 * k) names, far.long))
 
   last_is : length part ≤ 15 → names_of_block i (names ++ part) ≡ part
   last_is few = ap (take 15) (drop_at names part (15 * i) (omega (arith, far.long))) ∙ take_all 15 part few
@@ -30,11 +30,11 @@ module _ (word : Type 0) (image : Image) (blocks : List (Option ℕ)) (count : �
   read_more w sector is there found = record {
     each = all-append IsRecord names part far.each found.each;
     long = omega (arith, length-append names part, far.long, found.count_is);
-    spelled = λ u k h. elim (cases_lt k i) [
-      | inl low ↦ far.spelled u k low ∙ ap directory_sector (sym (front_same k low))
+    encoded = λ u k h. elim (cases_lt k i) [
+      | inl low ↦ far.encoded u k low ∙ ap directory_sector (sym (prefix_same k low))
       | inr high ↦
           let e : k ≡ i = omega arith in
-          ap (λ (n : ℕ). content_at image (get_or blocks n None)) e ∙ ap (content_at image) there ∙ found.spelled u ∙ ap directory_sector (sym (last_is (omega (arith, found.count_is))))
+          ap (λ (n : ℕ). content_at image (get_or blocks n None)) e ∙ ap (content_at image) there ∙ found.encoded u ∙ ap directory_sector (sym (last_is (omega (arith, found.count_is))))
           ∙ ap (λ (n : ℕ). directory_sector (names_of_block n (names ++ part))) (sym e)
     ];
   }
@@ -51,7 +51,7 @@ not_empty names few is =
 
 pub no_hole : (word : Type 0) (image : Image) (blocks : List (Option ℕ)) (count i : ℕ) (names : List Record) → word → FindsRecords word image blocks count names → i < length blocks → get_or blocks i None ≡ None → ⊥
 no_hole word image blocks count i names w found h none =
-    not_empty (names_of_block i names) (omega (arith, length-take 15 (drop (15 * i) names))) (ap (content_at image) (sym none) ∙ found.spelled w i h)
+    not_empty (names_of_block i names) (omega (arith, length-take 15 (drop (15 * i) names))) (ap (content_at image) (sym none) ∙ found.encoded w i h)
 
 -- At most one list of names is found
 
@@ -73,10 +73,10 @@ one_names word image blocks count a b w first second enough = ext_get_or no_name
     of i names found = omega (arith, length-take 15 (drop (15 * i) names), length-drop (15 * i) names, found.count_is)
 
     back : (i : ℕ) (names : List Record) → FindsRecords word image blocks count names → i < length blocks → records_in (min 15 (count - 15 * i)) (content_at image (get_or blocks i None)) ≡ names_of_block i names
-    back i names found h = ap₂ records_in (sym (of i names found)) (found.spelled w i h) ∙ records-back (names_of_block i names) (all-take IsRecord 15 (drop (15 * i) names) (all-drop IsRecord (15 * i) names found.each))
+    back i names found h = ap₂ records_in (sym (of i names found)) (found.encoded w i h) ∙ records-back (names_of_block i names) (all-take IsRecord 15 (drop (15 * i) names) (all-drop IsRecord (15 * i) names found.each))
 
     part : (i : ℕ) → i < length blocks → names_of_block i a ≡ names_of_block i b
     part i h = sym (back i a first h) ∙ back i b second h
 
 pub as_records : (word : Type 0) (image : Image) (blocks : List (Option ℕ)) (size : ℕ) (names : List Record) → FindsNames word image size blocks names → FindsRecords word image blocks size names
-as_records word image blocks size names found = record { each = found.directory.each; count_is = found.count; spelled = found.spelled }
+as_records word image blocks size names found = record { each = found.directory.each; count_is = found.count; encoded = found.encoded }

@@ -43,7 +43,7 @@ fills content count runs found some few = record { some = omega (arith, found.co
 pub record AreReadTo (word : Type 0) (image : Image) (sectors : List ℕ) (count : ℕ) (i : ℕ) (runs : List Run) : Type 0 where
   pub each : AllByRecursion IsRun runs
   pub long : length runs ≡ min (500 * i) count
-  pub spelled : word → (k : ℕ) → k < i → image (get_or sectors k 0) ≡ run_sector (runs_of_sector k runs)
+  pub encoded : word → (k : ℕ) → k < i → image (get_or sectors k 0) ≡ run_sector (runs_of_sector k runs)
 
 pub all-append : {A : Type 0} (P : A → Type 0) (xs ys : List A) → AllByRecursion P xs → AllByRecursion P ys → AllByRecursion P (xs ++ ys)
 all-append P [] ys all more = more
@@ -61,8 +61,8 @@ all-drop P (suc n) (x ∷ xs) all = all-drop P n xs all.1
 
 module _ (word : Type 0) (image : Image) (sectors : List ℕ) (count : ℕ) (i : ℕ) (runs part : List Run) (far : AreReadTo word image sectors count i runs) (within : 500 * i < count) where
   -- the sectors before are full, so they remain what they are
-  front_same : (k : ℕ) → k < i → runs_of_sector k (runs ++ part) ≡ runs_of_sector k runs
-  front_same k h = ap (take 500) (drop-append-le (500 * k) runs part (omega (arith, far.long))) ∙ take-append-le 500 (drop (500 * k) runs) part (omega (arith, length-drop (500 * k) runs, far.long))
+  prefix_same : (k : ℕ) → k < i → runs_of_sector k (runs ++ part) ≡ runs_of_sector k runs
+  prefix_same k h = ap (take 500) (drop-append-le (500 * k) runs part (omega (arith, far.long))) ∙ take-append-le 500 (drop (500 * k) runs) part (omega (arith, length-drop (500 * k) runs, far.long))
 
   last_is : length part ≤ 500 → runs_of_sector i (runs ++ part) ≡ part
   last_is few = ap (take 500) (drop_at runs part (500 * i) (omega (arith, far.long))) ∙ take_all 500 part few
@@ -71,11 +71,11 @@ module _ (word : Type 0) (image : Image) (sectors : List ℕ) (count : ℕ) (i :
   read_more w is found = record {
     each = all-append IsRun runs part far.each found.each;
     long = omega (arith, length-append runs part, far.long, found.count_is);
-    spelled = λ u k h. elim (cases_lt k i) [
-      | inl low ↦ far.spelled u k low ∙ ap run_sector (sym (front_same k low))
+    encoded = λ u k h. elim (cases_lt k i) [
+      | inl low ↦ far.encoded u k low ∙ ap run_sector (sym (prefix_same k low))
       | inr high ↦
           let e : k ≡ i = omega arith in
-          ap (λ (n : ℕ). image (get_or sectors n 0)) e ∙ found.spelled u ∙ ap run_sector (sym (last_is (omega (arith, found.count_is)))) ∙ ap (λ (n : ℕ). run_sector (runs_of_sector n (runs ++ part))) (sym e)
+          ap (λ (n : ℕ). image (get_or sectors n 0)) e ∙ found.encoded u ∙ ap run_sector (sym (last_is (omega (arith, found.count_is)))) ∙ ap (λ (n : ℕ). run_sector (runs_of_sector n (runs ++ part))) (sym e)
     ];
   }
 
@@ -85,5 +85,5 @@ pub part_of : (word : Type 0) (image : Image) (sectors : List ℕ) (count : ℕ)
 part_of word image sectors count i w runs found h is = record {
   each = all-take IsRun 500 (drop (500 * i) runs) (all-drop IsRun (500 * i) runs found.each);
   count_is = omega (arith, length-take 500 (drop (500 * i) runs), length-drop (500 * i) runs, found.count_is);
-  spelled = λ u. found.spelled u i h;
+  encoded = λ u. found.encoded u i h;
 }

@@ -9,7 +9,7 @@ use Rattle.model_tree.specs.Seats.SeatViews.{place_view}
 use Rattle.model_tree.specs.Seats.Seats.{Seat, Seats, SeatsApart, has_seat, is_seat_of, no_seats, seat_of}
 use Rattle.model_tree.proofs.Facts.BytesLaws.{bytes_same}
 use Rattle.seats.specs.Reading.{SeatsReadBack}
-use Rattle.seats.specs.Spelling.{ArePlaces, IsSeatPlace, seat_sector}
+use Rattle.seats.specs.Encoding.{ArePlaces, IsSeatPlace, seat_sector}
 use Rattle.directory.proofs.Places.{bytes_eq-true}
 use Rattle.sector.specs.Written.{each_at}
 use Rattle.layout.specs.Stands.{HoldSeats}

@@ -28,7 +28,7 @@ zero-all content from is at h = ap (λ (bytes : List ℕ). get_or bytes at 0) is
 -- what is found in an image's sector is found in the same content
 pub finds-here : (word : Type 0) (form : Form) (content there : List ℕ) (fields : Option Fields) → word → content ≡ there → FindsFields word form there fields → FindsFields (Unit {0}) form content fields
 finds-here word form content there None w same found = λ u. same ∙ found w
-finds-here word form content there (Some fields) w same found = record { fits = found.fits; number = found.number; spelled = λ u. same ∙ found.spelled w }
+finds-here word form content there (Some fields) w same found = record { fits = found.fits; number = found.number; encoded = λ u. same ∙ found.encoded w }
 
 -- Which fault a part gave, if the whole is `Damaged`
 

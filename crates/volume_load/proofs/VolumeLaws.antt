@@ -6,7 +6,7 @@ use Rattle.disk.specs.Moments.{Image}
 use Rattle.freemap.specs.Places.{mark_of, bit_of, bit_in}
 use Rattle.inode.specs.declared.node.Form.{Form}
 use Rattle.layout.specs.CachedNodes.{CachedNode}
-use Rattle.layout.specs.Known.{AreCards}
+use Rattle.layout.specs.Known.{AreCached}
 use Rattle.layout.specs.Laid.{AreLaid, AreNumbered}
 use Rattle.layout.specs.Marks.{named, mark_in, mark_by}
 use Rattle.layout.specs.declared.versions.Marking.{Marking}
@@ -15,7 +15,7 @@ use Rattle.layout.specs.declared.versions.VersionNumber.TheVariants.{One, Two}
 use Rattle.layout.specs.Stands.{marked_by, HoldSeats, Version, AreKept, HaveForms, IsLaid, IsMark, MayHaveSeats, mark_held, version_by, with_region}
 use Rattle.layout.specs.declared.versions.VersionNumber.{VersionNumber}
 use Rattle.model_tree.specs.Seats.Seats.{Seats, no_seats}
-use Rattle.layout.proofs.CachedNodeLaws.{cards-back}
+use Rattle.layout.proofs.CachedNodeLaws.{cached_nodes-back}
 use Rattle.layout.proofs.MarkProofs.{mark-back, each_mark, marks_laid}
 use Rattle.volume_load.specs.CachedNodes.{FindsPlace, IsFound, CanHold}
 use Rattle.volume_load.specs.Sectors.{AreBits, AreSpare, HaveBits, ShowMarks}
@@ -35,32 +35,32 @@ version_end One mark seats size = refl
 version_end Two mark seats size = refl
 
 -- a version is the same with its own marking and its own end of the data region
-pub laid_as : (version : Version) (marking : Marking) (data_end size nodes : ℕ) (image : Image) (cards : List (Option CachedNode)) → version.marking ≡ marking → version.data_end size ≡ data_end
-    → IsLaid (with_region marking data_end version) size nodes image cards ↔ IsLaid version size nodes image cards
-laid_as version marking data_end size nodes image cards marks ends = (
+pub laid_as : (version : Version) (marking : Marking) (data_end size nodes : ℕ) (image : Image) (cached_nodes : List (Option CachedNode)) → version.marking ≡ marking → version.data_end size ≡ data_end
+    → IsLaid (with_region marking data_end version) size nodes image cached_nodes ↔ IsLaid version size nodes image cached_nodes
+laid_as version marking data_end size nodes image cached_nodes marks ends = (
   λ laid. record {
-    laid = subst (λ (m : Marking). AreLaid nodes image (marked_by m nodes image cards) cards) (sym marks) laid.laid;
+    laid = subst (λ (m : Marking). AreLaid nodes image (marked_by m nodes image cached_nodes) cached_nodes) (sym marks) laid.laid;
     forms = laid.forms;
-    within = λ n past. ap (λ (m : Marking). marked_by m nodes image cards n) marks ∙ laid.within n (omega (arith, past, ends));
+    within = λ n past. ap (λ (m : Marking). marked_by m nodes image cached_nodes n) marks ∙ laid.within n (omega (arith, past, ends));
     spare = laid.spare;
   },
   λ laid. record {
-    laid = subst (λ (m : Marking). AreLaid nodes image (marked_by m nodes image cards) cards) marks laid.laid;
+    laid = subst (λ (m : Marking). AreLaid nodes image (marked_by m nodes image cached_nodes) cached_nodes) marks laid.laid;
     forms = laid.forms;
-    within = λ n past. ap (λ (m : Marking). marked_by m nodes image cards n) (sym marks) ∙ laid.within n (omega (arith, past, ends));
+    within = λ n past. ap (λ (m : Marking). marked_by m nodes image cached_nodes n) (sym marks) ∙ laid.within n (omega (arith, past, ends));
     spare = laid.spare;
   },
 )
 
 -- Cached nodes that are laid can be held
 
-pub laid_can : (word : Type 0) (marking : Marking) (data_end : ℕ) (number : VersionNumber) (mark : Option ℕ) (seats : Seats) (image : Image) (size nodes count : ℕ) (cards : List (Option CachedNode)) → data_end ≡ 148 + nodes + count → IsLaid (with_region marking data_end (version_by number mark seats)) size nodes image cards → AreFew cards
-    → CanHold word (version_by number mark no_seats).form image nodes count cards
-laid_can word marking data_end number mark seats image size nodes count cards sized laid few = record {
+pub laid_can : (word : Type 0) (marking : Marking) (data_end : ℕ) (number : VersionNumber) (mark : Option ℕ) (seats : Seats) (image : Image) (size nodes count : ℕ) (cached_nodes : List (Option CachedNode)) → data_end ≡ 148 + nodes + count → IsLaid (with_region marking data_end (version_by number mark seats)) size nodes image cached_nodes → AreFew cached_nodes
+    → CanHold word (version_by number mark no_seats).form image nodes count cached_nodes
+laid_can word marking data_end number mark seats image size nodes count cached_nodes sized laid few = record {
   many = laid.laid.count;
-  each = λ place h. place_found word ((version_by number mark no_seats).form place) image place (get_or cards place None) (λ card is. laid.forms place card is ∙ ap (λ (f : ℕ → Form). f place) (same-form number mark seats no_seats)) (λ card is. few place card is)
+  each = λ place h. place_found word ((version_by number mark no_seats).form place) image place (get_or cached_nodes place None) (λ cached is. laid.forms place cached is ∙ ap (λ (f : ℕ → Form). f place) (same-form number mark seats no_seats)) (λ cached is. few place cached is)
       (laid.laid.held place h);
-  once = λ n. elim (cases_lt 0 (marked_by marking nodes image cards n)) [
+  once = λ n. elim (cases_lt 0 (marked_by marking nodes image cached_nodes n)) [
     | inl some ↦
         let low = laid.laid.behind n some in
         elim (cases_lt n data_end) [
@@ -72,23 +72,23 @@ laid_can word marking data_end number mark seats image size nodes count cards si
 }
 
 -- by the one mark that is there
-pub record LaidHere (marking : Marking) (data_end : ℕ) (number : VersionNumber) (mark : Option ℕ) (seats : Seats) (image : Image) (size nodes : ℕ) (cards : List (Option CachedNode)) : Type 0 where
+pub record LaidHere (marking : Marking) (data_end : ℕ) (number : VersionNumber) (mark : Option ℕ) (seats : Seats) (image : Image) (size nodes : ℕ) (cached_nodes : List (Option CachedNode)) : Type 0 where
   pub may : MayHaveSeats number mark seats
-  pub laid : IsLaid (with_region marking data_end (version_by number mark seats)) size nodes image cards
+  pub laid : IsLaid (with_region marking data_end (version_by number mark seats)) size nodes image cached_nodes
 
-pub laid_here : (marking : Marking) (data_end : ℕ) (number : VersionNumber) (mark other : Option ℕ) (seats : Seats) (image : Image) (size nodes : ℕ) (cards : List (Option CachedNode)) → nodes < 2 ^ 32 → IsMark number nodes mark → image 147 ≡ mark_held mark → IsMark number nodes other → MayHaveSeats number other seats
-    → IsLaid (with_region marking data_end (version_by number other seats)) size nodes image cards → LaidHere marking data_end number mark seats image size nodes cards
-laid_here marking data_end number mark other seats image size nodes cards small is there one may laid =
+pub laid_here : (marking : Marking) (data_end : ℕ) (number : VersionNumber) (mark other : Option ℕ) (seats : Seats) (image : Image) (size nodes : ℕ) (cached_nodes : List (Option CachedNode)) → nodes < 2 ^ 32 → IsMark number nodes mark → image 147 ≡ mark_held mark → IsMark number nodes other → MayHaveSeats number other seats
+    → IsLaid (with_region marking data_end (version_by number other seats)) size nodes image cached_nodes → LaidHere marking data_end number mark seats image size nodes cached_nodes
+laid_here marking data_end number mark other seats image size nodes cached_nodes small is there one may laid =
     let same : other ≡ mark = one_mark other mark (mark_fits number nodes other small one) (mark_fits number nodes mark small is) (sym (mark_there number other seats image may laid.spare) ∙ there) in
     record {
       may = subst (λ (m : Option ℕ). MayHaveSeats number m seats) same may;
-      laid = subst (λ (m : Option ℕ). IsLaid (with_region marking data_end (version_by number m seats)) size nodes image cards) same laid;
+      laid = subst (λ (m : Option ℕ). IsLaid (with_region marking data_end (version_by number m seats)) size nodes image cached_nodes) same laid;
     }
 
 -- and are those that were found
-pub one_table : (word : Type 0) (form : ℕ → Form) (image : Image) (nodes count : ℕ) (cards others : List (Option CachedNode)) (places : List Bool) → word → IsFound word form image nodes count cards places → CanHold word form image nodes count others → cards ≡ others
-one_table word form image nodes count cards others places w found can =
-    ext_get_or None cards others (found.many ∙ sym can.many) (λ p h. one_place word (form p) image p (get_or cards p None) (get_or others p None) w (found.each p (omega (arith, found.many))) (can.each p (omega (arith, found.many))))
+pub one_table : (word : Type 0) (form : ℕ → Form) (image : Image) (nodes count : ℕ) (cached_nodes others : List (Option CachedNode)) (places : List Bool) → word → IsFound word form image nodes count cached_nodes places → CanHold word form image nodes count others → cached_nodes ≡ others
+one_table word form image nodes count cached_nodes others places w found can =
+    ext_get_or None cached_nodes others (found.many ∙ sym can.many) (λ p h. one_place word (form p) image p (get_or cached_nodes p None) (get_or others p None) w (found.each p (omega (arith, found.many))) (can.each p (omega (arith, found.many))))
 
 -- The marks of the bitmap
 
@@ -112,68 +112,68 @@ module _ (nodes : ℕ) (image : Image) (places : List Bool) (marks : (n : ℕ) �
       ap (bit_of (image 99)) (sym e) ∙ (rw (le-ltb (32768 + i) 32768 far) at (bits (32768 + i)))
 
 -- if cached nodes are laid, the marks that were made are those of the bitmap
-pub have_bits : (marking : Marking) (word : Type 0) (form : ℕ → Form) (image : Image) (nodes count : ℕ) (cards others : List (Option CachedNode)) (places : List Bool) → word → IsFound word form image nodes count cards places → CanHold word form image nodes count others
+pub have_bits : (marking : Marking) (word : Type 0) (form : ℕ → Form) (image : Image) (nodes count : ℕ) (cached_nodes others : List (Option CachedNode)) (places : List Bool) → word → IsFound word form image nodes count cached_nodes places → CanHold word form image nodes count others
     → AreLaid nodes image (marked_by marking nodes image others) others → HaveBits marking image places
-have_bits InSectors word form image nodes count cards others places w found can laid =
-    let marks : (n : ℕ) → mark_in nodes image n ≡ mark_by (148 + nodes) places n = λ n. sym (laid.marks n) ∙ ap (named n) (sym (one_table word form image nodes count cards others places w found can)) ∙ sym (found.marks n) in
+have_bits InSectors word form image nodes count cached_nodes others places w found can laid =
+    let marks : (n : ℕ) → mark_in nodes image n ≡ mark_by (148 + nodes) places n = λ n. sym (laid.marks n) ∙ ap (named n) (sym (one_table word form image nodes count cached_nodes others places w found can)) ∙ sym (found.marks n) in
     (low_bits nodes image places marks, high_bits nodes image places marks)
-have_bits AsNamed word form image nodes count cards others places w found can laid = tt
+have_bits AsNamed word form image nodes count cached_nodes others places w found can laid = tt
 
 -- What is found of all parts is read
 
 -- the marks are those that were made
-marks_are : (marking : Marking) (word : Type 0) (form : ℕ → Form) (image : Image) (nodes count : ℕ) (cards : List (Option CachedNode)) (places : List Bool) → (marking ≡ InSectors → count ≤ 65536) → IsFound word form image nodes count cards places
-    → ShowMarks marking image places → (n : ℕ) → marked_by marking nodes image cards n ≡ mark_by (148 + nodes) places n
-marks_are InSectors word form image nodes count cards places small found shown =
+marks_are : (marking : Marking) (word : Type 0) (form : ℕ → Form) (image : Image) (nodes count : ℕ) (cached_nodes : List (Option CachedNode)) (places : List Bool) → (marking ≡ InSectors → count ≤ 65536) → IsFound word form image nodes count cached_nodes places
+    → ShowMarks marking image places → (n : ℕ) → marked_by marking nodes image cached_nodes n ≡ mark_by (148 + nodes) places n
+marks_are InSectors word form image nodes count cached_nodes places small found shown =
     marks_laid nodes count image places (small refl) (record { count_is = found.len; low_shows = shown.0; high_shows = shown.1 })
-marks_are AsNamed word form image nodes count cards places small found shown = λ n. sym (found.marks n)
+marks_are AsNamed word form image nodes count cached_nodes places small found shown = λ n. sym (found.marks n)
 
-module _ (word : Type 0) (marking : Marking) (data_end : ℕ) (number : VersionNumber) (run : ℕ) (mark : Option ℕ) (seats : Seats) (image : Image) (size nodes count : ℕ) (cards : List (Option CachedNode)) (places : List Bool) (sized : data_end ≡ 148 + nodes + count) (small : marking ≡ InSectors → count ≤ 65536) (marked : IsMark number nodes mark) (may : MayHaveSeats number mark seats) (keeps : AreKept run seats)
-    (found : IsFound word (version_by number mark no_seats).form image nodes count cards places) (apart : AreNumbered cards) (shown : word → ShowMarks marking image places) (there : word → image 147 ≡ mark_held mark) (holds : word → HoldSeats image seats) (spare : word → AreSpare image) where
-  known : AreCards nodes (mark_by (148 + nodes) places) cards
+module _ (word : Type 0) (marking : Marking) (data_end : ℕ) (number : VersionNumber) (run : ℕ) (mark : Option ℕ) (seats : Seats) (image : Image) (size nodes count : ℕ) (cached_nodes : List (Option CachedNode)) (places : List Bool) (sized : data_end ≡ 148 + nodes + count) (small : marking ≡ InSectors → count ≤ 65536) (marked : IsMark number nodes mark) (may : MayHaveSeats number mark seats) (keeps : AreKept run seats)
+    (found : IsFound word (version_by number mark no_seats).form image nodes count cached_nodes places) (apart : AreNumbered cached_nodes) (shown : word → ShowMarks marking image places) (there : word → image 147 ≡ mark_held mark) (holds : word → HoldSeats image seats) (spare : word → AreSpare image) where
+  known : AreCached nodes (mark_by (148 + nodes) places) cached_nodes
   known =
       let each = each_mark (148 + nodes) places 0 in
       record {
         count = found.many;
-        each = λ place h. place_known word ((version_by number mark no_seats).form place) image place (get_or cards place None) (found.each place h);
+        each = λ place h. place_known word ((version_by number mark no_seats).form place) image place (get_or cached_nodes place None) (found.each place h);
         apart = apart;
         marks = λ n. sym (found.marks n);
         behind = each.behind;
         once = each.once;
       }
 
-  same : word → (n : ℕ) → marked_by marking nodes image cards n ≡ mark_by (148 + nodes) places n
-  same w = marks_are marking word (version_by number mark no_seats).form image nodes count cards places small found (shown w)
+  same : word → (n : ℕ) → marked_by marking nodes image cached_nodes n ≡ mark_by (148 + nodes) places n
+  same w = marks_are marking word (version_by number mark no_seats).form image nodes count cached_nodes places small found (shown w)
 
-  laid : word → AreLaid nodes image (marked_by marking nodes image cards) cards
+  laid : word → AreLaid nodes image (marked_by marking nodes image cached_nodes) cached_nodes
   laid w =
       let each = each_mark (148 + nodes) places 0 in
       record {
         count = found.many;
-        held = λ place h. place_held word ((version_by number mark no_seats).form place) image place (get_or cards place None) w (found.each place h);
+        held = λ place h. place_held word ((version_by number mark no_seats).form place) image place (get_or cached_nodes place None) w (found.each place h);
         apart = apart;
         marks = λ n. sym (found.marks n) ∙ sym (same w n);
         behind = λ n some. each.behind n (omega (arith, same w n));
         once = λ n. omega (arith, same w n, each.once n);
       }
 
-  found_at : (place : ℕ) (card : CachedNode) → get_or cards place None ≡ Some card → FindsPlace word ((version_by number mark no_seats).form place) image place (Some card)
-  found_at place card is = elim (cases_lt place nodes) [
+  found_at : (place : ℕ) (cached : CachedNode) → get_or cached_nodes place None ≡ Some cached → FindsPlace word ((version_by number mark no_seats).form place) image place (Some cached)
+  found_at place cached is = elim (cases_lt place nodes) [
     | inl h ↦ subst (FindsPlace word ((version_by number mark no_seats).form place) image place) is (found.each place h)
-    | inr past ↦ absurd (none_some card (sym (get_or_past cards place None (omega (arith, found.many))) ∙ is))
+    | inr past ↦ absurd (none_some cached (sym (get_or_past cached_nodes place None (omega (arith, found.many))) ∙ is))
   ]
     where
-      none_some : (card : CachedNode) → (let none : Option CachedNode = None in none ≡ Some card)
+      none_some : (cached : CachedNode) → (let none : Option CachedNode = None in none ≡ Some cached)
           → ⊥
-      none_some card e = cc
+      none_some cached e = cc
 
-  few : AreFew cards
-  few place card is = let at = found_at place card is in let rest = at.rest in let blocks = rest.in_blocks in blocks.few
+  few : AreFew cached_nodes
+  few place cached is = let at = found_at place cached is in let rest = at.rest in let blocks = rest.in_blocks in blocks.few
 
-  forms : HaveForms (version_by number mark seats) cards
-  forms place card is = let at = found_at place card is in at.form ∙ ap (λ (f : ℕ → Form). f place) (same-form number mark no_seats seats)
+  forms : HaveForms (version_by number mark seats) cached_nodes
+  forms place cached is = let at = found_at place cached is in at.form ∙ ap (λ (f : ℕ → Form). f place) (same-form number mark no_seats seats)
 
-  pub is_read : IsRead word size nodes marking data_end number run mark seats image cards places
+  pub is_read : IsRead word size nodes marking data_end number run mark seats image cached_nodes places
   is_read = record {
     marked = marked;
     may = may;
@@ -188,5 +188,5 @@ module _ (word : Type 0) (marking : Marking) (data_end : ℕ) (number : VersionN
       within = λ n h. same w n ∙ (let each = each_mark (148 + nodes) places 0 in each.within n (omega (arith, found.len)));
       spare = spare_there number mark seats image may keeps.places.five (there w) (holds w) (spare w);
     };
-    read = λ w. let all = laid w in sym (cards-back image nodes cards found.many all.held);
+    read = λ w. let all = laid w in sym (cached_nodes-back image nodes cached_nodes found.many all.held);
   }

@@ -27,44 +27,44 @@ pub record FindsBlocks (word : Type 0) (image : Image) (fields : Fields) (runs :
   pub few : length blocks ≤ 4096
 
 -- and its blocks
-pub record FindsRest (word : Type 0) (image : Image) (card : CachedNode) : Type 0 where
-  pub in_blocks : FindsBlocks word image card.fields card.runs card.blocks
-  pub content : FindsContent word image card.fields.kind card.fields.size card.blocks card.names
+pub record FindsRest (word : Type 0) (image : Image) (cached : CachedNode) : Type 0 where
+  pub in_blocks : FindsBlocks word image cached.fields cached.runs cached.blocks
+  pub content : FindsContent word image cached.fields.kind cached.fields.size cached.blocks cached.names
 
 -- a place whose node has this form
-pub record FindsCard (word : Type 0) (own : Form) (image : Image) (place : ℕ) (card : CachedNode)
+pub record FindsOneCached (word : Type 0) (own : Form) (image : Image) (place : ℕ) (cached : CachedNode)
     : Type 0 where
-  pub form : card.form ≡ own
-  pub node : FindsNode word own (image (node_sector place)) card.fields
-  pub rest : FindsRest word image card
+  pub form : cached.form ≡ own
+  pub node : FindsNode word own (image (node_sector place)) cached.fields
+  pub rest : FindsRest word image cached
 
 abbrev pub FindsPlace : (word : Type 0) → Form → Image → (place : ℕ) → Option CachedNode → Type 0
 FindsPlace word form image place None = word → image (node_sector place) ≡ zero_sector
-FindsPlace word form image place (Some card) = FindsCard word form image place card
+FindsPlace word form image place (Some cached) = FindsOneCached word form image place cached
 
 -- the places of a table, each in its form
 abbrev pub ArePlaces : (word : Type 0) (form : ℕ → Form) → Image → (nodes : ℕ)
     → List (Option CachedNode) → Type 0
-ArePlaces word form image nodes cards = (place : ℕ) → place < nodes
-    → FindsPlace word (form place) image place (slice_index_or cards place None)
+ArePlaces word form image nodes cached_nodes = (place : ℕ) → place < nodes
+    → FindsPlace word (form place) image place (slice_index_or cached_nodes place None)
 
 -- a table, and marks of the data region that are what it names
 pub record IsFound (word : Type 0) (form : ℕ → Form) (image : Image) (nodes count : ℕ)
-    (cards : List (Option CachedNode)) (places : List Bool) : Type 0 where
-  pub many : length cards ≡ nodes
-  pub each : ArePlaces word form image nodes cards
+    (cached_nodes : List (Option CachedNode)) (places : List Bool) : Type 0 where
+  pub many : length cached_nodes ≡ nodes
+  pub each : ArePlaces word form image nodes cached_nodes
   pub len : length places ≡ count
-  pub marks : (n : ℕ) → mark_by (148 + nodes) places n ≡ named n cards
+  pub marks : (n : ℕ) → mark_by (148 + nodes) places n ≡ named n cached_nodes
 
 -- a table that names each sector of the data region at most once, and no other sector
 pub record CanHold (word : Type 0) (form : ℕ → Form) (image : Image) (nodes count : ℕ)
-    (cards : List (Option CachedNode)) : Type 0 where
-  pub many : length cards ≡ nodes
-  pub each : ArePlaces word form image nodes cards
-  pub once : (n : ℕ) → named n cards ≤ max_marks (148 + nodes) count n
+    (cached_nodes : List (Option CachedNode)) : Type 0 where
+  pub many : length cached_nodes ≡ nodes
+  pub each : ArePlaces word form image nodes cached_nodes
+  pub once : (n : ℕ) → named n cached_nodes ≤ max_marks (148 + nodes) count n
 
 -- the numbers of the nodes
 abbrev pub numbers_of : List (Option CachedNode) → List ℕ
 numbers_of [] = []
-numbers_of (None ∷ cards) = numbers_of cards
-numbers_of (Some card ∷ cards) = card.fields.number ∷ numbers_of cards
+numbers_of (None ∷ cached_nodes) = numbers_of cached_nodes
+numbers_of (Some cached ∷ cached_nodes) = cached.fields.number ∷ numbers_of cached_nodes

@@ -6,9 +6,9 @@ use Rattle.disk.specs.Moments.{Image}
 use Rattle.model_tree.specs.declared.node.NodeKind.{NodeKind}
 use Rattle.model_tree.specs.declared.node.NodeKind.TheVariants as kind
 use Rattle.directory.specs.Records.{Record, IsRecord, IsDirectory, NamesStamped}
-use Rattle.directory.specs.Spelling.{directory_sector}
+use Rattle.directory.specs.Encoding.{directory_sector}
 use Rattle.layout.specs.CachedNodes.{byte_at}
-use Rattle.layout.specs.Laid.{AreSpelled}
+use Rattle.layout.specs.Laid.{AreEncoded}
 
 -- each block that has a sector can be read
 abbrev pub AreSetWithin : (size : ℕ) → List (Option ℕ) → Type 0
@@ -20,14 +20,14 @@ pub record FindsPart (word : Type 0) (content : List ℕ) (count : ℕ) (names :
     : Type 0 where
   pub each : AllByRecursion IsRecord names
   pub count_is : length names ≡ count
-  pub spelled : word → content ≡ directory_sector names
+  pub encoded : word → content ≡ directory_sector names
 
 -- `count` records in all blocks
 pub record FindsRecords (word : Type 0) (image : Image) (blocks : List (Option ℕ)) (count : ℕ)
     (names : List Record) : Type 0 where
   pub each : AllByRecursion IsRecord names
   pub count_is : length names ≡ count
-  pub spelled : word → AreSpelled image blocks names
+  pub encoded : word → AreEncoded image blocks names
 
 -- the bytes of a file past its size are zero
 abbrev pub HasTail : Image → List (Option ℕ) → (size : ℕ) → Type 0
@@ -43,7 +43,7 @@ pub record FindsNames (word : Type 0) (image : Image) (size : ℕ) (blocks : Lis
   pub count : length names ≡ size
   pub directory : IsDirectory names
   pub stamped : NamesStamped names
-  pub spelled : word → AreSpelled image blocks names
+  pub encoded : word → AreEncoded image blocks names
 
 abbrev pub FindsContent : (word : Type 0) → Image → NodeKind → (size : ℕ) → List (Option ℕ)
     → List Record → Type 0

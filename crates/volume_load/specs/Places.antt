@@ -4,14 +4,14 @@ use Rattle.std.specs.Prelude.{◌≡◌, ◌<◌, ℕ, List, Option, Some, None}
 use Rattle.disk.specs.Calls.{zero_sector}
 use Rattle.inode.specs.declared.node.Form.{Form}
 use Rattle.inode.specs.Fields.{Fields, IsInode}
-use Rattle.inode.specs.Spelling.{inode_sector}
+use Rattle.inode.specs.Encoding.{inode_sector}
 
 -- a node's sector in this form
 pub record FindsNode (word : Type 0) (form : Form) (content : List ℕ) (fields : Fields)
     : Type 0 where
   pub fits : IsInode form fields
   pub number : 0 < fields.number
-  pub spelled : word → content ≡ inode_sector form fields
+  pub encoded : word → content ≡ inode_sector form fields
 
 -- the sector of a place
 abbrev pub FindsFields : (word : Type 0) → Form → (content : List ℕ) → Option Fields → Type 0

@@ -11,14 +11,14 @@ pub record FindsPart (word : Type 0) (content : List ℕ) (count : ℕ) (runs : 
     : Type 0 where
   pub each : AllByRecursion IsRun runs
   pub count_is : length runs ≡ count
-  pub spelled : word → content ≡ run_sector runs
+  pub encoded : word → content ≡ run_sector runs
 
 -- `count` runs in all of them
 pub record FindsRuns (word : Type 0) (image : Image) (sectors : List ℕ) (count : ℕ)
     (runs : List Run) : Type 0 where
   pub each : AllByRecursion IsRun runs
   pub count_is : length runs ≡ count
-  pub spelled : word → AreRunSectors image sectors runs
+  pub encoded : word → AreRunSectors image sectors runs
 
 -- each of these sectors can be read
 abbrev pub SectorsWithin : (size : ℕ) → List ℕ → Type 0

@@ -4,7 +4,7 @@ use Rattle.std.specs.List.{AllByRecursion}
 use Rattle.disk.specs.Moments.{Image}
 use Rattle.layout.specs.Stands.{AreKept}
 use Rattle.model_tree.specs.Seats.Seats.{Seat, Seats, no_seats, run_of}
-use Rattle.seats.specs.Spelling.{seat_sector}
+use Rattle.seats.specs.Encoding.{seat_sector}
 
 -- the nine sectors of a place encode its seat, or that it is free
 abbrev pub HoldPlace : Image → (place : ℕ) → Option Seat → Type 0

@@ -8,7 +8,7 @@ ghost use Rattle.model_tree.specs.Seats.Seats as model;
 ghost use Rattle.model_tree.specs.Seats.Seats.{SeatsApart, AreOfRuns, has_seat, no_seats};
 ghost use Rattle.model_tree.specs.Seats.SeatViews.{place_view, seats_view};
 ghost use Rattle.volume_load.specs.Seating.{AreMade, HoldPlace, IsOfRuns, MayStand};
-ghost use Rattle.seats.specs.Spelling.{ArePlaces, IsSeatPlace};
+ghost use Rattle.seats.specs.Encoding.{ArePlaces, IsSeatPlace};
 
 use crate::fault::ScanFault;
 use crate::sectors::fetch;

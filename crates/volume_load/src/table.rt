@@ -78,7 +78,7 @@ fn read_blocks<S: Sectors>(
 }
 
 /// The cached node of a node: what the sectors that it names hold. These are marked.
-fn read_card<S: Sectors>(
+fn read_cached<S: Sectors>(
     alloc: Global,
     sectors: &mut S,
     places: &mut Bitmap,
@@ -143,7 +143,7 @@ fn read_place<S: Sectors>(
     let Some(inode) = read_node(alloc, sectors, place, form)? else {
         return Ok(None);
     };
-    let cached = read_card(alloc, sectors, places, first, form, inode)?;
+    let cached = read_cached(alloc, sectors, places, first, form, inode)?;
     Ok(Some(cached))
 }
 
@@ -160,34 +160,34 @@ pub(crate) fn read_table<S: Sectors>(
     requires few { NODES + nodes < 2 ^ 32 }
     requires within { NODES + nodes + length places.old ≤ S.size (S.kept sectors.old) }
     requires free { places.old ≡ replicate (length places.old) false }
-    ensures found { IfOk result (λ cards. IsFound S.keeps_word
+    ensures found { IfOk result (λ cached_nodes. IsFound S.keeps_word
         (version_by number mark no_seats).form (S.image (S.kept sectors.old)) nodes
-        (length places.old) cards.items places.new) }
+        (length places.old) cached_nodes.items places.new) }
     // If it fails
     ensures damaged { S.keeps_word → IsErrOf result ScanFault.Damaged
-        → (cards : List (Option layout.CachedNode))
+        → (cached_nodes : List (Option layout.CachedNode))
         → ¬ CanHold S.keeps_word (version_by number mark no_seats).form
-        (S.image (S.kept sectors.old)) nodes (length places.old) cards }
+        (S.image (S.kept sectors.old)) nodes (length places.old) cached_nodes }
     // It only reads
     ensures kept { S.kept sectors.new ≡ S.kept sectors.old }
     ensures health { FailsOrStays (S.health sectors.old) (S.health sectors.new)
         (IsErrOf result ScanFault.Device) }
 {
-    let mut cards = Vec::with_capacity(alloc, nodes as usize)?;
+    let mut cached_nodes = Vec::with_capacity(alloc, nodes as usize)?;
     for place in 0..nodes {
         let form = form_at(number, mark, place);
         let cached = read_place(alloc, sectors, places, NODES + nodes, place, form)?;
-        cards.push(cached)?;
+        cached_nodes.push(cached)?;
     }
-    Ok(cards)
+    Ok(cached_nodes)
 }
 
 /// The numbers of the nodes.
-fn numbers_in(alloc: Global, cards: &[Option<CachedNode>]) -> Result<Vec<u64>, AllocError>
-    ensures { IfOk result (λ numbers. numbers.items ≡ numbers_of cards.now) }
+fn numbers_in(alloc: Global, cached_nodes: &[Option<CachedNode>]) -> Result<Vec<u64>, AllocError>
+    ensures { IfOk result (λ numbers. numbers.items ≡ numbers_of cached_nodes.now) }
 {
-    let mut numbers = Vec::with_capacity(alloc, cards.len())?;
-    for cached in cards {
+    let mut numbers = Vec::with_capacity(alloc, cached_nodes.len())?;
+    for cached in cached_nodes {
         if let Some(cached) = cached {
             numbers.push(cached.inode.number)?;
         }
@@ -196,10 +196,13 @@ fn numbers_in(alloc: Global, cards: &[Option<CachedNode>]) -> Result<Vec<u64>, A
 }
 
 /// Whether no two nodes have the same number.
-pub(crate) fn are_numbered(alloc: Global, cards: &[Option<CachedNode>]) -> Result<bool, AllocError>
-    ensures { IfOk result (λ are. IsTrue are ↔ AreNumbered cards.now) }
+pub(crate) fn are_numbered(
+    alloc: Global,
+    cached_nodes: &[Option<CachedNode>],
+) -> Result<bool, AllocError>
+    ensures { IfOk result (λ are. IsTrue are ↔ AreNumbered cached_nodes.now) }
 {
-    let numbers = numbers_in(alloc, cards)?;
+    let numbers = numbers_in(alloc, cached_nodes)?;
     let apart = are_apart(numbers)?;
     Ok(apart)
 }

@@ -29,7 +29,7 @@ use std::alloc::Global;
 /// region they use.
 #[derive(Drop)]
 pub struct Contents {
-    pub cards: Vec<Option<CachedNode>>,
+    pub cached_nodes: Vec<Option<CachedNode>>,
     pub places: Bitmap,
     /// How far a migration has come, as its mark says.
     pub mark: Option<u32>,
@@ -134,14 +134,14 @@ pub fn read_volume<S: Sectors>(
     requires few { marking ≡ Marking.InSectors → data_end ≤ NODES + nodes + 2 * SECTOR_PLACES }
     ensures found { IfOk result (λ contents. IsRead S.keeps_word (S.size (S.kept sectors.old)) nodes
         marking data_end number run contents.mark (seats_view contents.seats)
-        (S.image (S.kept sectors.old)) contents.cards.items contents.places) }
+        (S.image (S.kept sectors.old)) contents.cached_nodes.items contents.places) }
     // If it fails
     ensures damaged { S.keeps_word → IsErrOf result ScanFault.Damaged
-        → (mark : Option ℕ) (seats : model.Seats) (cards : List (Option layout.CachedNode))
+        → (mark : Option ℕ) (seats : model.Seats) (cached_nodes : List (Option layout.CachedNode))
         → IsMark number nodes mark → MayHaveSeats number mark seats → AreKept run seats
         → IsLaid (with_region marking data_end (version_by number mark seats))
-        (S.size (S.kept sectors.old)) nodes (S.image (S.kept sectors.old)) cards
-        → ¬ AreFew cards }
+        (S.size (S.kept sectors.old)) nodes (S.image (S.kept sectors.old)) cached_nodes
+        → ¬ AreFew cached_nodes }
     // It only reads
     ensures kept { S.kept sectors.new ≡ S.kept sectors.old }
     ensures health { FailsOrStays (S.health sectors.old) (S.health sectors.new)
@@ -149,15 +149,15 @@ pub fn read_volume<S: Sectors>(
 {
     let mark = read_mark(sectors, number, nodes)?;
     let mut places = Bitmap::new(alloc, data_end - NODES - nodes)?;
-    let cards = read_table(alloc, sectors, &mut places, nodes, number, mark)?;
-    if !are_numbered(alloc, &cards)? {
+    let cached_nodes = read_table(alloc, sectors, &mut places, nodes, number, mark)?;
+    if !are_numbered(alloc, &cached_nodes)? {
         return Err(ScanFault::Damaged);
     }
     check_bitmap(sectors, marking, &places)?;
     check_spare(sectors)?;
     let seats = read_seats(alloc, sectors, run, may_keep(number, mark))?;
     Ok(Contents {
-        cards,
+        cached_nodes,
         places,
         mark,
         seats,

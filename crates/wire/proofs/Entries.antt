@@ -11,14 +11,14 @@ use Rattle.wire.specs.declared.answers.Entry.{Entry}
 use Rattle.wire.specs.AnswerViews.{entry_view, links_of, chain_of, EntryFits}
 
 -- their chain
-pub links-map : (es : List Entry) → links entry.spelling (map entry_view es) ≡ chain_of es
+pub links-map : (es : List Entry) → links entry.encoding (map entry_view es) ≡ chain_of es
 unfolding links chain_of
 links-map [] = refl
 links-map (e ∷ es) =
-    ap (λ (t : List ℕ). number w32 1 ++ (entry.spelling (entry_view e) ++ t)) (links-map es)
-    ∙ ap (λ (t : List ℕ). number w32 1 ++ t) (sym (append_assoc (entry.spelling (entry_view e)) (links_of es) (number w32 0)))
-    ∙ sym (append_assoc (number w32 1) (entry.spelling (entry_view e) ++ links_of es) (number w32 0))
-    ∙ ap (λ (t : List ℕ). t ++ number w32 0) (sym (append_assoc (number w32 1) (entry.spelling (entry_view e)) (links_of es)))
+    ap (λ (t : List ℕ). number w32 1 ++ (entry.encoding (entry_view e) ++ t)) (links-map es)
+    ∙ ap (λ (t : List ℕ). number w32 1 ++ t) (sym (append_assoc (entry.encoding (entry_view e)) (links_of es) (number w32 0)))
+    ∙ sym (append_assoc (number w32 1) (entry.encoding (entry_view e) ++ links_of es) (number w32 0))
+    ∙ ap (λ (t : List ℕ). t ++ number w32 0) (sym (append_assoc (number w32 1) (entry.encoding (entry_view e)) (links_of es)))
 
 each_fits : (es : List Entry) → AllByRecursion entry.Fits (map entry_view es) → AllByRecursion EntryFits es
 each_fits [] fits = tt

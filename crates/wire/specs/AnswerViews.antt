@@ -37,7 +37,7 @@ open_view a = record {
 -- what is encoded after the change
 abbrev pub open_rest : OpenAnswer → List ℕ
 open_rest a =
-    (unsigned_int & trimmed_bitmap & always 0 unsigned_int).spelling (a.flags, (a.was_set, tt))
+    (unsigned_int & trimmed_bitmap & always 0 unsigned_int).encoding (a.flags, (a.was_set, tt))
 
 abbrev pub read_view : ReadAnswer → spec.ReadAnswer
 read_view a = record { is_end = a.is_end; data_bytes = a.data.now }
@@ -55,7 +55,7 @@ EntryFits e = (length e.name.now < 2 ^ 32) × (length e.attributes.values.now < 
 
 -- an entry in a chain; entries; entries with the end of their chain
 abbrev pub link_of : Entry → List ℕ
-link_of e = number w32 1 ++ entry.spelling (entry_view e)
+link_of e = number w32 1 ++ entry.encoding (entry_view e)
 
 abbrev pub links_of : List Entry → List ℕ
 links_of es = flat_map link_of es
@@ -84,10 +84,10 @@ exchange_id_view a = record {
 -- what is encoded after the flags, and after the minor id
 abbrev pub exchange_id_names : ExchangeIdAnswer → List ℕ
 exchange_id_names a =
-    (any_opaque & any_opaque & always 0 unsigned_int).spelling (a.major_id.now, (a.scope.now, tt))
+    (any_opaque & any_opaque & always 0 unsigned_int).encoding (a.major_id.now, (a.scope.now, tt))
 
 abbrev pub exchange_id_rest : ExchangeIdAnswer → List ℕ
-exchange_id_rest a = number w32 0 ++ (unsigned_hyper.spelling 0 ++ exchange_id_names a)
+exchange_id_rest a = number w32 0 ++ (unsigned_hyper.encoding 0 ++ exchange_id_names a)
 
 abbrev pub create_session_view : CreateSessionAnswer → spec.CreateSessionAnswer
 create_session_view a = record {
@@ -99,7 +99,7 @@ create_session_view a = record {
 }
 
 abbrev pub create_session_rest : CreateSessionAnswer → List ℕ
-create_session_rest a = (channel & channel).spelling (channel_view a.fore, channel_view a.back)
+create_session_rest a = (channel & channel).encoding (channel_view a.fore, channel_view a.back)
 
 abbrev pub sequence_view : SequenceAnswer → spec.SequenceAnswer
 sequence_view a = record {
@@ -113,5 +113,5 @@ sequence_view a = record {
 
 abbrev pub sequence_rest : SequenceAnswer → List ℕ
 sequence_rest a =
-    (unsigned_int & unsigned_int & unsigned_int).spelling
+    (unsigned_int & unsigned_int & unsigned_int).encoding
     (a.highest_slot, (a.target_highest_slot, a.flags))

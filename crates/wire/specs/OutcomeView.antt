@@ -5,7 +5,7 @@ use Rattle.xdr.specs.Grammar.{number}
 use Rattle.model_tree.specs.declared.status.Status.{Status}
 use Rattle.model_tree.specs.Refusals.Status.{code_of}
 use Rattle.model.specs.Operations.Answer as spec
-use Rattle.model.specs.Wire.WireAnswers.{answer_told, behind_refusal}
+use Rattle.model.specs.Wire.WireAnswers.{encoded_answer, behind_refusal}
 use Rattle.wire.specs.declared.outcome.Answer.{Answer}
 use Rattle.wire.specs.declared.outcome.Answer.TheVariants as answer
 use Rattle.wire.specs.declared.outcome.Outcome.{Outcome}
@@ -46,7 +46,7 @@ outcome_view (outcomes.Refused operation status) = spec.Refused operation status
 
 -- number, status OK and values
 abbrev pub done_text : spec.Answer → List ℕ
-done_text a = number w32 (answer_told a).number ++ (number w32 0 ++ (answer_told a).text)
+done_text a = number w32 (encoded_answer a).number ++ (number w32 0 ++ (encoded_answer a).text)
 
 -- number, status, and what follows it
 abbrev pub refused_text : ℕ → Status → List ℕ

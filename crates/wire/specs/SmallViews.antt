@@ -56,5 +56,5 @@ security_view (security.System credential) = spec.SystemSecurity (credential_vie
 -- the last four fields of a channel
 abbrev pub channel_rest : Channel → List ℕ
 channel_rest c =
-    (unsigned_int & unsigned_int & unsigned_int & optional unsigned_int).spelling
+    (unsigned_int & unsigned_int & unsigned_int & optional unsigned_int).encoding
     (c.max_response_size_cached, (c.max_operations, (c.max_requests, c.rdma_ird)))

@@ -18,7 +18,7 @@ pub struct AccessAnswer {
 impl AccessAnswer {
     /// Writes it. On an error a prefix of it may have been written.
     pub(crate) fn write(&self, w: &mut Writer) -> Result<(), Refusal>
-        ensures { Wrote w.old w.new result (access_answer.spelling (access_view self.now)) }
+        ensures { Wrote w.old w.new result (access_answer.encoding (access_view self.now)) }
     {
         w.write_u32(self.supported)?;
         w.write_u32(self.access)
@@ -35,7 +35,7 @@ pub struct CreateAnswer {
 impl CreateAnswer {
     /// Writes it. On an error a prefix of it may have been written.
     pub(crate) fn write(&self, w: &mut Writer) -> Result<(), Refusal>
-        ensures { Wrote w.old w.new result (create_answer.spelling (create_view self.now)) }
+        ensures { Wrote w.old w.new result (create_answer.encoding (create_view self.now)) }
     {
         self.change.write(w)?;
         self.was_set.write(w)
@@ -54,7 +54,7 @@ pub struct OpenAnswer {
 impl OpenAnswer {
     /// Writes it. On an error a prefix of it may have been written.
     pub(crate) fn write(&self, w: &mut Writer) -> Result<(), Refusal>
-        ensures { Wrote w.old w.new result (open_answer.spelling (open_view self.now)) }
+        ensures { Wrote w.old w.new result (open_answer.encoding (open_view self.now)) }
     {
         self.state.write(w)?;
         self.change.write(w)?;
@@ -81,7 +81,7 @@ impl ReadAnswer<'_> {
     /// Writes it. On an error a prefix of it may have been written.
     pub(crate) fn write(&self, w: &mut Writer) -> Result<(), Refusal>
         requires { length self.now.data.now < 2 ^ 32 }
-        ensures { Wrote w.old w.new result (read_answer.spelling (read_view self.now)) }
+        ensures { Wrote w.old w.new result (read_answer.encoding (read_view self.now)) }
     {
         w.write_bool(self.is_end)?;
         w.write_opaque(self.data)
@@ -100,7 +100,7 @@ impl Entry<'_> {
     /// Writes it. On an error a prefix of it may have been written.
     pub(crate) fn write(&self, w: &mut Writer) -> Result<(), Refusal>
         requires { EntryFits self.now }
-        ensures { Wrote w.old w.new result (entry.spelling (entry_view self.now)) }
+        ensures { Wrote w.old w.new result (entry.encoding (entry_view self.now)) }
     {
         w.write_u64(self.cookie)?;
         w.write_opaque(self.name)?;
@@ -120,7 +120,7 @@ impl ReadDirAnswer<'_> {
     #[tactic(auto, using(xdr::proofs::Writing::wrote_on, xdr::proofs::Writing::wrote_exit, xdr::proofs::Writing::wrote_end))]
     pub(crate) fn write(&self, w: &mut Writer) -> Result<(), Refusal>
         requires { All EntryFits self.now.entries.items }
-        ensures { Wrote w.old w.new result (read_dir_answer.spelling (read_dir_view self.now)) }
+        ensures { Wrote w.old w.new result (read_dir_answer.encoding (read_dir_view self.now)) }
     {
         w.write_u64(0)?;
         write_entries(w, &self.entries)?;
@@ -165,7 +165,7 @@ pub struct RenameAnswer {
 impl RenameAnswer {
     /// Writes it. On an error a prefix of it may have been written.
     pub(crate) fn write(&self, w: &mut Writer) -> Result<(), Refusal>
-        ensures { Wrote w.old w.new result (rename_answer.spelling (rename_view self.now)) }
+        ensures { Wrote w.old w.new result (rename_answer.encoding (rename_view self.now)) }
     {
         self.source.write(w)?;
         self.target.write(w)
@@ -183,7 +183,7 @@ pub struct WriteAnswer {
 impl WriteAnswer {
     /// Writes it. On an error a prefix of it may have been written.
     pub(crate) fn write(&self, w: &mut Writer) -> Result<(), Refusal>
-        ensures { Wrote w.old w.new result (write_answer.spelling (write_view self.now)) }
+        ensures { Wrote w.old w.new result (write_answer.encoding (write_view self.now)) }
     {
         w.write_u32(self.count)?;
         w.write_u32(self.committed)?;
@@ -206,7 +206,7 @@ impl ExchangeIdAnswer<'_> {
     pub fn write(&self, w: &mut Writer) -> Result<(), Refusal>
         requires { (length self.now.major_id.now < 2 ^ 32) × (length self.now.scope.now < 2 ^ 32) }
         ensures { Wrote w.old w.new result
-            (exchange_id_answer.spelling (exchange_id_view self.now)) }
+            (exchange_id_answer.encoding (exchange_id_view self.now)) }
     {
         w.write_u64(self.client)?;
         w.write_u32(self.sequence)?;
@@ -247,7 +247,7 @@ impl CreateSessionAnswer {
     /// Writes it. On an error a prefix of it may have been written.
     pub(crate) fn write(&self, w: &mut Writer) -> Result<(), Refusal>
         ensures { Wrote w.old w.new result
-            (create_session_answer.spelling (create_session_view self.now)) }
+            (create_session_answer.encoding (create_session_view self.now)) }
     {
         w.write_fixed(&self.session)?;
         w.write_u32(self.sequence)?;
@@ -277,7 +277,7 @@ pub struct SequenceAnswer {
 impl SequenceAnswer {
     /// Writes it. On an error a prefix of it may have been written.
     pub(crate) fn write(&self, w: &mut Writer) -> Result<(), Refusal>
-        ensures { Wrote w.old w.new result (sequence_answer.spelling (sequence_view self.now)) }
+        ensures { Wrote w.old w.new result (sequence_answer.encoding (sequence_view self.now)) }
     {
         w.write_fixed(&self.session)?;
         w.write_u32(self.sequence)?;

@@ -6,7 +6,7 @@ ghost use Rattle.xdr.specs.Laws.{IsBytes};
 ghost use Rattle.xdr.specs.declared.refusal.Refusal.TheVariants.{Value};
 ghost use Rattle.model.specs.Operations.Operation.{operation_of};
 ghost use Rattle.model.specs.Server.Served.{is_served};
-ghost use Rattle.model.specs.Wire.WireArguments.{argument, argument_told, arguments_at};
+ghost use Rattle.model.specs.Wire.WireArguments.{argument, encoded_argument, arguments_at};
 ghost use Rattle.wire.specs.Numbers.{number_of};
 ghost use Rattle.wire.specs.ArgumentView.{argument_view};
 
@@ -164,7 +164,7 @@ impl<'a> Argument<'a> {
     /// Which operation it is.
     pub fn operation(&self) -> Operation
         ensures number { number_of result ≡ operation_of (argument_view self.now) }
-        ensures told { number_of result ≡ (argument_told (argument_view self.now)).number }
+        ensures told { number_of result ≡ (encoded_argument (argument_view self.now)).number }
     {
         match self {
             Argument::Access(_) => Operation::Access,

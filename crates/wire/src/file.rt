@@ -103,7 +103,7 @@ impl StableHow {
 
     /// Writes it. On an error a prefix of it may have been written.
     pub fn write(self, w: &mut Writer) -> Result<(), Refusal>
-        ensures { Wrote w.old w.new result ((below 3).spelling (stable_number self)) }
+        ensures { Wrote w.old w.new result ((below 3).encoding (stable_number self)) }
     {
         w.write_u32(self.number())
     }

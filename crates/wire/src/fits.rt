@@ -6,7 +6,7 @@ ghost use Rattle.std.specs.List.{AllByRecursion};
 ghost use Rattle.xdr.specs.Forms.{is_trimmed, trimmed_bitmap};
 ghost use Rattle.model.specs.Operations.Answer.{Done, Refused};
 ghost use Rattle.model.specs.Wire.WireTypes.{channel, change_info, state_id};
-ghost use Rattle.model.specs.Wire.WireAnswers.{access_answer, create_answer, open_answer, rename_answer, write_answer, create_session_answer, sequence_answer, answer_told, outcome};
+ghost use Rattle.model.specs.Wire.WireAnswers.{access_answer, create_answer, open_answer, rename_answer, write_answer, create_session_answer, sequence_answer, encoded_answer, outcome};
 ghost use Rattle.wire.specs.Numbers.{number_of};
 ghost use Rattle.wire.specs.Short.{IsRefusal, IsShortAnswer};
 ghost use Rattle.wire.specs.SmallViews.{channel_view, change_view, state_view};
@@ -50,7 +50,7 @@ fn tell_words(words: &[u32])
 fn tell_bitmap(bitmap: &Bitmap)
     requires { IsTrue (is_trimmed bitmap.now) }
     ensures fits { trimmed_bitmap.Fits bitmap.now }
-    ensures bound { length (trimmed_bitmap.spelling bitmap.now) ≤ 36 }
+    ensures bound { length (trimmed_bitmap.encoding bitmap.now) ≤ 36 }
 {
     tell_words(bitmap.as_slice());
     let _ = bitmap.size();
@@ -72,7 +72,7 @@ fn tell_change(change: &ChangeInfo)
 
 fn tell_channel(given: &Channel)
     ensures fits { channel.Fits (channel_view given.now) }
-    ensures bound { length (channel.spelling (channel_view given.now)) ≤ 32 }
+    ensures bound { length (channel.encoding (channel_view given.now)) ≤ 32 }
 {
     tell_word(given.header_pad_size);
     tell_word(given.max_request_size);
@@ -96,7 +96,7 @@ fn tell_access(answer: &AccessAnswer)
 fn tell_create(answer: &CreateAnswer)
     requires { IsTrue (is_trimmed answer.now.was_set) }
     ensures fits { create_answer.Fits (create_view answer.now) }
-    ensures bound { length (create_answer.spelling (create_view answer.now)) ≤ 56 }
+    ensures bound { length (create_answer.encoding (create_view answer.now)) ≤ 56 }
 {
     tell_change(&answer.change);
     tell_bitmap(&answer.was_set);
@@ -105,7 +105,7 @@ fn tell_create(answer: &CreateAnswer)
 fn tell_open(answer: &OpenAnswer)
     requires { IsTrue (is_trimmed answer.now.was_set) }
     ensures fits { open_answer.Fits (open_view answer.now) }
-    ensures bound { length (open_answer.spelling (open_view answer.now)) ≤ 80 }
+    ensures bound { length (open_answer.encoding (open_view answer.now)) ≤ 80 }
 {
     tell_state(&answer.state);
     tell_change(&answer.change);
@@ -130,7 +130,7 @@ fn tell_write(answer: &WriteAnswer)
 
 fn tell_create_session(answer: &CreateSessionAnswer)
     ensures fits { create_session_answer.Fits (create_session_view answer.now) }
-    ensures bound { length (create_session_answer.spelling (create_session_view answer.now)) ≤ 88 }
+    ensures bound { length (create_session_answer.encoding (create_session_view answer.now)) ≤ 88 }
 {
     tell_array(&answer.session);
     tell_word(answer.sequence);
@@ -153,8 +153,8 @@ fn tell_sequence(answer: &SequenceAnswer)
 impl Answer<'_> {
     fn tell_fits(&self)
         requires { IsShortAnswer (answer_view self.now) }
-        ensures fits { (answer_told (answer_view self.now)).Fits }
-        ensures bound { length ((answer_told (answer_view self.now)).text) ≤ 192 }
+        ensures fits { (encoded_answer (answer_view self.now)).Fits }
+        ensures bound { length ((encoded_answer (answer_view self.now)).text) ≤ 192 }
     {
         match self {
             Answer::Access(a) => tell_access(a),
@@ -191,7 +191,7 @@ impl<'a> Outcome<'a> {
         requires { IsShortAnswer (answer_view answer) }
         ensures is { result ≡ outcomes.Done answer.entry }
         ensures fits { outcome.Fits (Done (answer_view answer.entry)) }
-        ensures bound { length (outcome.spelling (Done (answer_view answer.entry))) ≤ 256 }
+        ensures bound { length (outcome.encoding (Done (answer_view answer.entry))) ≤ 256 }
     {
         answer.tell_fits();
         Outcome::Done(answer)
@@ -202,7 +202,7 @@ impl<'a> Outcome<'a> {
         requires { IsRefusal status }
         ensures is { result ≡ outcomes.Refused (number_of operation) status }
         ensures fits { outcome.Fits (Refused (number_of operation) status) }
-        ensures bound { length (outcome.spelling (Refused (number_of operation) status)) ≤ 256 }
+        ensures bound { length (outcome.encoding (Refused (number_of operation) status)) ≤ 256 }
     {
         Outcome::Refused {
             operation: operation.number(),

@@ -2,7 +2,7 @@
 
 ghost use Rattle.std.specs.Prelude.{◌≡◌, OnErr};
 ghost use Rattle.xdr.specs.Clauses.{Wrote};
-ghost use Rattle.model.specs.Wire.WireAnswers.{answer_told, behind_refusal, outcome};
+ghost use Rattle.model.specs.Wire.WireAnswers.{encoded_answer, behind_refusal, outcome};
 ghost use Rattle.wire.specs.Numbers.{number_of};
 ghost use Rattle.wire.specs.OutcomeView.{answer_view, outcome_view, done_text, refused_text};
 
@@ -48,7 +48,7 @@ pub enum Answer<'a> {
 impl Answer<'_> {
     /// The operation whose result it is.
     pub fn operation(&self) -> Operation
-        ensures { number_of result ≡ (answer_told (answer_view self.now)).number }
+        ensures { number_of result ≡ (encoded_answer (answer_view self.now)).number }
     {
         match self {
             Answer::Access(_) => Operation::Access,
@@ -82,8 +82,8 @@ impl Answer<'_> {
     /// Writes the values after the status. On an error a prefix of them may have been written.
     #[tactic(auto, using(xdr::proofs::Writing::wrote_nothing))]
     fn write(&self, w: &mut Writer) -> Result<(), Refusal>
-        requires { (answer_told (answer_view self.now)).Fits }
-        ensures { Wrote w.old w.new result ((answer_told (answer_view self.now)).text) }
+        requires { (encoded_answer (answer_view self.now)).Fits }
+        ensures { Wrote w.old w.new result ((encoded_answer (answer_view self.now)).text) }
     {
         match self {
             Answer::Access(a) => a.write(w),
@@ -128,7 +128,7 @@ impl Outcome<'_> {
     /// Writes the number, the status and what follows it.
     pub fn write(&self, w: &mut Writer) -> Result<(), Refusal>
         requires { outcome.Fits (outcome_view self.now) }
-        ensures wrote { Wrote w.old w.new result (outcome.spelling (outcome_view self.now)) }
+        ensures wrote { Wrote w.old w.new result (outcome.encoding (outcome_view self.now)) }
         ensures err { OnErr result (w.new.bytes ≡ w.old.bytes) }
     {
         let mark = w.len();
@@ -138,7 +138,7 @@ impl Outcome<'_> {
 
     fn write_parts(&self, w: &mut Writer) -> Result<(), Refusal>
         requires { outcome.Fits (outcome_view self.now) }
-        ensures { Wrote w.old w.new result (outcome.spelling (outcome_view self.now)) }
+        ensures { Wrote w.old w.new result (outcome.encoding (outcome_view self.now)) }
     {
         match self {
             Outcome::Done(answer) => write_done(answer, w),
@@ -148,7 +148,7 @@ impl Outcome<'_> {
 }
 
 fn write_done(answer: &Answer<'_>, w: &mut Writer) -> Result<(), Refusal>
-    requires { (answer_told (answer_view answer.now)).Fits }
+    requires { (encoded_answer (answer_view answer.now)).Fits }
     ensures { Wrote w.old w.new result (done_text (answer_view answer.now)) }
 {
     w.write_u32(answer.operation().number())?;

@@ -2,7 +2,7 @@
 
 ghost use Rattle.std.specs.Prelude.{◌≡◌, ◌+◌, ◌<◌, ◌≤◌, ◌^◌, length, All};
 ghost use Rattle.model.specs.Wire.WireTypes.{attributes, channel};
-ghost use Rattle.model.specs.Wire.WireAnswers.{answer_told, behind_refusal, entry, outcome};
+ghost use Rattle.model.specs.Wire.WireAnswers.{encoded_answer, behind_refusal, entry, outcome};
 ghost use Rattle.wire.specs.SmallViews.{attributes_view, channel_view};
 ghost use Rattle.wire.specs.AnswerViews.{entry_view, chain_of, EntryFits};
 ghost use Rattle.wire.specs.OutcomeView.{answer_view, outcome_view};
@@ -18,7 +18,7 @@ impl Attributes<'_> {
     #[tactic(auto, using(crate::proofs::Sizes::attributes_length))]
     pub fn size(&self) -> usize
         requires { length self.now.values.now < 2 ^ 32 }
-        ensures value { result ≡ length (attributes.spelling (attributes_view self.now)) }
+        ensures value { result ≡ length (attributes.encoding (attributes_view self.now)) }
         ensures bound { result < 2 ^ 33 }
     {
         self.bitmap.size() + opaque_size(self.values)
@@ -29,7 +29,7 @@ impl Channel {
     /// How many bytes it takes.
     #[tactic(auto, using(crate::proofs::Sizes::channel_none, crate::proofs::Sizes::channel_some))]
     pub fn size(&self) -> usize
-        ensures value { result ≡ length (channel.spelling (channel_view self.now)) }
+        ensures value { result ≡ length (channel.encoding (channel_view self.now)) }
         ensures bound { result ≤ 32 }
     {
         match self.rdma_ird {
@@ -44,7 +44,7 @@ impl Entry<'_> {
     #[tactic(auto, using(crate::proofs::Sizes::entry_length))]
     pub fn size(&self) -> usize
         requires { EntryFits self.now }
-        ensures value { result ≡ length (entry.spelling (entry_view self.now)) }
+        ensures value { result ≡ length (entry.encoding (entry_view self.now)) }
         ensures bound { result < 2 ^ 34 }
     {
         8 + opaque_size(self.name) + self.attributes.size()
@@ -68,9 +68,9 @@ fn entries_size(entries: &[Entry<'_>]) -> usize
 impl Answer<'_> {
     /// How many bytes the values after the status take.
     pub fn size(&self) -> usize
-        requires fits { (answer_told (answer_view self.now)).Fits }
-        requires small { length ((answer_told (answer_view self.now)).text) < 2 ^ 63 }
-        ensures { result ≡ length ((answer_told (answer_view self.now)).text) }
+        requires fits { (encoded_answer (answer_view self.now)).Fits }
+        requires small { length ((encoded_answer (answer_view self.now)).text) < 2 ^ 63 }
+        ensures { result ≡ length ((encoded_answer (answer_view self.now)).text) }
     {
         match self {
             Answer::Access(_) => 8,
@@ -98,8 +98,8 @@ impl Outcome<'_> {
     /// How many bytes `write` writes.
     pub fn size(&self) -> usize
         requires fits { outcome.Fits (outcome_view self.now) }
-        requires small { length (outcome.spelling (outcome_view self.now)) < 2 ^ 63 }
-        ensures { result ≡ length (outcome.spelling (outcome_view self.now)) }
+        requires small { length (outcome.encoding (outcome_view self.now)) < 2 ^ 63 }
+        ensures { result ≡ length (outcome.encoding (outcome_view self.now)) }
     {
         match self {
             Outcome::Done(answer) => 8 + answer.size(),

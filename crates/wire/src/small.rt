@@ -19,10 +19,10 @@ pub fn trimmed(bitmap: &[u32]) -> &[u32]
     ensures value { result.now ≡ trimmed bitmap.now }
     ensures short { length result.now ≤ length bitmap.now }
 {
-    let Some((last, front)) = bitmap.split_last() else {
+    let Some((last, prefix)) = bitmap.split_last() else {
         return bitmap;
     };
-    if *last == 0 { trimmed(front) } else { bitmap }
+    if *last == 0 { trimmed(prefix) } else { bitmap }
 }
 
 /// Reads a bitmap as results have it: without zero words at the end.
@@ -76,7 +76,7 @@ impl StateId {
 
     /// Writes it. On an error a prefix of it may have been written.
     pub fn write(&self, w: &mut Writer) -> Result<(), Refusal>
-        ensures { Wrote w.old w.new result (state_id.spelling (state_view self.now)) }
+        ensures { Wrote w.old w.new result (state_id.encoding (state_view self.now)) }
     {
         w.write_u32(self.seqid)?;
         w.write_fixed(&self.other)
@@ -105,7 +105,7 @@ impl<'a> Attributes<'a> {
     /// Writes it. On an error a prefix of it may have been written.
     pub fn write(&self, w: &mut Writer) -> Result<(), Refusal>
         requires { length self.now.values.now < 2 ^ 32 }
-        ensures { Wrote w.old w.new result (attributes.spelling (attributes_view self.now)) }
+        ensures { Wrote w.old w.new result (attributes.encoding (attributes_view self.now)) }
     {
         self.bitmap.write(w)?;
         w.write_opaque(self.values)
@@ -123,7 +123,7 @@ pub struct ChangeInfo {
 impl ChangeInfo {
     /// Writes it. On an error a prefix of it may have been written.
     pub(crate) fn write(&self, w: &mut Writer) -> Result<(), Refusal>
-        ensures { Wrote w.old w.new result (change_info.spelling (change_view self.now)) }
+        ensures { Wrote w.old w.new result (change_info.encoding (change_view self.now)) }
     {
         w.write_bool(self.is_atomic)?;
         w.write_u64(self.before)?;
@@ -170,7 +170,7 @@ impl Channel {
 
     /// Writes it. On an error a prefix of it may have been written.
     pub fn write(&self, w: &mut Writer) -> Result<(), Refusal>
-        ensures { Wrote w.old w.new result (channel.spelling (channel_view self.now)) }
+        ensures { Wrote w.old w.new result (channel.encoding (channel_view self.now)) }
     {
         w.write_u32(self.header_pad_size)?;
         w.write_u32(self.max_request_size)?;
@@ -203,7 +203,7 @@ fn read_ird(r: &mut Reader<'_>) -> Result<Option<u32>, Refusal>
 
 #[tactic(auto, using(xdr::proofs::Writing::wrote_on, xdr::proofs::Writing::wrote_exit, xdr::proofs::Writing::wrote_end))]
 fn write_ird(w: &mut Writer, ird: Option<u32>) -> Result<(), Refusal>
-    ensures { Wrote w.old w.new result ((optional unsigned_int).spelling ird) }
+    ensures { Wrote w.old w.new result ((optional unsigned_int).encoding ird) }
 {
     match ird {
         None => w.write_u32(0),

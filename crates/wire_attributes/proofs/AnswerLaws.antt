@@ -16,7 +16,7 @@ use Rattle.model.specs.Wire.WireAnswers.{answered_attributes}
 use Rattle.wire_attributes.specs.declared.attribute.Attribute.{Attribute}
 use Rattle.wire_attributes.specs.declared.attribute.Attribute.TheVariants as attribute
 use Rattle.wire_attributes.specs.declared.node.NodeAttributes.{NodeAttributes}
-use Rattle.wire_attributes.specs.NodeValues.{attribute_number, value_of, value_spelled, spelled_if, asked_text, every_attribute, attributes_answered}
+use Rattle.wire_attributes.specs.NodeValues.{attribute_number, value_of, value_encoded, encoded_if, asked_text, every_attribute, attributes_answered}
 
 -- the number of an attribute is its value's
 same_number : (node : NodeAttributes) (a : Attribute) → attribute_of (value_of node a) ≡ attribute_number a
@@ -62,22 +62,22 @@ module _ (node : NodeAttributes) (bitmap : List ℕ) where
   texts_are [] = refl
   texts_are (a ∷ rest) =
       let asked = attributes_of bitmap in
-      ap (λ n. spelled_if (is_among asked n) (value_spelled node a) ++ flat_map (asked_text node bitmap) rest) (sym (same_number node a))
+      ap (λ n. encoded_if (is_among asked n) (value_encoded node a) ++ flat_map (asked_text node bitmap) rest) (sym (same_number node a))
       ∙ here (is_among asked (attribute_of (value_of node a))) (texts_are rest)
     where
       here : (is_asked : Bool) → flat_map (asked_text node bitmap) rest ≡ flat_map value_text (asked_values (attributes_of bitmap) (map (value_of node) rest))
-          → spelled_if is_asked (value_spelled node a) ++ flat_map (asked_text node bitmap) rest
+          → encoded_if is_asked (value_encoded node a) ++ flat_map (asked_text node bitmap) rest
           ≡ flat_map value_text (cond is_asked (value_of node a ∷ asked_values (attributes_of bitmap) (map (value_of node) rest)) (asked_values (attributes_of bitmap) (map (value_of node) rest)))
-      here true same = ap (λ l. value_spelled node a ++ l) same
+      here true same = ap (λ l. value_encoded node a ++ l) same
       here false same = same
 
   pub not_asked : (a : Attribute) → is_among (attributes_of bitmap) (attribute_number a) ≡ false → asked_text node bitmap a ≡ []
   unfolding asked_text
-  not_asked a is = ap (λ b. spelled_if b (value_spelled node a)) is
+  not_asked a is = ap (λ b. encoded_if b (value_encoded node a)) is
 
-  pub is_asked : (a : Attribute) → is_among (attributes_of bitmap) (attribute_number a) ≡ true → asked_text node bitmap a ≡ value_spelled node a
+  pub is_asked : (a : Attribute) → is_among (attributes_of bitmap) (attribute_number a) ≡ true → asked_text node bitmap a ≡ value_encoded node a
   unfolding asked_text
-  is_asked a is = ap (λ b. spelled_if b (value_spelled node a)) is
+  is_asked a is = ap (λ b. encoded_if b (value_encoded node a)) is
 
   abbrev pub values_text : List ℕ
   values_text = flat_map (asked_text node bitmap) every_attribute
@@ -86,27 +86,27 @@ module _ (node : NodeAttributes) (bitmap : List ℕ) where
   words = trimmed (common bitmap supported_bitmap)
 
   -- it is encoded as its bitmap, and the values after their length
-  pub spelled : answered_attributes.spelling (attributes_answered node bitmap) ≡ elements (λ n. number w32 n) words ++ counted values_text
+  pub encoded : answered_attributes.encoding (attributes_answered node bitmap) ≡ elements (λ n. number w32 n) words ++ counted values_text
   unfolding attributes_answered
-  spelled = ap (λ (text : List ℕ). elements (λ n. number w32 n) words ++ counted text) (sym (texts_are every_attribute))
+  encoded = ap (λ (text : List ℕ). elements (λ n. number w32 n) words ++ counted text) (sym (texts_are every_attribute))
 
   pub answer_length : (count size : ℕ) → count ≡ length words → size ≡ length values_text → size % 4 ≡ 0
-      → 8 + 4 * count + size ≡ length (answered_attributes.spelling (attributes_answered node bitmap))
+      → 8 + 4 * count + size ≡ length (answered_attributes.encoding (attributes_answered node bitmap))
   answer_length count size is_count is_size whole =
-      omega (arith, ap length spelled, length-append (elements (λ n. number w32 n) words) (counted values_text), elements_length words, counted_length values_text, is_count, is_size, whole)
+      omega (arith, ap length encoded, length-append (elements (λ n. number w32 n) words) (counted values_text), elements_length words, counted_length values_text, is_count, is_size, whole)
 
-  abbrev Spelled : Written → Written → Result (Unit {0}) Refusal → Type 0
-  Spelled a c r = Wrote a c r (answered_attributes.spelling (attributes_answered node bitmap))
+  abbrev IsAllWritten : Written → Written → Result (Unit {0}) Refusal → Type 0
+  IsAllWritten a c r = Wrote a c r (answered_attributes.encoding (attributes_answered node bitmap))
 
   -- what was written in parts is the encoding
   module _ (ws : List ℕ) (is : ws ≡ words) {a c : Written} {r : Result (Unit {0}) Refusal} where
-    pub front_written : Wrote a c r (elements (λ n. number w32 n) ws ++ counted values_text) → Spelled a c r
-    front_written w =
-        subst (λ (text : List ℕ). Wrote a c r text) (ap (λ (l : List ℕ). elements (λ n. number w32 n) l ++ counted values_text) is ∙ sym spelled) w
+    pub prefix_written : Wrote a c r (elements (λ n. number w32 n) ws ++ counted values_text) → IsAllWritten a c r
+    prefix_written w =
+        subst (λ (text : List ℕ). Wrote a c r text) (ap (λ (l : List ℕ). elements (λ n. number w32 n) l ++ counted values_text) is ∙ sym encoded) w
 
     pub all_written : (size : ℕ) → size ≡ length values_text → size % 4 ≡ 0
-        → Wrote a c r (elements (λ n. number w32 n) ws ++ (number w32 size ++ values_text)) → Spelled a c r
+        → Wrote a c r (elements (λ n. number w32 n) ws ++ (number w32 size ++ values_text)) → IsAllWritten a c r
     all_written size is_size whole w =
         let values : number w32 size ++ values_text ≡ counted values_text =
         ap (λ n. number w32 n ++ values_text) is_size ∙ sym (counted_whole values_text (ap (λ n. n % 4) (sym is_size) ∙ whole)) in
-        front_written (subst (λ (text : List ℕ). Wrote a c r (elements (λ n. number w32 n) ws ++ text)) values w)
+        prefix_written (subst (λ (text : List ℕ). Wrote a c r (elements (λ n. number w32 n) ws ++ text)) values w)

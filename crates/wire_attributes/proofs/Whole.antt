@@ -5,7 +5,7 @@ use Rattle.xdr.specs.declared.refusal.Refusal.{Refusal}
 use Rattle.model.specs.Attributes.AttributeValue.{Value, values, values_at, whole, whole_values}
 use Rattle.model.proofs.Wire.AttributeExact.{again}
 
-pub no_values : (attributes bytes : List ℕ) (e : Refusal) → values_at attributes bytes ≡ Err e → (vs : List Value) → (values attributes).Fits vs → bytes ≢ (values attributes).spelling vs
+pub no_values : (attributes bytes : List ℕ) (e : Refusal) → values_at attributes bytes ≡ Err e → (vs : List Value) → (values attributes).Fits vs → bytes ≢ (values attributes).encoding vs
 no_values attributes bytes e refused vs fits = λ is.
     let read = sym (again attributes vs bytes fits is) ∙ refused in
     absurd (cc (read))
@@ -15,7 +15,7 @@ rest_of (Ok x) = x.1
 rest_of (Err e) = []
 
 pub too_many_bytes : (attributes bytes : List ℕ) (got : List Value) (rest : List ℕ) → values_at attributes bytes ≡ Ok (got, rest) → length rest ≢ 0
-    → (vs : List Value) → (values attributes).Fits vs → bytes ≢ (values attributes).spelling vs
+    → (vs : List Value) → (values attributes).Fits vs → bytes ≢ (values attributes).encoding vs
 unfolding rest_of
 too_many_bytes attributes bytes got rest read some vs fits = λ is.
     some (ap (λ (r : Result (List Value × List ℕ) Refusal). length (rest_of r)) (sym read ∙ again attributes vs bytes fits is))

@@ -12,7 +12,7 @@ use Rattle.model.specs.Operations.Operation as operation
 use Rattle.model_tree.specs.Refusals.Refusal.{first_refusal}
 use Rattle.model.proofs.Operations.AttributeLaws.{first_passed, given_lists_fit}
 use Rattle.model.proofs.Operations.FileStepLaws.{size_within}
-use Rattle.model.proofs.Operations.RefusalLaws.{none_in_front}
+use Rattle.model.proofs.Operations.RefusalLaws.{none_earlier}
 use Rattle.wire_attributes.specs.declared.settings.Settings.{Settings}
 use Rattle.wire_attributes.specs.Given.{AreSettings, WithinLimits}
 
@@ -22,7 +22,7 @@ nine_bits : (limits : Limits) (kind : NodeKind) (values : List Value) (mode : �
 nine_bits limits kind [] mode tested same = absurd (cc)
 nine_bits limits kind (Mode first ∷ rest) mode tested same =
     let here : first ≡ mode = cc in
-    let passed = none_in_front (nat_lt 511 first) status.Inval None (first_passed (value_refusals limits kind) (Mode first) rest tested).0 in
+    let passed = none_earlier (nat_lt 511 first) status.Inval None (first_passed (value_refusals limits kind) (Mode first) rest tested).0 in
     subst (λ n. n ≤ 511) here (ltb-false 511 first passed.0)
 nine_bits limits kind (value ∷ rest) mode tested same =
     nine_bits limits kind rest mode (first_passed (value_refusals limits kind) value rest tested).1 same
@@ -31,9 +31,9 @@ mode_within : (limits : Limits) (kind : NodeKind) (settable : List ℕ) (given :
     → first_refusal (attribute_refusals limits kind settable given) ≡ None → mode_given given ≡ Some mode → mode ≤ 511
 unfolding attribute_refusals
 mode_within limits kind settable given mode none said =
-    let known = none_in_front (has_one_outside supported (attributes_of given.bitmap)) status.AttrNotSupp _ none in
-    let settable_here = none_in_front (has_one_outside settable (attributes_of given.bitmap)) status.Inval _ known.1 in
-    let whole = none_in_front (is_none (values_of given)) status.BadXdr _ settable_here.1 in
+    let known = none_earlier (has_one_outside supported (attributes_of given.bitmap)) status.AttrNotSupp _ none in
+    let settable_here = none_earlier (has_one_outside settable (attributes_of given.bitmap)) status.Inval _ known.1 in
+    let whole = none_earlier (is_none (values_of given)) status.BadXdr _ settable_here.1 in
     nine_bits limits kind (unwrap_or (values_of given) []) mode whole.1 said
 
 -- what is set by attributes that pass their tests is within the limits

@@ -14,10 +14,10 @@ use Rattle.wire_attributes.specs.Views.{entry_view, value_view}
 abbrev pub AreValues : (attributes bytes : List ℕ) → Result (Vec Value) Refusal → Type 0
 AreValues attributes bytes (Ok vs) =
     (spec.values attributes).Fits (map value_view vs.items)
-    × (bytes ≡ (spec.values attributes).spelling (map value_view vs.items))
+    × (bytes ≡ (spec.values attributes).encoding (map value_view vs.items))
 AreValues attributes bytes (Err e) =
     (e ≡ Memory) ⊎ ((vs : List spec.Value) → (spec.values attributes).Fits vs
-    → bytes ≢ (spec.values attributes).spelling vs)
+    → bytes ≢ (spec.values attributes).encoding vs)
 
 -- They are what the definition reads from the whole of the bytes.
 abbrev pub AreRead : (attributes bytes : List ℕ) → Result (Vec Value) Refusal → Type 0

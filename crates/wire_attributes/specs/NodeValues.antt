@@ -101,17 +101,17 @@ value_of node attribute.TimeModify = spec.TimeModify (time_of node.time_modify)
 value_of node attribute.SuppattrExclcreat = spec.SuppattrExclcreat []
 
 -- the encoding of an attribute's value, and what of it is encoded if these are asked for
-abbrev pub value_spelled : NodeAttributes → Attribute → List ℕ
-value_spelled node attribute = value_text (value_of node attribute)
+abbrev pub value_encoded : NodeAttributes → Attribute → List ℕ
+value_encoded node attribute = value_text (value_of node attribute)
 
-abbrev pub spelled_if : (asked : Bool) → List ℕ → List ℕ
-spelled_if true text = text
-spelled_if false text = []
+abbrev pub encoded_if : (asked : Bool) → List ℕ → List ℕ
+encoded_if true text = text
+encoded_if false text = []
 
 unfoldable pub asked_text : NodeAttributes → (bitmap : List ℕ) → Attribute → List ℕ
 asked_text node bitmap attribute =
-    spelled_if (is_among (attributes_of bitmap) (attribute_number attribute))
-    (value_spelled node attribute)
+    encoded_if (is_among (attributes_of bitmap) (attribute_number attribute))
+    (value_encoded node attribute)
 
 -- what is returned of these attributes
 unfoldable pub attributes_answered : NodeAttributes → (bitmap : List ℕ) → operation.Attributes

@@ -79,8 +79,8 @@ ValueFits (value.TimeModify v) = Unit {0}
 ValueFits (value.SuppattrExclcreat v) = IsTrue (is_trimmed v)
 
 -- an entry's encoding, and a value's
-abbrev pub entry_spelling : AclEntry → List ℕ
-entry_spelling e = spec.acl_entry.spelling (entry_view e)
+abbrev pub entry_encoding : AclEntry → List ℕ
+entry_encoding e = spec.acl_entry.encoding (entry_view e)
 
-abbrev pub value_spelling : Value → List ℕ
-value_spelling v = spec.value_text (value_view v)
+abbrev pub value_encoding : Value → List ℕ
+value_encoding v = spec.value_text (value_view v)

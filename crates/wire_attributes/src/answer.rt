@@ -85,7 +85,7 @@ impl AttributesAnswer<'_> {
     /// How many bytes `write` writes.
     pub fn size(&self) -> usize
         requires { HasFewEntries self.now.node }
-        ensures value { result ≡ length (answered_attributes.spelling (answer_view self.now)) }
+        ensures value { result ≡ length (answered_attributes.encoding (answer_view self.now)) }
         ensures bound { result ≤ 2 ^ 17 }
     {
         8 + 4 * trimmed(common(self.asked).as_slice()).len() + self.values_size()
@@ -119,7 +119,7 @@ impl AttributesAnswer<'_> {
     /// Writes it. On an error a prefix of it may have been written.
     pub fn write(&self, w: &mut Writer) -> Result<(), Refusal>
         requires { HasFewEntries self.now.node }
-        ensures { Wrote w.old w.new result (answered_attributes.spelling (answer_view self.now)) }
+        ensures { Wrote w.old w.new result (answered_attributes.encoding (answer_view self.now)) }
     {
         write_words(w, trimmed(common(self.asked).as_slice()))?;
         w.write_u32(self.values_size() as u32)?;

@@ -4,7 +4,7 @@ ghost use Rattle.std.specs.Prelude.{◌<◌, ◌^◌, length, map, All};
 ghost use Rattle.std.specs.List.{flat_map};
 ghost use Rattle.xdr.specs.Clauses.{Scans, ReadsBy, Wrote};
 ghost use Rattle.model.specs.Attributes.AttributeValue.{acl_entry, entries};
-ghost use Rattle.wire_attributes.specs.Views.{EntryFits, entry_spelling, entry_view};
+ghost use Rattle.wire_attributes.specs.Views.{EntryFits, entry_encoding, entry_view};
 ghost use Rattle.wire_attributes.specs.Clauses.{ReadsEntries};
 
 use std::alloc::Global;
@@ -41,7 +41,7 @@ impl<'a> AclEntry<'a> {
     #[tactic(auto, using(xdr::proofs::Writing::wrote_on, xdr::proofs::Writing::wrote_exit, xdr::proofs::Writing::wrote_end))]
     pub(crate) fn write(&self, w: &mut Writer) -> Result<(), Refusal>
         requires { EntryFits self.now }
-        ensures { Wrote w.old w.new result (entry_spelling self.now) }
+        ensures { Wrote w.old w.new result (entry_encoding self.now) }
     {
         w.write_u32(self.kind)?;
         w.write_u32(self.flags)?;
@@ -86,7 +86,7 @@ fn each_entry<'a>(
 pub(crate) fn write_entries(w: &mut Writer, list: &[AclEntry<'_>]) -> Result<(), Refusal>
     requires count { length list.now < 2 ^ 32 }
     requires fits { All EntryFits list.now }
-    ensures { Wrote w.old w.new result (entries.spelling (map entry_view list.now)) }
+    ensures { Wrote w.old w.new result (entries.encoding (map entry_view list.now)) }
 {
     w.write_u32(list.len() as u32)?;
     write_each_entry(w, list)
@@ -94,7 +94,7 @@ pub(crate) fn write_entries(w: &mut Writer, list: &[AclEntry<'_>]) -> Result<(),
 
 fn write_each_entry(w: &mut Writer, list: &[AclEntry<'_>]) -> Result<(), Refusal>
     requires { All EntryFits list.now }
-    ensures { Wrote w.old w.new result (flat_map entry_spelling list.now) }
+    ensures { Wrote w.old w.new result (flat_map entry_encoding list.now) }
 {
     for entry in list {
         entry.write(w)?;

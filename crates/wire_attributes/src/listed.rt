@@ -17,7 +17,7 @@ const RDATTR_ERROR: u32 = 0x800;
 /// The attributes of an entry.
 #[derive(Clone, Copy)]
 pub enum ListedAttributes<'a> {
-    Shown(AttributesAnswer<'a>),
+    Metadata(AttributesAnswer<'a>),
     /// Its list is asked for, and the caller may not read it: only rdattr_error, with ACCESS.
     Unreadable,
     /// Its node is gone: no attribute.
@@ -35,7 +35,7 @@ pub struct ListedEntry<'a> {
 /// Writes rdattr_error with ACCESS. On an error a prefix of it may have been written.
 #[tactic(auto, unfolding(xdr::specs::Grammar::number), using(xdr::proofs::Writing::wrote_on, xdr::proofs::Writing::wrote_exit, xdr::proofs::Writing::wrote_end))]
 fn write_unreadable(w: &mut Writer) -> Result<(), Refusal>
-    ensures { Wrote w.old w.new result (answered_attributes.spelling unreadable) }
+    ensures { Wrote w.old w.new result (answered_attributes.encoding unreadable) }
 {
     write_words(w, &[RDATTR_ERROR])?;
     w.write_opaque(&(Status::Access as u32).to_be_bytes())
@@ -45,7 +45,7 @@ fn write_unreadable(w: &mut Writer) -> Result<(), Refusal>
 #[tactic(auto, using(xdr::proofs::Writing::wrote_on, xdr::proofs::Writing::wrote_exit, xdr::proofs::Writing::wrote_end))]
 fn write_gone(w: &mut Writer) -> Result<(), Refusal>
     ensures { Wrote w.old w.new result
-        (answered_attributes.spelling (record { bitmap = []; values = [] })) }
+        (answered_attributes.encoding (record { bitmap = []; values = [] })) }
 {
     write_words(w, &[])?;
     w.write_opaque(&[])
@@ -56,11 +56,11 @@ impl ListedAttributes<'_> {
     #[tactic(auto, using(crate::proofs::ListedLaws::unreadable_length, crate::proofs::ListedLaws::gone_length))]
     pub fn size(&self) -> usize
         requires { ListedFits self.now }
-        ensures value { result ≡ length (answered_attributes.spelling (listed_view self.now)) }
+        ensures value { result ≡ length (answered_attributes.encoding (listed_view self.now)) }
         ensures bound { result ≤ 2 ^ 17 }
     {
         match self {
-            ListedAttributes::Shown(shown) => shown.size(),
+            ListedAttributes::Metadata(shown) => shown.size(),
             ListedAttributes::Unreadable => 16,
             ListedAttributes::Gone => 8,
         }
@@ -69,10 +69,10 @@ impl ListedAttributes<'_> {
     /// Writes them. On an error a prefix of them may have been written.
     pub fn write(&self, w: &mut Writer) -> Result<(), Refusal>
         requires { ListedFits self.now }
-        ensures { Wrote w.old w.new result (answered_attributes.spelling (listed_view self.now)) }
+        ensures { Wrote w.old w.new result (answered_attributes.encoding (listed_view self.now)) }
     {
         match self {
-            ListedAttributes::Shown(shown) => shown.write(w),
+            ListedAttributes::Metadata(shown) => shown.write(w),
             ListedAttributes::Unreadable => write_unreadable(w),
             ListedAttributes::Gone => write_gone(w),
         }
@@ -84,7 +84,7 @@ impl ListedEntry<'_> {
     #[tactic(auto, using(crate::proofs::ListedLaws::listed_length))]
     pub fn size(&self) -> usize
         requires { EntryFits self.now }
-        ensures value { result ≡ length (entry.spelling (entry_view self.now)) }
+        ensures value { result ≡ length (entry.encoding (entry_view self.now)) }
         ensures bound { result ≤ 2 ^ 18 }
     {
         8 + opaque_size(self.name) + self.attributes.size()
@@ -94,7 +94,7 @@ impl ListedEntry<'_> {
     #[tactic(auto, using(xdr::proofs::Writing::wrote_on, xdr::proofs::Writing::wrote_exit, xdr::proofs::Writing::wrote_end))]
     pub fn write(&self, w: &mut Writer) -> Result<(), Refusal>
         requires { EntryFits self.now }
-        ensures { Wrote w.old w.new result (entry.spelling (entry_view self.now)) }
+        ensures { Wrote w.old w.new result (entry.encoding (entry_view self.now)) }
     {
         w.write_u64(self.cookie)?;
         w.write_opaque(self.name)?;

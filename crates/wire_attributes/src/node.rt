@@ -8,7 +8,7 @@ ghost use Rattle.model.specs.Attributes.AclText.{entry_text, who_text};
 ghost use Rattle.model.specs.Attributes.AttributeValue.{acl_entry, file_system_id, node_kind, time};
 ghost use Rattle.model.specs.Attributes.NodeAttributes.{time_of};
 ghost use Rattle.model_tree.specs.declared.acl.Who.TheVariants as who;
-ghost use Rattle.wire_attributes.specs.NodeValues.{HasFewEntries, value_spelled};
+ghost use Rattle.wire_attributes.specs.NodeValues.{HasFewEntries, value_encoded};
 ghost use Rattle.xdr.specs.Clauses.{Wrote};
 ghost use Rattle.xdr.specs.Forms.{counted, elements};
 ghost use Rattle.xdr.specs.Grammar.{number};
@@ -71,7 +71,7 @@ fn who_bytes(digits: &mut Buffer, who: Who) -> &[u8]
 
 /// How many bytes an entry takes.
 fn ace_size(ace: &Ace) -> usize
-    ensures value { result ≡ length (acl_entry.spelling (entry_text ace.now)) }
+    ensures value { result ≡ length (acl_entry.encoding (entry_text ace.now)) }
     ensures bound { result ≤ 60 }
     ensures whole { result % 4 ≡ 0 }
 {
@@ -83,7 +83,7 @@ fn ace_size(ace: &Ace) -> usize
 fn aces_size(acl: &[Ace]) -> usize
     requires { length acl.now ≤ Acl.MAX_STORED }
     ensures value { result
-        ≡ length (flat_map (λ ace. acl_entry.spelling (entry_text ace)) acl.now) }
+        ≡ length (flat_map (λ ace. acl_entry.encoding (entry_text ace)) acl.now) }
     ensures bound { result ≤ 4320 }
     ensures whole { result % 4 ≡ 0 }
 {
@@ -106,7 +106,7 @@ fn owner_size(number: u32) -> usize
 
 /// Writes an entry. On an error a prefix of it may have been written.
 fn write_ace(w: &mut Writer, ace: &Ace) -> Result<(), Refusal>
-    ensures { Wrote w.old w.new result (acl_entry.spelling (entry_text ace.now)) }
+    ensures { Wrote w.old w.new result (acl_entry.encoding (entry_text ace.now)) }
 {
     let mut digits = Buffer::new();
     let entry = AclEntry {
@@ -121,7 +121,7 @@ fn write_ace(w: &mut Writer, ace: &Ace) -> Result<(), Refusal>
 /// Writes the entries of a list. On an error a prefix of them may have been written.
 fn write_aces(w: &mut Writer, acl: &[Ace]) -> Result<(), Refusal>
     ensures { Wrote w.old w.new result
-        (flat_map (λ ace. acl_entry.spelling (entry_text ace)) acl.now) }
+        (flat_map (λ ace. acl_entry.encoding (entry_text ace)) acl.now) }
 {
     for ace in acl {
         write_ace(w, ace)?;
@@ -134,7 +134,7 @@ fn write_aces(w: &mut Writer, acl: &[Ace]) -> Result<(), Refusal>
 fn write_acl(w: &mut Writer, acl: &[Ace]) -> Result<(), Refusal>
     requires { length acl.now ≤ Acl.MAX_STORED }
     ensures { Wrote w.old w.new result
-        (elements acl_entry.spelling (map entry_text acl.now)) }
+        (elements acl_entry.encoding (map entry_text acl.now)) }
 {
     w.write_u32(acl.len() as u32)?;
     write_aces(w, acl)
@@ -170,7 +170,7 @@ fn write_each_word(w: &mut Writer, words: &[u32]) -> Result<(), Refusal>
 /// Writes a moment, in nanoseconds since 1970. On an error a prefix of it may have been written.
 #[tactic(auto, using(xdr::proofs::Writing::wrote_on, xdr::proofs::Writing::wrote_exit, xdr::proofs::Writing::wrote_end))]
 fn write_time(w: &mut Writer, moment: u64) -> Result<(), Refusal>
-    ensures { Wrote w.old w.new result (time.spelling (time_of moment)) }
+    ensures { Wrote w.old w.new result (time.encoding (time_of moment)) }
 {
     w.write_u64(moment / NANOSECONDS)?;
     w.write_u32((moment % NANOSECONDS) as u32)
@@ -180,14 +180,14 @@ fn write_time(w: &mut Writer, moment: u64) -> Result<(), Refusal>
 #[tactic(auto, using(xdr::proofs::Writing::wrote_on, xdr::proofs::Writing::wrote_exit, xdr::proofs::Writing::wrote_end))]
 fn write_fsid(w: &mut Writer) -> Result<(), Refusal>
     ensures { Wrote w.old w.new result
-        (file_system_id.spelling (record { major = 1; minor = 0 })) }
+        (file_system_id.encoding (record { major = 1; minor = 0 })) }
 {
     w.write_u64(1)?;
     w.write_u64(0)
 }
 
 fn kind_number(kind: NodeKind) -> u32
-    ensures { number w32 result ≡ node_kind.spelling kind }
+    ensures { number w32 result ≡ node_kind.encoding kind }
 {
     match kind {
         NodeKind::File => 1,
@@ -200,7 +200,7 @@ impl NodeAttributes<'_> {
     #[tactic(auto, using(wire::proofs::Sizes::int_length, wire::proofs::Sizes::hyper_length, crate::proofs::NodeSizes::bitmap_length, crate::proofs::NodeSizes::fsid_length, crate::proofs::NodeSizes::handle_length, crate::proofs::NodeSizes::kind_length, crate::proofs::NodeSizes::none_length, crate::proofs::NodeSizes::time_length, crate::proofs::NodeSizes::list_length))]
     pub(crate) fn value_size(&self, attribute: Attribute) -> usize
         requires { HasFewEntries self.now }
-        ensures value { result ≡ length (value_spelled self.now attribute) }
+        ensures value { result ≡ length (value_encoded self.now attribute) }
         ensures bound { result ≤ 4400 }
         ensures whole { result % 4 ≡ 0 }
     {
@@ -235,7 +235,7 @@ impl NodeAttributes<'_> {
     /// Writes an attribute's value. On an error a prefix of it may have been written.
     pub(crate) fn write_value(&self, w: &mut Writer, attribute: Attribute) -> Result<(), Refusal>
         requires { HasFewEntries self.now }
-        ensures { Wrote w.old w.new result (value_spelled self.now attribute) }
+        ensures { Wrote w.old w.new result (value_encoded self.now attribute) }
     {
         match attribute {
             Attribute::SupportedAttrs => write_words(w, &SUPPORTED),

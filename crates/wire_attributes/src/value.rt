@@ -3,7 +3,7 @@
 ghost use Rattle.std.specs.Prelude.{◌≡◌, ◌<◌};
 ghost use Rattle.xdr.specs.Clauses.{Scans, ReadsBy, Wrote};
 ghost use Rattle.model.specs.Attributes.AttributeValue.{attribute_of, file_system_id, node_kind, time, value_at};
-ghost use Rattle.wire_attributes.specs.Views.{ValueFits, file_system_view, time_view, value_spelling, value_view};
+ghost use Rattle.wire_attributes.specs.Views.{ValueFits, file_system_view, time_view, value_encoding, value_view};
 
 use crate::entry::{AclEntry, read_entries, write_entries};
 use model_tree::node::NodeKind;
@@ -31,7 +31,7 @@ impl FileSystemId {
 
     #[tactic(auto, using(xdr::proofs::Writing::wrote_on, xdr::proofs::Writing::wrote_exit, xdr::proofs::Writing::wrote_end))]
     fn write(&self, w: &mut Writer) -> Result<(), Refusal>
-        ensures { Wrote w.old w.new result (file_system_id.spelling (file_system_view self.now)) }
+        ensures { Wrote w.old w.new result (file_system_id.encoding (file_system_view self.now)) }
     {
         w.write_u64(self.major)?;
         w.write_u64(self.minor)
@@ -62,7 +62,7 @@ impl Time {
 
     #[tactic(auto, using(xdr::proofs::Writing::wrote_on, xdr::proofs::Writing::wrote_exit, xdr::proofs::Writing::wrote_end))]
     fn write(&self, w: &mut Writer) -> Result<(), Refusal>
-        ensures { Wrote w.old w.new result (time.spelling (time_view self.now)) }
+        ensures { Wrote w.old w.new result (time.encoding (time_view self.now)) }
     {
         w.write_u64(self.seconds)?;
         w.write_u32(self.nanoseconds)
@@ -84,7 +84,7 @@ fn read_kind(r: &mut Reader<'_>) -> Result<NodeKind, Refusal>
 
 #[tactic(auto, using(crate::proofs::Alone::wrote_alone))]
 fn write_kind(w: &mut Writer, kind: NodeKind) -> Result<(), Refusal>
-    ensures { Wrote w.old w.new result (node_kind.spelling kind) }
+    ensures { Wrote w.old w.new result (node_kind.encoding kind) }
 {
     match kind {
         NodeKind::File => w.write_u32(1),
@@ -204,7 +204,7 @@ impl<'a> Value<'a> {
     /// Writes it. On an error a prefix of it may have been written.
     pub(crate) fn write(&self, w: &mut Writer) -> Result<(), Refusal>
         requires { ValueFits self.now }
-        ensures { Wrote w.old w.new result (value_spelling self.now) }
+        ensures { Wrote w.old w.new result (value_encoding self.now) }
     {
         match self {
             Value::SupportedAttrs(bitmap) | Value::SuppattrExclcreat(bitmap) => bitmap.write(w),

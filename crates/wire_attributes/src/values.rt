@@ -5,7 +5,7 @@ ghost use Rattle.std.specs.List.{flat_map};
 ghost use Rattle.xdr.specs.Clauses.{Wrote};
 ghost use Rattle.xdr.specs.Laws.{IsBytes};
 ghost use Rattle.model.specs.Attributes.Attribute.{attributes_of};
-ghost use Rattle.wire_attributes.specs.Views.{ValueFits, value_spelling};
+ghost use Rattle.wire_attributes.specs.Views.{ValueFits, value_encoding};
 ghost use Rattle.wire_attributes.specs.Clauses.{AreRead, AreValues, ReadsValues};
 
 use crate::bitmap::numbers_of;
@@ -60,10 +60,10 @@ fn each_value<'a>(
 }
 
 /// Writes values, each without its attribute's number. They are to come by rising number.
-#[tactic(auto, using(xdr::proofs::Writing::wrote_undone, xdr::proofs::Writing::unchanged))]
+#[tactic(auto, using(xdr::proofs::Writing::failed_write, xdr::proofs::Writing::unchanged))]
 pub fn write_values(w: &mut Writer, values: &[Value<'_>]) -> Result<(), Refusal>
     requires { All ValueFits values.now }
-    ensures wrote { Wrote w.old w.new result (flat_map value_spelling values.now) }
+    ensures wrote { Wrote w.old w.new result (flat_map value_encoding values.now) }
     ensures err { OnErr result (w.new.bytes ≡ w.old.bytes) }
 {
     let mark = w.len();
@@ -73,7 +73,7 @@ pub fn write_values(w: &mut Writer, values: &[Value<'_>]) -> Result<(), Refusal>
 
 fn write_each_value(w: &mut Writer, values: &[Value<'_>]) -> Result<(), Refusal>
     requires { All ValueFits values.now }
-    ensures { Wrote w.old w.new result (flat_map value_spelling values.now) }
+    ensures { Wrote w.old w.new result (flat_map value_encoding values.now) }
 {
     for value in values {
         value.write(w)?;

@@ -10,7 +10,7 @@ use Rattle.wire.specs.declared.small.CallbackSecurity.{CallbackSecurity}
 use Rattle.wire.specs.SmallViews.{security_view}
 use Rattle.wire_client.specs.Reading.{security_text}
 
-each_text : (list : List CallbackSecurity) → flat_map callback_security.spelling (map security_view list) ≡ flat_map security_text list
+each_text : (list : List CallbackSecurity) → flat_map callback_security.encoding (map security_view list) ≡ flat_map security_text list
 each_text [] = refl
 each_text (s ∷ list) = ap (λ (t : List ℕ). security_text s ++ t) (each_text list)
 
@@ -18,6 +18,6 @@ pub count : (list : List CallbackSecurity) → length (map security_view list) �
 count [] = refl
 count (s ∷ list) = ap suc (count list)
 
-pub securities_text : (list : List CallbackSecurity) → elements callback_security.spelling (map security_view list) ≡ number w32 (length list) ++ flat_map security_text list
+pub securities_text : (list : List CallbackSecurity) → elements callback_security.encoding (map security_view list) ≡ number w32 (length list) ++ flat_map security_text list
 unfolding elements
 securities_text list = rw (each_text list, count list) refl

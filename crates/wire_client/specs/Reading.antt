@@ -23,4 +23,4 @@ ReadsEntries old (Err e) = (e ≡ Memory) ⊎ (links_at entry.read (length old) 
 
 -- a security parameter
 abbrev pub security_text : CallbackSecurity → List ℕ
-security_text s = callback_security.spelling (security_view s)
+security_text s = callback_security.encoding (security_view s)

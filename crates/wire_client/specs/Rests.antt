@@ -22,45 +22,45 @@ use Rattle.wire.specs.ArgumentViews.{claim_view, opening_view}
 -- after the machine's name
 abbrev pub credential_rest : SystemCredential → List ℕ
 credential_rest c =
-    (unsigned_int & unsigned_int & array 16 unsigned_int).spelling (c.uid, (c.gid, c.gids))
+    (unsigned_int & unsigned_int & array 16 unsigned_int).encoding (c.uid, (c.gid, c.gids))
 
 -- after the flags
 abbrev pub exchange_id_rest : ExchangeIdArguments → List ℕ
 exchange_id_rest a =
-    (always 0 unsigned_int & optional implementation).spelling
+    (always 0 unsigned_int & optional implementation).encoding
     (tt, option_map implementation_view a.implementation)
 
 -- after the flags, and after the channels
 abbrev pub create_session_end : CreateSessionArguments → List ℕ
 create_session_end a =
-    (unsigned_int & array 4 callback_security).spelling
+    (unsigned_int & array 4 callback_security).encoding
     (a.callback_program, map security_view a.security.items)
 
 abbrev pub create_session_rest : CreateSessionArguments → List ℕ
 create_session_rest a =
-    channel.spelling (channel_view a.fore)
-    ++ (channel.spelling (channel_view a.back) ++ create_session_end a)
+    channel.encoding (channel_view a.fore)
+    ++ (channel.encoding (channel_view a.back) ++ create_session_end a)
 
 -- after the slot
 abbrev pub sequence_rest : SequenceArguments → List ℕ
-sequence_rest a = (unsigned_int & boolean).spelling (a.highest_slot, a.cache_this)
+sequence_rest a = (unsigned_int & boolean).encoding (a.highest_slot, a.cache_this)
 
 -- after the cookie verifier
 abbrev pub read_dir_rest : ReadDirArguments → List ℕ
 read_dir_rest a =
-    (unsigned_int & unsigned_int & bitmap).spelling (a.dir_count, (a.max_count, a.bitmap))
+    (unsigned_int & unsigned_int & bitmap).encoding (a.dir_count, (a.max_count, a.bitmap))
 
 -- after the share that is denied
 abbrev pub open_rest : OpenArguments → List ℕ
 open_rest a =
-    (unsigned_hyper & owner_id & opening).spelling (a.client, (a.owner.now, opening_view a.opening))
+    (unsigned_hyper & owner_id & opening).encoding (a.client, (a.owner.now, opening_view a.opening))
 
 -- an open type and a claim, except of an exclusive create
 abbrev pub opens_text : OpenType → Claim → List ℕ
-opens_text how by = opening.spelling (opening_view (openings.Opens how by))
+opens_text how by = opening.encoding (opening_view (openings.Opens how by))
 
 -- a created file's mode, UNCHECKED4 or GUARDED4, its attributes and the claim
 abbrev pub created_text : ℕ → Attributes → Claim → List ℕ
 created_text mode a by =
     number w32 1
-    ++ (number w32 mode ++ (attributes & claim).spelling (attributes_view a, claim_view by))
+    ++ (number w32 mode ++ (attributes & claim).encoding (attributes_view a, claim_view by))

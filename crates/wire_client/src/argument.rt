@@ -2,7 +2,7 @@
 
 ghost use Rattle.std.specs.Prelude.{◌≡◌, OnErr};
 ghost use Rattle.xdr.specs.Clauses.{Wrote};
-ghost use Rattle.model.specs.Wire.WireArguments.{argument, argument_told};
+ghost use Rattle.model.specs.Wire.WireArguments.{argument, encoded_argument};
 ghost use Rattle.wire.specs.ArgumentView.{argument_view};
 ghost use Rattle.wire_client.specs.ArgumentFits.{ArgumentFits};
 
@@ -16,7 +16,7 @@ use xdr::{Refusal, Writer};
 /// Writes an operation's number and its arguments (`nfs_argop4`).
 pub fn write_argument(w: &mut Writer, call: &Argument<'_>) -> Result<(), Refusal>
     requires { ArgumentFits call.now }
-    ensures wrote { Wrote w.old w.new result (argument.spelling (argument_view call.now)) }
+    ensures wrote { Wrote w.old w.new result (argument.encoding (argument_view call.now)) }
     ensures err { OnErr result (w.new.bytes ≡ w.old.bytes) }
 {
     let mark = w.len();
@@ -26,7 +26,7 @@ pub fn write_argument(w: &mut Writer, call: &Argument<'_>) -> Result<(), Refusal
 
 fn write_numbered(w: &mut Writer, call: &Argument<'_>) -> Result<(), Refusal>
     requires { ArgumentFits call.now }
-    ensures { Wrote w.old w.new result (argument.spelling (argument_view call.now)) }
+    ensures { Wrote w.old w.new result (argument.encoding (argument_view call.now)) }
 {
     w.write_u32(call.operation().number())?;
     write_behind_number(w, call)
@@ -35,7 +35,7 @@ fn write_numbered(w: &mut Writer, call: &Argument<'_>) -> Result<(), Refusal>
 #[tactic(auto, using(xdr::proofs::Writing::wrote_nothing))]
 fn write_behind_number(w: &mut Writer, call: &Argument<'_>) -> Result<(), Refusal>
     requires { ArgumentFits call.now }
-    ensures { Wrote w.old w.new result ((argument_told (argument_view call.now)).text) }
+    ensures { Wrote w.old w.new result ((encoded_argument (argument_view call.now)).text) }
 {
     match call {
         Argument::Access(rights) => w.write_u32(*rights),

@@ -16,7 +16,7 @@ const DIRECTORY: u32 = 2;
 #[tactic(auto, using(xdr::proofs::Writing::wrote_on, xdr::proofs::Writing::wrote_exit, xdr::proofs::Writing::wrote_end, crate::proofs::Alone::wrote_alone))]
 pub(crate) fn write_create(w: &mut Writer, a: &CreateArguments<'_>) -> Result<(), Refusal>
     requires { CreateFits a.now }
-    ensures { Wrote w.old w.new result (create_arguments.spelling (create_view a.now)) }
+    ensures { Wrote w.old w.new result (create_arguments.encoding (create_view a.now)) }
 {
     match a {
         CreateArguments::NewDirectory { name, attributes } => {
@@ -30,7 +30,7 @@ pub(crate) fn write_create(w: &mut Writer, a: &CreateArguments<'_>) -> Result<()
 
 /// Writes `READDIR4args`. On an error a prefix of them may have been written.
 pub(crate) fn write_read_dir(w: &mut Writer, a: &ReadDirArguments) -> Result<(), Refusal>
-    ensures { Wrote w.old w.new result (read_dir_arguments.spelling (read_dir_view a.now)) }
+    ensures { Wrote w.old w.new result (read_dir_arguments.encoding (read_dir_view a.now)) }
 {
     w.write_u64(a.cookie)?;
     w.write_fixed(&a.verifier)?;
@@ -48,7 +48,7 @@ fn write_read_dir_rest(w: &mut Writer, a: &ReadDirArguments) -> Result<(), Refus
 /// Writes `RENAME4args`. On an error a prefix of them may have been written.
 pub(crate) fn write_rename(w: &mut Writer, a: &RenameArguments<'_>) -> Result<(), Refusal>
     requires { RenameFits a.now }
-    ensures { Wrote w.old w.new result (rename_arguments.spelling (rename_view a.now)) }
+    ensures { Wrote w.old w.new result (rename_arguments.encoding (rename_view a.now)) }
 {
     w.write_opaque(a.old_name)?;
     w.write_opaque(a.new_name)

@@ -10,7 +10,7 @@ use xdr::{Refusal, Writer};
 
 /// Writes `CLOSE4args`. On an error a prefix of them may have been written.
 pub(crate) fn write_close(w: &mut Writer, a: &CloseArguments) -> Result<(), Refusal>
-    ensures { Wrote w.old w.new result (close_arguments.spelling (close_view a.now)) }
+    ensures { Wrote w.old w.new result (close_arguments.encoding (close_view a.now)) }
 {
     w.write_u32(a.seqid)?;
     a.state.write(w)
@@ -18,7 +18,7 @@ pub(crate) fn write_close(w: &mut Writer, a: &CloseArguments) -> Result<(), Refu
 
 /// Writes `COMMIT4args`. On an error a prefix of them may have been written.
 pub(crate) fn write_commit(w: &mut Writer, a: &CommitArguments) -> Result<(), Refusal>
-    ensures { Wrote w.old w.new result (commit_arguments.spelling (commit_view a.now)) }
+    ensures { Wrote w.old w.new result (commit_arguments.encoding (commit_view a.now)) }
 {
     w.write_u64(a.offset)?;
     w.write_u32(a.count)
@@ -26,7 +26,7 @@ pub(crate) fn write_commit(w: &mut Writer, a: &CommitArguments) -> Result<(), Re
 
 /// Writes `READ4args`. On an error a prefix of them may have been written.
 pub(crate) fn write_read(w: &mut Writer, a: &ReadArguments) -> Result<(), Refusal>
-    ensures { Wrote w.old w.new result (read_arguments.spelling (read_view a.now)) }
+    ensures { Wrote w.old w.new result (read_arguments.encoding (read_view a.now)) }
 {
     a.state.write(w)?;
     w.write_u64(a.offset)?;
@@ -36,7 +36,7 @@ pub(crate) fn write_read(w: &mut Writer, a: &ReadArguments) -> Result<(), Refusa
 /// Writes `WRITE4args`. On an error a prefix of them may have been written.
 pub(crate) fn write_write(w: &mut Writer, a: &WriteArguments<'_>) -> Result<(), Refusal>
     requires { WriteFits a.now }
-    ensures { Wrote w.old w.new result (write_arguments.spelling (write_view a.now)) }
+    ensures { Wrote w.old w.new result (write_arguments.encoding (write_view a.now)) }
 {
     a.state.write(w)?;
     w.write_u64(a.offset)?;
@@ -47,7 +47,7 @@ pub(crate) fn write_write(w: &mut Writer, a: &WriteArguments<'_>) -> Result<(), 
 /// Writes `SETATTR4args`. On an error a prefix of them may have been written.
 pub(crate) fn write_set_attr(w: &mut Writer, a: &SetAttrArguments<'_>) -> Result<(), Refusal>
     requires { AttributesFit a.now.attributes }
-    ensures { Wrote w.old w.new result (set_attr_arguments.spelling (set_attr_view a.now)) }
+    ensures { Wrote w.old w.new result (set_attr_arguments.encoding (set_attr_view a.now)) }
 {
     a.state.write(w)?;
     a.attributes.write(w)

@@ -6,6 +6,6 @@ ghost use Rattle.wire.specs.ArgumentView.{argument_view};
 ghost use Rattle.wire_client.specs.ArgumentFits.{ArgumentFits};
 
 /// Every argument that can be encoded can be written: so what was read can be written back.
-pub fn spelled_arguments_fit()
+pub fn encoded_arguments_fit()
     ensures { (call : Argument) → argument.Fits (argument_view call) → ArgumentFits call }
 {}

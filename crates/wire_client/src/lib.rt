@@ -20,5 +20,5 @@ mod status;
 
 pub use argument::write_argument;
 pub use channel::CHANNEL;
-pub use laws::spelled_arguments_fit;
+pub use laws::encoded_arguments_fit;
 pub use outcome::read_outcome;

@@ -12,7 +12,7 @@ use xdr::{Refusal, Writer};
 #[tactic(auto, using(xdr::proofs::Writing::wrote_on, xdr::proofs::Writing::wrote_exit, xdr::proofs::Writing::wrote_end, crate::proofs::Alone::wrote_alone))]
 fn write_claim(w: &mut Writer, by: &Claim<'_>) -> Result<(), Refusal>
     requires { ClaimFits by.now }
-    ensures { Wrote w.old w.new result (claim.spelling (claim_view by.now)) }
+    ensures { Wrote w.old w.new result (claim.encoding (claim_view by.now)) }
 {
     match by {
         Claim::ByName(name) => {
@@ -27,7 +27,7 @@ fn write_claim(w: &mut Writer, by: &Claim<'_>) -> Result<(), Refusal>
 #[tactic(auto, using(xdr::proofs::Writing::wrote_on, xdr::proofs::Writing::wrote_exit, xdr::proofs::Writing::wrote_end, crate::proofs::Alone::wrote_alone))]
 fn write_opening(w: &mut Writer, how: &Opening<'_>) -> Result<(), Refusal>
     requires { OpeningFits how.now }
-    ensures { Wrote w.old w.new result (opening.spelling (opening_view how.now)) }
+    ensures { Wrote w.old w.new result (opening.encoding (opening_view how.now)) }
 {
     match how {
         Opening::Opens { how, claim } => write_opens(w, how, claim),
@@ -73,7 +73,7 @@ fn write_created(
 /// Writes `OPEN4args`. On an error a prefix of them may have been written.
 pub(crate) fn write_open(w: &mut Writer, a: &OpenArguments<'_>) -> Result<(), Refusal>
     requires { OpenFits a.now }
-    ensures { Wrote w.old w.new result (open_arguments.spelling (open_view a.now)) }
+    ensures { Wrote w.old w.new result (open_arguments.encoding (open_view a.now)) }
 {
     w.write_u32(a.seqid)?;
     w.write_u32(a.access)?;

@@ -19,7 +19,7 @@ use xdr::{Refusal, Writer};
 /// Writes `EXCHANGE_ID4args`. On an error a prefix of them may have been written.
 pub(crate) fn write_exchange_id(w: &mut Writer, a: &ExchangeIdArguments<'_>) -> Result<(), Refusal>
     requires { ExchangeIdFits a.now }
-    ensures { Wrote w.old w.new result (exchange_id_arguments.spelling (exchange_id_view a.now)) }
+    ensures { Wrote w.old w.new result (exchange_id_arguments.encoding (exchange_id_view a.now)) }
 {
     w.write_fixed(&a.verifier)?;
     w.write_opaque(a.owner)?;
@@ -42,7 +42,7 @@ pub(crate) fn write_create_session(
 ) -> Result<(), Refusal>
     requires { CreateSessionFits a.now }
     ensures { Wrote w.old w.new result
-        (create_session_arguments.spelling (create_session_view a.now)) }
+        (create_session_arguments.encoding (create_session_view a.now)) }
 {
     w.write_u64(a.client)?;
     w.write_u32(a.sequence)?;
@@ -72,7 +72,7 @@ fn write_securities(w: &mut Writer, list: &[CallbackSecurity<'_>]) -> Result<(),
     requires limit { length list.now ≤ 4 }
     requires fits { All SecurityFits list.now }
     ensures { Wrote w.old w.new result
-        ((array 4 callback_security).spelling (map security_view list.now)) }
+        ((array 4 callback_security).encoding (map security_view list.now)) }
 {
     w.write_u32(list.len() as u32)?;
     write_each_security(w, list)
@@ -90,7 +90,7 @@ fn write_each_security(w: &mut Writer, list: &[CallbackSecurity<'_>]) -> Result<
 
 /// Writes `SEQUENCE4args`. On an error a prefix of them may have been written.
 pub(crate) fn write_sequence(w: &mut Writer, a: &SequenceArguments) -> Result<(), Refusal>
-    ensures { Wrote w.old w.new result (sequence_arguments.spelling (sequence_view a.now)) }
+    ensures { Wrote w.old w.new result (sequence_arguments.encoding (sequence_view a.now)) }
 {
     w.write_fixed(&a.session)?;
     w.write_u32(a.sequence)?;

@@ -44,7 +44,7 @@ pub(crate) fn read_answered<'a>(r: &mut Reader<'a>) -> Result<Attributes<'a>, Re
 
 fn write_implementation(w: &mut Writer, a: &Implementation<'_>) -> Result<(), Refusal>
     requires { ImplementationFits a.now }
-    ensures { Wrote w.old w.new result (implementation.spelling (implementation_view a.now)) }
+    ensures { Wrote w.old w.new result (implementation.encoding (implementation_view a.now)) }
 {
     w.write_opaque(a.domain)?;
     w.write_opaque(a.name)?;
@@ -60,7 +60,7 @@ pub(crate) fn write_implementations(
 ) -> Result<(), Refusal>
     requires { MaybeImplementationFits one.now }
     ensures { Wrote w.old w.new result
-        ((optional implementation).spelling (option_map implementation_view one.now)) }
+        ((optional implementation).encoding (option_map implementation_view one.now)) }
 {
     match one {
         None => w.write_u32(0),
@@ -73,7 +73,7 @@ pub(crate) fn write_implementations(
 
 fn write_credential(w: &mut Writer, a: &SystemCredential<'_>) -> Result<(), Refusal>
     requires { CredentialFits a.now }
-    ensures { Wrote w.old w.new result (system_credential.spelling (credential_view a.now)) }
+    ensures { Wrote w.old w.new result (system_credential.encoding (credential_view a.now)) }
 {
     w.write_u32(a.stamp)?;
     w.write_opaque(a.machine_name)?;
@@ -92,7 +92,7 @@ fn write_credential_rest(w: &mut Writer, a: &SystemCredential<'_>) -> Result<(),
 #[tactic(auto, using(xdr::proofs::Writing::wrote_on, xdr::proofs::Writing::wrote_exit, xdr::proofs::Writing::wrote_end))]
 pub(crate) fn write_security(w: &mut Writer, a: &CallbackSecurity<'_>) -> Result<(), Refusal>
     requires { SecurityFits a.now }
-    ensures { Wrote w.old w.new result (callback_security.spelling (security_view a.now)) }
+    ensures { Wrote w.old w.new result (callback_security.encoding (security_view a.now)) }
 {
     match a {
         CallbackSecurity::NoSecurity => w.write_u32(0),

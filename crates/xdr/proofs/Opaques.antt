@@ -50,11 +50,11 @@ padded_again s rest =
     let whole_len : length (s ++ zeros) ≡ n + p = length-append s zeros ∙ ap (λ (k : ℕ). n + k) zeros_len in
     let long : ltb (length ((s ++ zeros) ++ rest)) (n + p) ≡ false = le-ltb _ _ (omega (arith, length-append (s ++ zeros) rest, whole_len)) in
     let apart : (s ++ zeros) ++ rest ≡ s ++ (zeros ++ rest) = append_assoc s zeros rest in
-    let front : take n ((s ++ zeros) ++ rest) ≡ s = ap (take n) apart ∙ take_at s (zeros ++ rest) n refl in
+    let prefix : take n ((s ++ zeros) ++ rest) ≡ s = ap (take n) apart ∙ take_at s (zeros ++ rest) n refl in
     let tail : drop n ((s ++ zeros) ++ rest) ≡ zeros ++ rest = ap (drop n) apart ∙ drop_at s (zeros ++ rest) n refl in
     let pad : take p (drop n ((s ++ zeros) ++ rest)) ≡ zeros = ap (take p) tail ∙ take_at zeros rest p zeros_len in
     let behind : drop (n + p) ((s ++ zeros) ++ rest) ≡ rest = drop_at (s ++ zeros) rest (n + p) whole_len in
-    rw (long, pad, zeros_pass p, front, behind) refl
+    rw (long, pad, zeros_pass p, prefix, behind) refl
 
 pub fixed_exact : (n : ℕ) → Exact (fixed_opaque n)
 fixed_exact n = record {

@@ -15,7 +15,7 @@ only_exact {V = V} test g exact = record {
       let p = bind_ok (g.read bytes) (passing test) (v, rest) e in
       let q = pass_ok (test p.0.0) Value (Ok p.0) (v, rest) p.2 in
       let t = exact.takes bytes p.0.0 p.0.1 fits p.1 in
-      let P : V × List ℕ → Type 0 = λ r. (g.Fits r.0 × (test r.0 ≡ true)) × (bytes ≡ g.spelling r.0 ++ r.1) in
+      let P : V × List ℕ → Type 0 = λ r. (g.Fits r.0 × (test r.0 ≡ true)) × (bytes ≡ g.encoding r.0 ++ r.1) in
       subst P (ok_is p.0 (v, rest) q.1) ((t.0, q.0), t.1);
   again = λ v rest fits. rw (exact.again v rest fits.0, fits.1) refl;
 }
@@ -32,7 +32,7 @@ always_exact k g k_fits exact = record {
       let whole : Unit {0} × List ℕ = (tt, p.0.1) in
       let same : p.0.1 ≡ rest = ap (λ (x : Unit {0} × List ℕ). x.1) (ok_is whole (v, rest) q.1) in
       let is_k : p.0.0 ≡ k = eqb-true p.0.0 k q.0 in
-      (tt, t.1 ∙ ap (λ (n : ℕ). g.spelling n ++ p.0.1) is_k ∙ ap (λ (x : List ℕ). g.spelling k ++ x) same);
+      (tt, t.1 ∙ ap (λ (n : ℕ). g.encoding n ++ p.0.1) is_k ∙ ap (λ (x : List ℕ). g.encoding k ++ x) same);
   again = λ v rest fits. rw (exact.again k rest k_fits, eq-eqb k k refl) refl;
 }
 

@@ -18,20 +18,20 @@ ReadsBy view read old new (Ok x) = read old ≡ Ok (view x, new)
 ReadsBy view read old new (Err e) = ((e ≡ Memory) ⊎ (read old ≡ Err e)) × (new ≡ old)
 
 -- no prefix of the bytes is an encoding
-abbrev pub NoFront : {V : Type 0} → Grammar V → List ℕ → Type 0
-NoFront {V = V} g bytes = (v : V) (rest : List ℕ) → g.Fits v → bytes ≡ g.spelling v ++ rest → ⊥
+abbrev pub NoPrefix : {V : Type 0} → Grammar V → List ℕ → Type 0
+NoPrefix {V = V} g bytes = (v : V) (rest : List ℕ) → g.Fits v → bytes ≡ g.encoding v ++ rest → ⊥
 
 -- The reader consumed exactly the encoding of what it returned; apart from lack of memory, it fails
 -- only if no prefix of the bytes is an encoding.
 abbrev pub Accepts : {X V : Type 0} → (X → V) → Grammar V → List ℕ → List ℕ → Result X Refusal
     → Type 0
-Accepts view g old new (Ok x) = g.Fits (view x) × (old ≡ g.spelling (view x) ++ new)
-Accepts view g old new (Err e) = ((e ≡ Memory) ⊎ NoFront g old) × (new ≡ old)
+Accepts view g old new (Ok x) = g.Fits (view x) × (old ≡ g.encoding (view x) ++ new)
+Accepts view g old new (Err e) = ((e ≡ Memory) ⊎ NoPrefix g old) × (new ≡ old)
 
 -- the list has this prefix
-pub record BeginsWith (list front : List ℕ) : Type 0 where
+pub record BeginsWith (list prefix : List ℕ) : Type 0 where
   pub more : List ℕ
-  pub parts : list ≡ front ++ more
+  pub parts : list ≡ prefix ++ more
 
 -- what a writer holds, and for how many bytes it has memory
 pub record Written : Type 0 where

@@ -14,7 +14,7 @@ passing test x = if test x.0 then Ok x else Err Value
 abbrev pub only : {V : Type 0} → (V → Bool) → Grammar V → Grammar V
 only test g = record {
   Fits = λ v. g.Fits v × IsTrue (test v);
-  spelling = λ v. g.spelling v;
+  encoding = λ v. g.encoding v;
   read = λ bytes. g.read bytes >>= passing test;
 }
 
@@ -26,7 +26,7 @@ below n = only (λ k. nat_lt k n) unsigned_int
 abbrev pub always : ℕ → Grammar ℕ → Grammar (Unit {0})
 always k g = record {
   Fits = λ _. Unit {0};
-  spelling = λ _. g.spelling k;
+  encoding = λ _. g.encoding k;
   read = λ bytes. g.read bytes >>= λ x. if x.0 == k then Ok (tt, x.1) else Err Value;
 }
 
@@ -42,7 +42,7 @@ truth_at x = if x.0 == 0 then Ok (false, x.1) else (if x.0 == 1 then Ok (true, x
 abbrev pub boolean : Grammar Bool
 boolean = record {
   Fits = λ _. Unit {0};
-  spelling = λ b. number w32 (code_of b);
+  encoding = λ b. number w32 (code_of b);
   read = λ bytes. number_at w32 bytes >>= truth_at;
 }
 
@@ -69,7 +69,7 @@ padded_at n bytes =
 abbrev pub fixed_opaque : ℕ → Grammar (List ℕ)
 fixed_opaque n = record {
   Fits = λ s. length s ≡ n;
-  spelling = λ s. padded s;
+  encoding = λ s. padded s;
   read = λ bytes. padded_at n bytes;
 }
 
@@ -85,7 +85,7 @@ counted_at limit bytes =
 abbrev pub opaque : ℕ → Grammar (List ℕ)
 opaque limit = record {
   Fits = λ s. length s ≤ limit;
-  spelling = λ s. counted s;
+  encoding = λ s. counted s;
   read = λ bytes. counted_at limit bytes;
 }
 
@@ -97,7 +97,7 @@ each_at read zero bytes = Ok ([], bytes)
 each_at read (suc n) bytes = read bytes >>= λ x. each_at read n x.1 >>= λ xs. Ok (x.0 ∷ xs.0, xs.1)
 
 unfoldable pub elements : {V : Type 0} → (V → List ℕ) → List V → List ℕ
-elements spelling vs = number w32 (length vs) ++ flat_map spelling vs
+elements encoding vs = number w32 (length vs) ++ flat_map encoding vs
 
 unfoldable pub elements_at : {V : Type 0} → ℕ → (List ℕ → Result (V × List ℕ) Refusal) → List ℕ
     → Result (List V × List ℕ) Refusal
@@ -108,7 +108,7 @@ elements_at limit read bytes =
 abbrev pub array : {V : Type 0} → ℕ → Grammar V → Grammar (List V)
 array limit g = record {
   Fits = λ vs. (length vs ≤ limit) × AllByRecursion g.Fits vs;
-  spelling = λ vs. elements g.spelling vs;
+  encoding = λ vs. elements g.encoding vs;
   read = λ bytes. elements_at limit g.read bytes;
 }
 
@@ -122,7 +122,7 @@ one_at_most read n =
 
 abbrev pub optional_text : {V : Type 0} → Grammar V → Option V → List ℕ
 optional_text g None = number w32 0
-optional_text g (Some v) = number w32 1 ++ g.spelling v
+optional_text g (Some v) = number w32 1 ++ g.encoding v
 
 abbrev pub OptionalFits : {V : Type 0} → Grammar V → Option V → Type 0
 OptionalFits g None = Unit {0}
@@ -131,15 +131,15 @@ OptionalFits g (Some v) = g.Fits v
 abbrev pub optional : {V : Type 0} → Grammar V → Grammar (Option V)
 optional g = record {
   Fits = λ o. OptionalFits g o;
-  spelling = λ o. optional_text g o;
+  encoding = λ o. optional_text g o;
   read = λ bytes. number_at w32 bytes >>= one_at_most g.read;
 }
 
 -- A chain (section 4.19): true before each element, and false after the last one
 
 unfoldable pub links : {V : Type 0} → (V → List ℕ) → List V → List ℕ
-links spelling [] = number w32 0
-links spelling (v ∷ vs) = number w32 1 ++ (spelling v ++ links spelling vs)
+links encoding [] = number w32 0
+links encoding (v ∷ vs) = number w32 1 ++ (encoding v ++ links encoding vs)
 
 -- at most `fuel` elements
 unfoldable pub links_at : {V : Type 0} → (List ℕ → Result (V × List ℕ) Refusal) → ℕ → List ℕ
@@ -155,7 +155,7 @@ links_at read (suc fuel) bytes =
 abbrev pub chain : {V : Type 0} → Grammar V → Grammar (List V)
 chain g = record {
   Fits = λ vs. AllByRecursion g.Fits vs;
-  spelling = λ vs. links g.spelling vs;
+  encoding = λ vs. links g.encoding vs;
   read = λ bytes. links_at g.read (length bytes) bytes;
 }
 

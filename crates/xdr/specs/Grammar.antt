@@ -9,7 +9,7 @@ use Rattle.xdr.specs.declared.refusal.Refusal.TheVariants.{Short}
 pub record Grammar (V : Type 0) : Type 1 where
   -- which values have an encoding
   pub Fits : V → Type 0
-  pub spelling : V → List ℕ
+  pub encoding : V → List ℕ
   -- the value at the front, and the bytes after it
   pub read : List ℕ → Result (V × List ℕ) Refusal
 
@@ -31,14 +31,14 @@ number_at w bytes =
 abbrev pub unsigned_int : Grammar ℕ
 unsigned_int = record {
   Fits = λ n. n < 2 ^ 32;
-  spelling = λ n. number w32 n;
+  encoding = λ n. number w32 n;
   read = λ bytes. number_at w32 bytes;
 }
 
 abbrev pub unsigned_hyper : Grammar ℕ
 unsigned_hyper = record {
   Fits = λ n. n < 2 ^ 64;
-  spelling = λ n. number w64 n;
+  encoding = λ n. number w64 n;
   read = λ bytes. number_at w64 bytes;
 }
 
@@ -48,18 +48,18 @@ infixr 20 ◌&◌
 abbrev pub ◌&◌ : {A B : Type 0} → Grammar A → Grammar B → Grammar (A × B)
 a & b = record {
   Fits = λ p. a.Fits p.0 × b.Fits p.1;
-  spelling = λ p. a.spelling p.0 ++ b.spelling p.1;
+  encoding = λ p. a.encoding p.0 ++ b.encoding p.1;
   read = λ bytes. a.read bytes >>= λ x. b.read x.1 >>= λ y. Ok ((x.0, y.0), y.1);
 }
 
 -- nothing at all (section 4.16)
 abbrev pub void : Grammar (Unit {0})
-void = record { Fits = λ _. Unit {0}; spelling = λ _. []; read = λ bytes. Ok (tt, bytes) }
+void = record { Fits = λ _. Unit {0}; encoding = λ _. []; read = λ bytes. Ok (tt, bytes) }
 
 -- a structure with names for its fields: `make` puts them together, and `parts` takes them apart
 abbrev pub of : {V W : Type 0} → (V → W) → (W → V) → Grammar V → Grammar W
 of make parts g = record {
   Fits = λ w. g.Fits (parts w);
-  spelling = λ w. g.spelling (parts w);
+  encoding = λ w. g.encoding (parts w);
   read = λ bytes. g.read bytes >>= λ x. Ok (make x.0, x.1);
 }

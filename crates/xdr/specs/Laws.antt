@@ -10,12 +10,12 @@ IsBytes bytes = (i : ℕ) → slice_index bytes i < 256
 abbrev pub EncodesBack : {V : Type 0} → Grammar V → Type 0
 EncodesBack {V = V} g =
     (bytes : List ℕ) (v : V) (rest : List ℕ) → IsBytes bytes → g.read bytes ≡ Ok (v, rest)
-    → g.Fits v × (bytes ≡ g.spelling v ++ rest)
+    → g.Fits v × (bytes ≡ g.encoding v ++ rest)
 
 -- what fits is read back from its encoding, whatever follows
 abbrev pub ReadsAgain : {V : Type 0} → Grammar V → Type 0
 ReadsAgain {V = V} g =
-    (v : V) (rest : List ℕ) → g.Fits v → g.read (g.spelling v ++ rest) ≡ Ok (v, rest)
+    (v : V) (rest : List ℕ) → g.Fits v → g.read (g.encoding v ++ rest) ≡ Ok (v, rest)
 
 pub record Exact {V : Type 0} (g : Grammar V) : Type 0 where
   pub takes : EncodesBack g
@@ -23,7 +23,7 @@ pub record Exact {V : Type 0} (g : Grammar V) : Type 0 where
 
 -- Each value has one encoding, each encoding is of one value, and no encoding is a prefix of
 -- another.
-abbrev pub OneSpelling : {V : Type 0} → Grammar V → Type 0
-OneSpelling {V = V} g =
-    (v w : V) (x y : List ℕ) → g.Fits v → g.Fits w → g.spelling v ++ x ≡ g.spelling w ++ y
+abbrev pub OneEncoding : {V : Type 0} → Grammar V → Type 0
+OneEncoding {V = V} g =
+    (v w : V) (x y : List ℕ) → g.Fits v → g.Fits w → g.encoding v ++ x ≡ g.encoding w ++ y
     → (v ≡ w) × (x ≡ y)

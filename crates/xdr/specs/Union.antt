@@ -7,13 +7,13 @@ use Rattle.xdr.specs.Grammar.{Grammar, ◌>>=◌, number, number_at}
 
 -- what a value of a union is encoded as: its number, whether it has an encoding, and the bytes
 -- after the number
-pub record Told : Type 1 where
+pub record Encoded : Type 1 where
   pub number : ℕ
   pub Fits : Type 0
   pub text : List ℕ
 
-abbrev pub tells : {V : Type 0} → ℕ → Grammar V → V → Told
-tells n g v = record { number = n; Fits = g.Fits v; text = g.spelling v }
+abbrev pub arm : {V : Type 0} → ℕ → Grammar V → V → Encoded
+arm n g v = record { number = n; Fits = g.Fits v; text = g.encoding v }
 
 -- Reading by the number: each case in turn
 
@@ -38,9 +38,9 @@ any_other make m bytes = Ok (make m, bytes)
 abbrev pub other_below : {W : Type 0} → ℕ → (ℕ → W) → Choice W
 other_below limit make m bytes = if nat_lt m limit then Ok (make m, bytes) else Err Value
 
-abbrev pub union : {W : Type 0} → (W → Told) → Choice W → Grammar W
+abbrev pub union : {W : Type 0} → (W → Encoded) → Choice W → Grammar W
 union told choice = record {
   Fits = λ w. ((told w).number < 2 ^ 32) × (told w).Fits;
-  spelling = λ w. number w32 (told w).number ++ (told w).text;
+  encoding = λ w. number w32 (told w).number ++ (told w).text;
   read = λ bytes. number_at w32 bytes >>= λ n. choice n.0 n.1;
 }

@@ -55,9 +55,9 @@ impl<'a> Reader<'a> {
         if rest.len() < 4 {
             return Err(Refusal::Short);
         }
-        let (front, rest) = rest.split_at(4);
+        let (prefix, rest) = rest.split_at(4);
         self.rest = rest;
-        Ok(BigEndian::read_u32(front))
+        Ok(BigEndian::read_u32(prefix))
     }
 
     /// Reads a number of 8 bytes (RFC 4506, section 4.5).
@@ -69,9 +69,9 @@ impl<'a> Reader<'a> {
         if rest.len() < 8 {
             return Err(Refusal::Short);
         }
-        let (front, rest) = rest.split_at(8);
+        let (prefix, rest) = rest.split_at(8);
         self.rest = rest;
-        Ok(BigEndian::read_u64(front))
+        Ok(BigEndian::read_u64(prefix))
     }
 
     /// How many bytes are left.

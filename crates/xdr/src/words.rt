@@ -86,7 +86,7 @@ impl<const N: usize> Words<N> {
     }
 
     /// Writes the count and the numbers (RFC 4506, section 4.13).
-    #[tactic(auto, using(crate::proofs::Writing::wrote_undone, crate::proofs::Writing::unchanged))]
+    #[tactic(auto, using(crate::proofs::Writing::failed_write, crate::proofs::Writing::unchanged))]
     pub fn write(&self, w: &mut Writer) -> Result<(), Refusal>
         requires { N < 2 ^ 32 }
         ensures wrote { Wrote w.old w.new result (elements (λ n. number w32 n) self.now) }

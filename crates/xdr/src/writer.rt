@@ -143,7 +143,7 @@ impl Writer {
     }
 
     /// Writes the bytes, and zero bytes up to a multiple of 4 (RFC 4506, section 4.9).
-    #[tactic(auto, using(crate::proofs::Writing::wrote_undone, crate::proofs::Writing::unchanged))]
+    #[tactic(auto, using(crate::proofs::Writing::failed_write, crate::proofs::Writing::unchanged))]
     pub fn write_fixed(&mut self, bytes: &[u8]) -> Result<(), Refusal>
         ensures wrote { Wrote self.old self.new result (padded bytes.now) }
         ensures err { OnErr result (self.new.bytes ≡ self.old.bytes) }
@@ -155,7 +155,7 @@ impl Writer {
 
     /// Writes the length, the bytes, and zero bytes up to a multiple of 4 (RFC 4506, sections 4.10
     /// and 4.11).
-    #[tactic(auto, using(crate::proofs::Writing::wrote_undone, crate::proofs::Writing::unchanged))]
+    #[tactic(auto, using(crate::proofs::Writing::failed_write, crate::proofs::Writing::unchanged))]
     pub fn write_opaque(&mut self, bytes: &[u8]) -> Result<(), Refusal>
         requires { length bytes.now < 2 ^ 32 }
         ensures wrote { Wrote self.old self.new result (counted bytes.now) }

@@ -3,7 +3,7 @@ use Rattle.std.proofs.Common.{◌≡◌, ℕ, refl, List, [], ◌∷◌, ◌++�
 use Rattle.std.specs.List.{flat_map}
 use Rattle.xdr.specs.Grammar.{number, number_at}
 use Rattle.xdr.specs.Forms.{padded, padded_at, counted_at, each_at, elements_at}
-use Rattle.model.specs.Wire.Record.{RecordLimits, Refused, Whole, RecordTooBig, TooManyFragments, records, records_from, front, front_from, fragment, behind_header, fed, no_stream, framed}
+use Rattle.model.specs.Wire.Record.{RecordLimits, Refused, Whole, RecordTooBig, TooManyFragments, records, records_from, prefix, prefix_from, fragment, behind_header, fed, no_stream, framed}
 use Rattle.model.specs.Wire.Rpc.{words, read_call, CallRead, NoCall, OtherVersion, Calls, request_of, Request, Answers, Runs, reply_text, VersionRefused}
 
 abbrev limits : RecordLimits
@@ -32,15 +32,15 @@ abbrev cut_call : List ℕ
 cut_call = words (4 ∷ 1 ∷ 0 ∷ 0x80000024 ∷ 0 ∷ 2 ∷ 0x186a3 ∷ 4 ∷ 0 ∷ 0 ∷ 0 ∷ 0 ∷ 0 ∷ [])
 
 whole : records limits (words (0x80000028 ∷ []) ++ null_call) ≡ record { records = null_call ∷ []; rest = []; fault = None }
-unfolding records_from front_from fragment behind_header number
+unfolding records_from prefix_from fragment behind_header number
 whole = refl
 
 cut : records limits cut_call ≡ record { records = null_call ∷ []; rest = []; fault = None }
-unfolding records_from front_from fragment behind_header number
+unfolding records_from prefix_from fragment behind_header number
 cut = refl
 
 byte_by_byte : fold (fed limits) no_stream (flat_map (λ byte. (byte ∷ []) ∷ []) cut_call) ≡ record { records = null_call ∷ []; rest = []; fault = None }
-unfolding records_from front_from fragment behind_header number
+unfolding records_from prefix_from fragment behind_header number
 byte_by_byte = refl
 
 null_reply : reply_to null_call ≡ words (0x80000018 ∷ 1 ∷ 1 ∷ 0 ∷ 0 ∷ 0 ∷ 0 ∷ [])
@@ -49,20 +49,20 @@ null_reply = refl
 
 -- limits of a record
 too_big : records limits (words (0x80004001 ∷ [])) ≡ record { records = []; rest = []; fault = Some RecordTooBig }
-unfolding records_from front_from fragment behind_header number
+unfolding records_from prefix_from fragment behind_header number
 too_big = refl
 
 -- the largest one is waited for
 largest : records limits (words (0x80004000 ∷ [])) ≡ record { records = []; rest = words (0x80004000 ∷ []); fault = None }
-unfolding records_from front_from fragment behind_header number
+unfolding records_from prefix_from fragment behind_header number
 largest = refl
 
-last_fragment : front limits (flat_map (λ none. words (none ∷ [])) (replicate 63 0) ++ (words (0x80000028 ∷ []) ++ null_call)) ≡ Whole null_call []
-unfolding front_from fragment behind_header number
+last_fragment : prefix limits (flat_map (λ none. words (none ∷ [])) (replicate 63 0) ++ (words (0x80000028 ∷ []) ++ null_call)) ≡ Whole null_call []
+unfolding prefix_from fragment behind_header number
 last_fragment = refl
 
-one_fragment_more : front limits (flat_map (λ none. words (none ∷ [])) (replicate 64 0) ++ words (0x80000028 ∷ [])) ≡ Refused TooManyFragments
-unfolding front_from fragment behind_header number
+one_fragment_more : prefix limits (flat_map (λ none. words (none ∷ [])) (replicate 64 0) ++ words (0x80000028 ∷ [])) ≡ Refused TooManyFragments
+unfolding prefix_from fragment behind_header number
 one_fragment_more = refl
 
 -- no calls: an empty record, a reply, a header that ends too early, a credential of 401 bytes

@@ -15,7 +15,7 @@ use Rattle.model_tree.specs.Trees.Charge.{fits}
 use Rattle.model_tree.specs.Trees.Fresh.{fresh_tree}
 use Rattle.model_tree.specs.Trees.Limits.{limits_of}
 use Rattle.model_tree.specs.Refusals.Name.{name_refusals}
-use Rattle.model.specs.Wire.Record.{front_from, fragment, behind_header, framed}
+use Rattle.model.specs.Wire.Record.{prefix_from, fragment, behind_header, framed}
 use Rattle.model.specs.Wire.Rpc.{words, read_call, request_of, reply_text, compound_text}
 use Rattle.model.specs.Wire.WireArguments.{arguments_at}
 use Rattle.model_tree.specs.Seats.Seats.{Seat, Seats, no_seats}
@@ -61,7 +61,7 @@ compound_reply xid status count results = record_of (xid ∷ 1 ∷ 0 ∷ 0 ∷ 0
 -- the world after a record that arrives on a connection; after `turns` turns there; the turn that
 -- is taken next
 comes : World → ℕ → List ℕ → World
-unfolding arrives front_from fragment behind_header read_call number number_at padded padded_at counted_at
+unfolding arrives prefix_from fragment behind_header read_call number number_at padded padded_at counted_at
 comes world connection bytes = arrives world connection bytes
 
 turned : ℕ → World → ℕ → World

@@ -17,7 +17,7 @@ use Rattle.model.specs.Attributes.AttributeValue.{AclEntry, Value, Acl}
 use Rattle.model_tree.specs.declared.limits.Limits.{Limits}
 use Rattle.model_tree.specs.Refusals.Refusal.{Refusals, first_refusal}
 use Rattle.model.proofs.Wire.AclTextLaws.{reads_entries}
-use Rattle.model.proofs.Operations.RefusalLaws.{none_in_front, none_in_both}
+use Rattle.model.proofs.Operations.RefusalLaws.{none_earlier, none_in_both}
 
 -- Tests one after the other
 
@@ -39,11 +39,11 @@ entry_fits : (kind : NodeKind) (entry : AclEntry) (ace : Ace) → first_refusal 
     → is_entry_for kind ace ≡ true
 entry_fits kind entry ace none read =
     let stands = (reads_entries entry ace).0 read in
-    let behind_kind = none_in_front (nat_lt 1 entry.kind) status.AttrNotSupp _ none in
-    let behind_flags = none_in_front (not (is_within entry.flags (inheritance + identifier_group))) status.AttrNotSupp _ behind_kind.1 in
-    let behind_mask = none_in_front (not (is_within entry.mask every_right)) status.AttrNotSupp _ behind_flags.1 in
-    let behind_name = none_in_front (is_none (named_in entry)) status.BadOwner _ behind_mask.1 in
-    let behind_kinds = none_in_front (not (are_flags_for kind (bits_without entry.flags identifier_group))) status.AttrNotSupp _ behind_name.1 in
+    let behind_kind = none_earlier (nat_lt 1 entry.kind) status.AttrNotSupp _ none in
+    let behind_flags = none_earlier (not (is_within entry.flags (inheritance + identifier_group))) status.AttrNotSupp _ behind_kind.1 in
+    let behind_mask = none_earlier (not (is_within entry.mask every_right)) status.AttrNotSupp _ behind_flags.1 in
+    let behind_name = none_earlier (is_none (named_in entry)) status.BadOwner _ behind_mask.1 in
+    let behind_kinds = none_earlier (not (are_flags_for kind (bits_without entry.flags identifier_group))) status.AttrNotSupp _ behind_name.1 in
     let flags : are_flags_for kind ace.flags.0 ≡ true = ap (are_flags_for kind) stands.flags ∙ not-false _ behind_kinds.0 in
     let mask : is_within ace.mask.0 every_right ≡ true = ap (λ (m : ℕ). is_within m every_right) (sym stands.mask) ∙ not-false _ behind_mask.0 in
     rw (flags, mask, meant_width (meets entry.flags identifier_group) ace.who stands.who.1) refl
@@ -66,7 +66,7 @@ list_fits : (limits : Limits) (kind : NodeKind) (entries : List AclEntry) → li
     → first_refusal (value_refusals limits kind (Acl entries)) ≡ None → is_list_for limits.aces_set limits.aces kind (aces_in entries) ≡ true
 unfolding is_list_for
 list_fits limits kind entries room none =
-    let passed = none_in_front (nat_lt limits.aces_set (length entries)) status.Inval _ none in
+    let passed = none_earlier (nat_lt limits.aces_set (length entries)) status.Inval _ none in
     let few = ltb-false limits.aces_set (length entries) passed.0 in
     let fit = entries_fit kind entries passed.1 in
     let counted = count_by-le-length (λ (ace : Ace). not (is_plain ace)) (aces_in entries) in
@@ -95,7 +95,7 @@ said_fits limits kind (value ∷ values) acl room none said =
 pub given_lists_fit : GivenListsFit
 unfolding attribute_refusals
 given_lists_fit limits kind settable given acl room none said =
-    let behind_supported = none_in_front (has_one_outside supported (attributes_of given.bitmap)) status.AttrNotSupp _ none in
-    let behind_settable = none_in_front (has_one_outside settable (attributes_of given.bitmap)) status.Inval _ behind_supported.1 in
-    let behind_whole = none_in_front (is_none (values_of given)) status.BadXdr _ behind_settable.1 in
+    let behind_supported = none_earlier (has_one_outside supported (attributes_of given.bitmap)) status.AttrNotSupp _ none in
+    let behind_settable = none_earlier (has_one_outside settable (attributes_of given.bitmap)) status.Inval _ behind_supported.1 in
+    let behind_whole = none_earlier (is_none (values_of given)) status.BadXdr _ behind_settable.1 in
     said_fits limits kind (unwrap_or (values_of given) []) acl room behind_whole.1 said

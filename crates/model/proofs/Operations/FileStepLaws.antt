@@ -25,7 +25,7 @@ use Rattle.model_tree.specs.Refusals.Name.{name_refusals}
 use Rattle.model.specs.Operations.Open.{cuts, makes_file, cuts_file, given_by, opening_refusals, share_refusals, place_refusals, known_refusals, new_refusals, name_opening_refusals, new_file, cut_or_not, with_file, opening_done, middle_at_open}
 use Rattle.model.specs.Operations.Operation.{Argument, Attributes, WriteArguments, SetAttrArguments, OpenArguments, OpenType, NoCreate, Unchecked, Guarded, ByName, ByHandle, OtherClaim, Opening, Opens as Opening_of, Exclusive}
 use Rattle.model_tree.specs.Refusals.Refusal.{Refusals, first_refusal, refused_or}
-use Rattle.model.specs.Operations.SetAttr.{kind_at, size_refusals, set_refusals, list_set, shown_set, size_edits, set_edits}
+use Rattle.model.specs.Operations.SetAttr.{kind_at, size_refusals, set_refusals, list_set, metadata_set, size_edits, set_edits}
 use Rattle.model.specs.Operations.State.{State, current, stamp_of, current_refusals, named_refusals, is_name_there}
 use Rattle.model.specs.Sessions.StateIds.{state_refusals, write_access}
 use Rattle.model.specs.Operations.StepLaws.{IsSound}
@@ -36,7 +36,7 @@ use Rattle.model_tree.proofs.Trees.EditLaws.{forest_of, kind_of_directory}
 use Rattle.model_tree.proofs.Trees.KeyedLaws.{some≢none}
 use Rattle.model_tree.proofs.Trees.NodeChangeLaws.{altered-once, altered-twice, resized_bytes, length-resized, overwritten_bytes, overwritten_within, replacement_keeps}
 use Rattle.model.proofs.Operations.StepCases.{Passes}
-use Rattle.model.proofs.Operations.RefusalLaws.{none_in_front, none_in_both}
+use Rattle.model.proofs.Operations.RefusalLaws.{none_earlier, none_in_both}
 use Rattle.model_tree.proofs.Facts.BooleanLaws.{second_false}
 
 -- A file's node
@@ -62,9 +62,9 @@ file_at tree place key no_directory = by_node (at place tree) refl key no_direct
 -- what the tests of the current node and of a file leave
 pub current_key : (state : State) → first_refusal (current_refusals state) ≡ None → is_key (current state) state.tree ≡ true
 current_key state passed =
-    let handle = none_in_front (not (has_current state.context)) status.NoFileHandle _ passed in
+    let handle = none_earlier (not (has_current state.context)) status.NoFileHandle _ passed in
     not-false (is_key (current state) state.tree)
-    (none_in_front (not (is_key (current state) state.tree)) status.Stale None handle.1).0
+    (none_earlier (not (is_key (current state) state.tree)) status.Stale None handle.1).0
 
 no_directory : (b : Bool) → refused_or b status.IsDir None ≡ None → b ≡ false
 no_directory true none = absurd (some≢none status.IsDir none)
@@ -135,11 +135,11 @@ pub write_changed : (limits : Limits) (state : State) (now : ℕ) (arguments : W
     ∷ touch state.tree (current state) (stamp_of state) now ∷ []) state.tree) 0
 write_changed limits state now arguments passes sound some =
     let part = taken_bytes limits arguments in
-    let bytes = none_in_front (not (are_bytes arguments.data_bytes)) status.BadXdr _ passes.early in
+    let bytes = none_earlier (not (are_bytes arguments.data_bytes)) status.BadXdr _ passes.early in
     let tests = none_in_both (current_refusals state)
     (file_refusals state ++ state_refusals state.opens state.context write_access arguments.state) bytes.1 in
     let is_file = none_in_both (file_refusals state) (state_refusals state.opens state.context write_access arguments.state) tests.1 in
-    let late = none_in_front (has_bytes arguments && nat_lt limits.file_bytes (arguments.offset + length part)) status.FBig None passes.late in
+    let late = none_earlier (has_bytes arguments && nat_lt limits.file_bytes (arguments.offset + length part)) status.FBig None passes.late in
     let all = AllPass-from_list_all (λ byte. nat_lt byte 256) arguments.data_bytes (not-false (are_bytes arguments.data_bytes) bytes.0) in
     let small = All-weaker (λ (byte : ℕ). nat_lt byte 256 ≡ true) (λ (byte : ℕ). byte < 256) (λ byte low. ltb-true byte 256 low) arguments.data_bytes all in
     bytes_written limits state sound (current state)
@@ -157,7 +157,7 @@ said_within : (limits : Limits) (of : NodeKind) (values : List Value) (size : �
 said_within limits of [] size none said = absurd (some≢none size (sym said))
 said_within limits of (Size bytes ∷ values) size none said =
     let passed = first_passed (value_refusals limits of) (Size bytes) values none in
-    let few = ltb-false limits.file_bytes bytes (none_in_front (nat_lt limits.file_bytes bytes) status.FBig None passed.0).0 in
+    let few = ltb-false limits.file_bytes bytes (none_earlier (nat_lt limits.file_bytes bytes) status.FBig None passed.0).0 in
     let same = some_number bytes size said in
     omega arith
 said_within limits of (value ∷ values) size none said =
@@ -168,9 +168,9 @@ pub size_within : (limits : Limits) (of : NodeKind) (settable : List ℕ) (given
     → first_refusal (attribute_refusals limits of settable given) ≡ None → size_given given ≡ Some size → size ≤ limits.file_bytes
 unfolding attribute_refusals
 size_within limits of settable given size none said =
-    let known = none_in_front (has_one_outside supported (attributes_of given.bitmap)) status.AttrNotSupp _ none in
-    let settable_here = none_in_front (has_one_outside settable (attributes_of given.bitmap)) status.Inval _ known.1 in
-    let whole = none_in_front (is_none (values_of given)) status.BadXdr _ settable_here.1 in
+    let known = none_earlier (has_one_outside supported (attributes_of given.bitmap)) status.AttrNotSupp _ none in
+    let settable_here = none_earlier (has_one_outside settable (attributes_of given.bitmap)) status.Inval _ known.1 in
+    let whole = none_earlier (is_none (values_of given)) status.BadXdr _ settable_here.1 in
     said_within limits of (unwrap_or (values_of given) []) size whole.1 said
 
 -- The list of a node that is set or made
@@ -245,7 +245,7 @@ module _ (modes : ModesKeepLimits) (inheritance : InheritanceKeepsLimits) where
             → is_directory_at state.tree place ≡ false
         by_given None is none = absurd (some≢none size (sym is))
         by_given (Some other) is none =
-            (none_in_front (is_directory_at state.tree place) status.IsDir
+            (none_earlier (is_directory_at state.tree place) status.IsDir
             (first_refusal (state_refusals state.opens state.context write_access arguments.state)) none).0
 
     abbrev old : Node
@@ -255,15 +255,15 @@ module _ (modes : ModesKeepLimits) (inheritance : InheritanceKeepsLimits) where
     old_there = (node_at (at place state.tree) set_tests.2).1
 
     abbrev shows : Node → Node
-    shows node = showing (shown_set (at place state.tree) given (stamp_of state) now) node
+    shows node = showing (metadata_set (at place state.tree) given (stamp_of state) now) node
 
-    shown_list : (shows old).acl ≡ list_set (kind_of old.content) old.acl (mode_given given) (acl_given given)
-    shown_list = ap (λ (o : Option Node). (shown_set o given (stamp_of state) now).acl) old_there
+    metadata_list : (shows old).acl ≡ list_set (kind_of old.content) old.acl (mode_given given) (acl_given given)
+    metadata_list = ap (λ (o : Option Node). (metadata_set o given (stamp_of state) now).acl) old_there
 
-    shown_change : (node : Node) → (shows node).change ≡ stamp_of state
-    shown_change node = by_node (at place state.tree)
+    metadata_change : (node : Node) → (shows node).change ≡ stamp_of state
+    metadata_change node = by_node (at place state.tree)
       where
-        by_node : (o : Option Node) → (shown_set o given (stamp_of state) now).change ≡ stamp_of state
+        by_node : (o : Option Node) → (metadata_set o given (stamp_of state) now).change ≡ stamp_of state
         by_node None = refl
         by_node (Some node) = refl
 
@@ -275,22 +275,22 @@ module _ (modes : ModesKeepLimits) (inheritance : InheritanceKeepsLimits) where
 
     by_size : (size : Option ℕ) → size_given given ≡ size
         → IsChanged limits (stamp_of state) state.tree
-        (edited (size_edits place size ++ (Show place (shown_set (at place state.tree) given (stamp_of state) now) ∷ [])) state.tree) 0
+        (edited (size_edits place size ++ (Show place (metadata_set (at place state.tree) given (stamp_of state) now) ∷ [])) state.tree) 0
     by_size None none =
         subst (λ (t : Tree). IsChanged limits (stamp_of state) state.tree t 0) (sym (altered-once shows state.tree place old old_there))
         (replacement_keeps limits state.tree sound.well_formed (stamp_of state) sound.before place old old_there (shows old)
         (record {
-          entries = subst (λ (l : List Ace). is_list_for limits.aces_set limits.aces (kind_of old.content) l ≡ true) (sym shown_list) set_list;
+          entries = subst (λ (l : List Ace). is_list_for limits.aces_set limits.aces (kind_of old.content) l ≡ true) (sym metadata_list) set_list;
           content = (sound.well_formed.nodes place old old_there).content;
-        }) refl refl (shown_change old))
+        }) refl refl (metadata_change old))
     by_size (Some size) said =
         let file = file_at state.tree place set_tests.2 (sized_file size said) in
         let same : old ≡ file.node = one_node old file.node (sym old_there ∙ file.there) in
         let is_file : kind_of old.content ≡ kind.File = ap (λ (n : Node). kind_of n.content) same ∙ ap kind_of file.content in
         size_set limits state sound place file size shows
         (size_within limits (kind_at state.tree place) settable_at_setattr given size set_tests.0 said)
-        (λ node. refl) shown_change
-        (λ node. subst (λ (l : List Ace). is_list_for limits.aces_set limits.aces kind.File l ≡ true) (sym shown_list)
+        (λ node. refl) metadata_change
+        (λ node. subst (λ (l : List Ace). is_list_for limits.aces_set limits.aces kind.File l ≡ true) (sym metadata_list)
         (subst (λ (of : NodeKind). is_list_for limits.aces_set limits.aces of
         (list_set (kind_of old.content) old.acl (mode_given given) (acl_given given)) ≡ true) is_file set_list))
       where
@@ -323,7 +323,7 @@ module _ (modes : ModesKeepLimits) (inheritance : InheritanceKeepsLimits) where
     cut_keeps (Guarded given) passed there is = absurd (true≢false (sym is))
     cut_keeps (Unchecked given) passed there is =
         let number = number_named state.tree (current state) name in
-        let directory = none_in_front (is_directory_at state.tree number) status.IsDir _ passed in
+        let directory = none_earlier (is_directory_at state.tree number) status.IsDir _ passed in
         file_cut limits state sound number (file_at state.tree number (named_key there) directory.0) now
 
     attributes_passed : (how : OpenType) → first_refusal (new_refusals limits how) ≡ None
@@ -402,7 +402,7 @@ module _ (modes : ModesKeepLimits) (inheritance : InheritanceKeepsLimits) where
       = ap (λ (o : Opening). first_refusal (place_refusals limits state o)) (sym same) ∙ share.1 in
       let middle : first_refusal (name_opening_refusals limits state how name) ≡ None
       = ap (λ (o : Opening). first_refusal (middle_at_open limits state o)) (sym same) ∙ passes.middle in
-      let directory = none_in_front (not (is_directory_at state.tree (current state))) status.NotDir (first_refusal (name_refusals limits name)) place in
+      let directory = none_earlier (not (is_directory_at state.tree (current state))) status.NotDir (first_refusal (name_refusals limits name)) place in
       by_name limits state now sound name how (is_name_there state name) refl is middle
       (not-false (is_directory_at state.tree (current state)) directory.0) directory.1
 

@@ -15,28 +15,28 @@ sizes : List Entry → ℕ
 sizes [] = 0
 sizes (entry ∷ rest) = entry_size entry + sizes rest
 
-links_length : (entries : List Entry) → length (links answers.entry.spelling entries) ≡ sizes entries + 4
+links_length : (entries : List Entry) → length (links answers.entry.encoding entries) ≡ sizes entries + 4
 unfolding links sizes
 links_length [] = length-number_32 0
 links_length (entry ∷ rest) =
-    let whole = length-append (number w32 1) (answers.entry.spelling entry ++ links answers.entry.spelling rest) in
-    let behind = length-append (answers.entry.spelling entry) (links answers.entry.spelling rest) in
-    let front = length-number_32 1 in
+    let whole = length-append (number w32 1) (answers.entry.encoding entry ++ links answers.entry.encoding rest) in
+    let behind = length-append (answers.entry.encoding entry) (links answers.entry.encoding rest) in
+    let prefix = length-number_32 1 in
     let others = links_length rest in
-    omega (arith, whole, behind, front, others)
+    omega (arith, whole, behind, prefix, others)
 
-bool_length : (b : Bool) → length (boolean.spelling b) ≡ 4
+bool_length : (b : Bool) → length (boolean.encoding b) ≡ 4
 bool_length true = length-number_32 1
 bool_length false = length-number_32 0
 
 size_is : (entries : List Entry) (is_end : Bool) → page_size entries is_end ≡ sizes entries + 16
 size_is entries is_end =
-    let whole = length-append (number w64 0) (links answers.entry.spelling entries ++ boolean.spelling is_end) in
-    let behind = length-append (links answers.entry.spelling entries) (boolean.spelling is_end) in
-    let front = length-number_64 0 in
+    let whole = length-append (number w64 0) (links answers.entry.encoding entries ++ boolean.encoding is_end) in
+    let behind = length-append (links answers.entry.encoding entries) (boolean.encoding is_end) in
+    let prefix = length-number_64 0 in
     let middle = links_length entries in
     let last = bool_length is_end in
-    omega (arith, whole, behind, front, middle, last)
+    omega (arith, whole, behind, prefix, middle, last)
 
 sizes_more : (entries : List Entry) (entry : Entry) → sizes (entries ++ entry ∷ []) ≡ sizes entries + entry_size entry
 unfolding sizes
@@ -46,13 +46,13 @@ sizes_more (first ∷ rest) entry = let others = sizes_more rest entry in omega 
 -- what fits in this much room
 record Fitted (room : ℕ) (all shown : List Entry) : Type 0 where
   pub rest : List Entry
-  pub front : all ≡ shown ++ rest
+  pub prefix : all ≡ shown ++ rest
   pub fits : sizes shown ≤ room
   pub longest : (next : Entry) (others : List Entry) → rest ≡ next ∷ others → room < sizes shown + entry_size next
 
 fitted : (room : ℕ) (all : List Entry) → Fitted room all (fitting room all)
 unfolding sizes
-fitted room [] = record { rest = []; front = refl; fits = omega arith; longest = λ next others is. let never : ⊥ = cc in absurd never }
+fitted room [] = record { rest = []; prefix = refl; fits = omega arith; longest = λ next others is. let never : ⊥ = cc in absurd never }
 fitted room (entry ∷ rest) = by_room (nat_le (entry_size entry) room) refl (fitted (room - entry_size entry) rest)
   where
     first_of : (next : Entry) (others : List Entry) → entry ∷ rest ≡ next ∷ others → entry ≡ next
@@ -64,13 +64,13 @@ fitted room (entry ∷ rest) = by_room (nat_le (entry_size entry) room) refl (fi
         let low = leb-true (entry_size entry) room has in
         record {
           rest = behind.rest;
-          front = ap (λ l. entry ∷ l) behind.front;
+          prefix = ap (λ l. entry ∷ l) behind.prefix;
           fits = let others = behind.fits in omega (arith, low, others);
           longest = λ next others is. let more = behind.longest next others is in omega (arith, low, more);
         }
     by_room false has behind = record {
       rest = entry ∷ rest;
-      front = refl;
+      prefix = refl;
       fits = omega arith;
       longest = λ next others is.
           let high = leb-false (entry_size entry) room has in
@@ -106,7 +106,7 @@ every_page limits state arguments =
     let most = min arguments.max_count limits.transfer_bytes in
     record {
       rest = of.rest;
-      front = of.front;
+      prefix = of.prefix;
       fits = λ some.
           let size = size_is shown (page limits state arguments).is_end in
           let within = of.fits in
@@ -117,5 +117,5 @@ every_page limits state arguments =
           let more = sizes_more shown next in
           let above = of.longest next others is in
           omega (arith, size, more, above);
-      ends = ends_with all shown of.rest of.front;
+      ends = ends_with all shown of.rest of.prefix;
     }

@@ -9,31 +9,31 @@ abbrev pub or_else : Option Status → Option Status → Option Status
 or_else None second = second
 or_else (Some first) second = Some first
 
-pub first-append : (front rest : Refusals) → first_refusal (front ++ rest) ≡ or_else (first_refusal front) (first_refusal rest)
+pub first-append : (prefix rest : Refusals) → first_refusal (prefix ++ rest) ≡ or_else (first_refusal prefix) (first_refusal rest)
 first-append [] rest = refl
-first-append (test ∷ front) rest = head test.0 test.1 (first_refusal front) (first_refusal rest) (first-append front rest)
+first-append (test ∷ prefix) rest = head test.0 test.1 (first_refusal prefix) (first_refusal rest) (first-append prefix rest)
   where
-    head : (test : Bool) (reason : Status) (front rest : Option Status) {whole : Option Status} → whole ≡ or_else front rest
-        → refused_or test reason whole ≡ or_else (refused_or test reason front) rest
-    head true reason front rest same = refl
-    head false reason front rest same = same
+    head : (test : Bool) (reason : Status) (prefix rest : Option Status) {whole : Option Status} → whole ≡ or_else prefix rest
+        → refused_or test reason whole ≡ or_else (refused_or test reason prefix) rest
+    head true reason prefix rest same = refl
+    head false reason prefix rest same = same
 
-pub none_in_front : (test : Bool) (reason : Status) (rest : Option Status) → refused_or test reason rest ≡ None
+pub none_earlier : (test : Bool) (reason : Status) (rest : Option Status) → refused_or test reason rest ≡ None
     → (test ≡ false) × (rest ≡ None)
-none_in_front true reason rest none = absurd (some≢none reason none)
-none_in_front false reason rest none = (refl, none)
+none_earlier true reason rest none = absurd (some≢none reason none)
+none_earlier false reason rest none = (refl, none)
 
 -- if none of all holds, none of each part does
-pub none_in_both : (front rest : Refusals) → first_refusal (front ++ rest) ≡ None
-    → (first_refusal front ≡ None) × (first_refusal rest ≡ None)
+pub none_in_both : (prefix rest : Refusals) → first_refusal (prefix ++ rest) ≡ None
+    → (first_refusal prefix ≡ None) × (first_refusal rest ≡ None)
 none_in_both [] rest none = (refl, none)
-none_in_both (test ∷ front) rest none =
-    let here = none_in_front test.0 test.1 (first_refusal (front ++ rest)) none in
-    let others = none_in_both front rest here.1 in
+none_in_both (test ∷ prefix) rest none =
+    let here = none_earlier test.0 test.1 (first_refusal (prefix ++ rest)) none in
+    let others = none_in_both prefix rest here.1 in
     (rw here.0 others.0, others.1)
 
-pub none_before : (front rest : Refusals) → first_refusal (front ++ rest) ≡ None → first_refusal front ≡ None
-none_before front rest none = (none_in_both front rest none).0
+pub none_before : (prefix rest : Refusals) → first_refusal (prefix ++ rest) ≡ None → first_refusal prefix ≡ None
+none_before prefix rest none = (none_in_both prefix rest none).0
 
-pub none_after : (front rest : Refusals) → first_refusal (front ++ rest) ≡ None → first_refusal rest ≡ None
-none_after front rest none = (none_in_both front rest none).1
+pub none_after : (prefix rest : Refusals) → first_refusal (prefix ++ rest) ≡ None → first_refusal rest ≡ None
+none_after prefix rest none = (none_in_both prefix rest none).1

@@ -14,7 +14,7 @@ use Rattle.model_tree.specs.Refusals.Refusal.{first_refusal}
 use Rattle.model_tree.specs.Trees.Stamp.{is_stamp_left}
 use Rattle.model_tree.specs.Trees.Tree.{Tree}
 use Rattle.model.specs.Operations.Step.{State, Stepped, early, middle, late, without_rights, refusals, alters, effect, change_refusals, refused, unless_refused, does, need_first, need_then, permitted}
-use Rattle.model.proofs.Operations.RefusalLaws.{none_in_front, none_in_both}
+use Rattle.model.proofs.Operations.RefusalLaws.{none_earlier, none_in_both}
 use Rattle.model_tree.proofs.Facts.BooleanLaws.{second_held}
 
 -- What an operation passed
@@ -52,8 +52,8 @@ passes_tests limits state operation none =
     ++ ((without_rights state then, status.Access) ∷ late limits state operation)) none in
     let between = none_in_both ((without_rights state first, status.Access) ∷ middle limits state operation)
     ((without_rights state then, status.Access) ∷ late limits state operation) before.1 in
-    let rights = none_in_front (without_rights state first) status.Access (first_refusal (middle limits state operation)) between.0 in
-    let others = none_in_front (without_rights state then) status.Access (first_refusal (late limits state operation)) between.1 in
+    let rights = none_earlier (without_rights state first) status.Access (first_refusal (middle limits state operation)) between.0 in
+    let others = none_earlier (without_rights state then) status.Access (first_refusal (late limits state operation)) between.1 in
     record {
       early = before.0;
       permitted = granted_both state.tree state.context first then (not-false (are_granted state.tree state.context first) rights.0)
@@ -70,9 +70,9 @@ passes limits state now operation none =
     let all = none_in_both (refusals limits state operation)
     (change_refusals limits state operation (effect limits state now operation).state.tree) none in
     let tests = passes_tests limits state operation all.0 in
-    let room = none_in_front (alters state operation && not (fits limits (effect limits state now operation).state.tree)) status.NoSpc
+    let room = none_earlier (alters state operation && not (fits limits (effect limits state now operation).state.tree)) status.NoSpc
     (first_refusal ((alters state operation && not (is_stamp_left state.changes), status.ServerFault) ∷ [])) all.1 in
-    let stamp = none_in_front (alters state operation && not (is_stamp_left state.changes)) status.ServerFault None room.1 in
+    let stamp = none_earlier (alters state operation && not (is_stamp_left state.changes)) status.ServerFault None room.1 in
     record {
       early = tests.early;
       permitted = tests.permitted;

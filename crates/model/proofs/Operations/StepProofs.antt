@@ -36,7 +36,7 @@ use Rattle.model.proofs.Operations.AttributeLaws.{given_lists_fit}
 use Rattle.model.proofs.Operations.FileStepLaws.{list_given, write_changed, set_changed, opening_changed, opening_leaves}
 use Rattle.model.proofs.Operations.StepCases.{Passes, does_cases}
 use Rattle.model_tree.proofs.Facts.BooleanLaws.{second_of_neither, second_false}
-use Rattle.model.proofs.Operations.RefusalLaws.{none_in_front, none_in_both}
+use Rattle.model.proofs.Operations.RefusalLaws.{none_earlier, none_in_both}
 use Rattle.model_tree.proofs.Facts.OptionLaws.{none_by_test}
 
 -- What an operation is answered with
@@ -121,9 +121,9 @@ creates limits state now name given passes =
     (named_refusals limits state name ++ attribute_refusals limits kind.Directory settable_at_creation given) passes.early in
     let named = none_in_both (named_refusals limits state name)
     (attribute_refusals limits kind.Directory settable_at_creation given) arguments.1 in
-    let place = none_in_front (not (is_directory_at state.tree (current state))) status.NotDir
+    let place = none_earlier (not (is_directory_at state.tree (current state))) status.NotDir
     (first_refusal (name_refusals limits name)) named.0 in
-    let there = none_in_front (is_name_there state name) status.Exist None passes.late in
+    let there = none_earlier (is_name_there state name) status.Exist None passes.late in
     record {
       directory = not-false (is_directory_at state.tree (current state)) place.0;
       allowed = place.1;
@@ -147,10 +147,10 @@ removed_changed : (limits : Limits) (state : State) (now : ℕ) (name : List ℕ
 removed_changed limits state now name passes sound =
     let tests = none_in_both (current_refusals state) (remove_refusals limits state name) passes.early in
     let named = none_in_both (named_refusals limits state name) ((not (is_name_there state name), status.NoEnt) ∷ []) tests.1 in
-    let place = none_in_front (not (is_directory_at state.tree (current state))) status.NotDir (first_refusal (name_refusals limits name)) named.0 in
-    let there = none_in_front (not (is_name_there state name)) status.NoEnt None named.1 in
+    let place = none_earlier (not (is_directory_at state.tree (current state))) status.NotDir (first_refusal (name_refusals limits name)) named.0 in
+    let there = none_earlier (not (is_name_there state name)) status.NoEnt None named.1 in
     let found = is_something (entry_of name (names_at state.tree (current state))) (not-false (is_name_there state name) there.0) in
-    let empty = none_in_front (has_names state.tree (number_named state.tree (current state) name)) status.NotEmpty None passes.late in
+    let empty = none_earlier (has_names state.tree (number_named state.tree (current state) name)) status.NotEmpty None passes.late in
     let number : number_named state.tree (current state) name ≡ found.0.1.number = ap number_of_entry found.1 in
     subst (IsChanged limits (stamp_of state) state.tree (edited (removed_edits state.tree (current state) name (stamp_of state) now) state.tree)) (sym number)
     (removal_keeps limits state.tree sound.well_formed (stamp_of state) sound.before now (current state) name found.0
@@ -184,22 +184,22 @@ renamed_changed limits state now arguments passes sound another =
     let to = current state in
     let well = sound.well_formed in
     let tests = none_in_both (current_refusals state) (rename_refusals limits state arguments) passes.early in
-    let handle = none_in_front (not (has_saved state.context)) status.NoFileHandle _ tests.1 in
-    let stale = none_in_front (not (is_key from tree)) status.Stale _ handle.1 in
-    let is_from = none_in_front (not (is_directory_at tree from)) status.NotDir _ stale.1 in
-    let is_to = none_in_front (not (is_directory_at tree to)) status.NotDir _ is_from.1 in
+    let handle = none_earlier (not (has_saved state.context)) status.NoFileHandle _ tests.1 in
+    let stale = none_earlier (not (is_key from tree)) status.Stale _ handle.1 in
+    let is_from = none_earlier (not (is_directory_at tree from)) status.NotDir _ stale.1 in
+    let is_to = none_earlier (not (is_directory_at tree to)) status.NotDir _ is_from.1 in
     let old_tests = none_in_both (name_refusals limits arguments.old_name) (name_refusals limits arguments.new_name
     ++ ((not (is_named tree from arguments.old_name), status.NoEnt) ∷ [])) is_to.1 in
     let new_tests = none_in_both (name_refusals limits arguments.new_name)
     ((not (is_named tree from arguments.old_name), status.NoEnt) ∷ []) old_tests.1 in
-    let there = none_in_front (not (is_named tree from arguments.old_name)) status.NoEnt None new_tests.1 in
+    let there = none_earlier (not (is_named tree from arguments.old_name)) status.NoEnt None new_tests.1 in
     let directory = not-false (is_directory_at tree to) is_to.0 in
     let found = is_something (entry_of arguments.old_name (names_at tree from)) (not-false (is_named tree from arguments.old_name) there.0) in
     let number : moved_number state arguments ≡ found.0.1.number = ap number_of_entry found.1 in
     let stands = entry_found arguments.old_name (names_at tree from) 0 (names_in limits tree (forest_of limits tree well) from).rising found.0 found.1 in
     let late : first_refusal (late_at_rename state arguments) ≡ None = rw another at passes.late in
-    let below = none_in_front (is_directory_at tree (moved_number state arguments) && is_below tree (moved_number state arguments) to) status.Inval _ late in
-    let exists = none_in_front _ status.Exist None below.1 in
+    let below = none_earlier (is_directory_at tree (moved_number state arguments) && is_below tree (moved_number state arguments) to) status.Inval _ late in
+    let exists = none_earlier _ status.Exist None below.1 in
     rename_keeps limits tree well (stamp_of state) sound.before now from to arguments.old_name arguments.new_name found.0
     (not-false (is_directory_at tree from) is_from.0) directory found.1 (omega arith) new_tests.0
     (λ same. subst (λ n. bytes_eq arguments.new_name n ≡ false) ((bytes_decides arguments.old_name found.0.1.name).0 stands.1)

@@ -89,7 +89,7 @@ module _ (world : World) (request : InProgress) where
 -- A turn
 
 read_has : (request : InProgress) (rest : List ℕ) → HasResults request → HasResults (read_of request rest)
-read_has request rest has = (has.0, record { answered = has.1.answered; spelled = has.1.spelled })
+read_has request rest has = (has.0, record { answered = has.1.answered; encoded = has.1.encoded })
 
 module _ (world : World) (has : AllHave world) (here : ℕ) where
   put_down : (new : Connection) (after : World) → after.connections ≡ with world.connections here new
@@ -118,7 +118,7 @@ module _ (world : World) (has : AllHave world) (here : ℕ) where
       has_been.0 ++ outcome ∷ [],
       one_more left has_been.0 outcome (record {
         answered = leaves.answered ∙ has_been.1.answered;
-        spelled = leaves.results ∙ has_been.1.spelled;
+        encoded = leaves.results ∙ has_been.1.encoded;
       }),
     )
 
@@ -138,7 +138,7 @@ module _ (world : World) (has : AllHave world) (here : ℕ) where
         put_down (Busy (further_on outcome status)) (goes_on after here (further_on outcome status) executed).world
         (ap (λ (c : Keyed Connection). with c here (Busy (further_on outcome status))) leaves.connections)
         (λ other same. subst HasResults (busy_request (further_on outcome status) other same)
-        (results.0, record { answered = results.1.answered; spelled = results.1.spelled }))
+        (results.0, record { answered = results.1.answered; encoded = results.1.encoded }))
 
     closed : (outcome : Outcome) (last : Status) (executed : Option Entry) → AllHave (closes after here (with_result left outcome) last executed).world
     closed outcome last executed =
@@ -155,7 +155,7 @@ module _ (world : World) (has : AllHave world) (here : ℕ) where
 
   goes_has : (request : InProgress) → GoesWith world here request → HasResults request
   goes_has request (Begun _ is) = has here request is
-  goes_has _ (New bytes xid cred compound is some) = ([], record { answered = refl; spelled = refl })
+  goes_has _ (New bytes xid cred compound is some) = ([], record { answered = refl; encoded = refl })
 
   turned : (now : ℕ) (t : Turned) → IsTurn world here now t → AllHave t.world
   turned now _ Idles = has

@@ -12,7 +12,7 @@ use Rattle.model.specs.Sessions.Opens.{Opens}
 use Rattle.model.specs.Sessions.OpensLaws.{AreOpens, EveryRunKeepsOpens}
 use Rattle.model.proofs.Sessions.OpensSteps.{every_step_keeps, no_opens_are, clients_end}
 use Rattle.model.specs.Operations.Operation.{Argument, SequenceArguments, operation_of}
-use Rattle.model.specs.Wire.Record.{Front, Partial, Refused, Whole}
+use Rattle.model.specs.Wire.Record.{Prefix, Partial, Refused, Whole}
 use Rattle.model.specs.Wire.Rpc.{CallRead, NoCall, OtherVersion, Calls, Request, Answers, Runs, Reply, read_call, request_of, is_call_read}
 use Rattle.model.specs.Sessions.Session as sessions
 use Rattle.model.specs.Sessions.Session.{Table, Session}
@@ -300,7 +300,7 @@ module _ (limits : ServerLimits) (run : ℕ) (room : limits.volume.aces_set + 5 
       connected world number (change connection) sound
       (keeps connection (λ request equal. sound.busy number request (is ∙ ap (λ c. Some c) equal)))
 
-  arrived_of_run : (bytes : List ℕ) (front : Front) → IsOfRun (arrived bytes front)
+  arrived_of_run : (bytes : List ℕ) (prefix : Prefix) → IsOfRun (arrived bytes prefix)
   arrived_of_run bytes Partial request is = absurd (cc)
   arrived_of_run bytes (Refused fault) request is = absurd (cc)
   arrived_of_run bytes (Whole text rest) request is = waits (is_call_read (read_call text)) text request is

@@ -21,7 +21,7 @@ use Rattle.model.specs.Operations.SetAttr.{sets, set_attributes}
 use Rattle.model.specs.Operations.Step.{State, Stepped, current, is_name_there, rename, alters, effect, refusals, change_refusals, unless_refused, does}
 use Rattle.model.specs.Server.World.{World, ServerLimits, InProgress, Connection, Quiet, Waiting, Busy, Replied, Closed, HasRun, Gives, Replays, exchanged, created_by, session_created, tabled, started_in, begun, reclaimed, stepped, state_of, refuses, in_room, has_room, run, Turned, Entry, executed_entry, behind, ends, goes_on, with_result, is_last, has_run, operates, Next, Refuses, Reads, next_operation, requested, in_progress, called, turned, one, connection_changed, arrives, arrives_at, takes, without_reply, connects, can_connect, hangs_up, is_busy, closes, is_to_hold, further, noting}
 use Rattle.model.proofs.Server.Headline.{slice_get-append, slice_get-within, slice_get-last, done_behind}
-use Rattle.model.proofs.Operations.RefusalLaws.{none_in_front, none_after}
+use Rattle.model.proofs.Operations.RefusalLaws.{none_earlier, none_after}
 use Rattle.model_tree.proofs.Facts.BooleanLaws.{second_held}
 
 abbrev Differs : Entry → Type 0
@@ -97,8 +97,8 @@ does_counts limits state now operation =
     let after = (effect limits state now operation).state.tree in
     unless_counts state operation (effect limits state now operation) _ (λ e. effect_counts limits state now operation (λ is.
     let changes = none_after (refusals limits state operation) (change_refusals limits state operation after) e in
-    let last = none_in_front (alters state operation && not (fits limits after)) status.NoSpc _ changes in
-    second_held (alters state operation) (is_stamp_left state.changes) (none_in_front (alters state operation && not (is_stamp_left state.changes)) status.ServerFault None last.1).0 is))
+    let last = none_earlier (alters state operation && not (fits limits after)) status.NoSpc _ changes in
+    second_held (alters state operation) (is_stamp_left state.changes) (none_earlier (alters state operation && not (is_stamp_left state.changes)) status.ServerFault None last.1).0 is))
 
 abbrev pub RanCounts : World → HasRun → Type 0
 RanCounts world (Gives outcome after left) = Counts world.changes after.changes (world.tree ≢ after.tree)

@@ -8,7 +8,7 @@ use Rattle.model_tree.specs.declared.status.Status.TheVariants as status
 use Rattle.model.specs.Operations.Answer.{Outcome, Done, Refused}
 use Rattle.model_tree.specs.Trees.Keyed.{at}
 use Rattle.model.specs.Operations.Operation.{Argument, operation_of}
-use Rattle.model.specs.Wire.Record.{RecordLimits, Front, Partial, Refused as BadRecord, Whole, front, framed}
+use Rattle.model.specs.Wire.Record.{RecordLimits, Prefix, Partial, Refused as BadRecord, Whole, prefix, framed}
 use Rattle.model.specs.Wire.Rpc.{CallRead, NoCall, OtherVersion, Calls, VersionRefused, read_call, is_call_read, Call, Request, Answers, Runs, request_of, by_head, by_cred, compound_request, is_empty, cred_of, compound_head, Compound, Reply, Success, reply_text}
 use Rattle.model.specs.Server.World.{World, InProgress, Connection, Quiet, Waiting, Busy, Replied, Closed, HasRun, Gives, Replays, Next, Refuses, Reads, next_operation, run, has_room, in_room, Turned, Answered, idle, replies, behind, noting, has_run, operates, executed_entry, ends, further, in_progress, requested, called, turned, one, with_connection, arrived, arrives_at, without_reply}
 
@@ -136,7 +136,7 @@ turn_is world here now = turned_is world here now (at here world.connections) re
 
 -- What comes and what is taken: no request begins by it
 
-arrived_quiet : (bytes : List ℕ) (f : Front) (request : InProgress) → arrived bytes f ≡ Busy request → ⊥
+arrived_quiet : (bytes : List ℕ) (f : Prefix) (request : InProgress) → arrived bytes f ≡ Busy request → ⊥
 arrived_quiet bytes Partial request same = cc
 arrived_quiet bytes (BadRecord fault) request same = cc
 arrived_quiet bytes (Whole one rest) request same = by_call (is_call_read (read_call one)) same
@@ -146,7 +146,7 @@ arrived_quiet bytes (Whole one rest) request same = by_call (is_call_read (read_
     by_call false same = cc
 
 pub arrival_only : (limits : RecordLimits) (piece : List ℕ) (c : Connection) (request : InProgress) → arrives_at limits piece c ≡ Busy request → c ≡ Busy request
-arrival_only limits piece (Quiet bytes) request same = absurd (arrived_quiet (bytes ++ piece) (front limits (bytes ++ piece)) request same)
+arrival_only limits piece (Quiet bytes) request same = absurd (arrived_quiet (bytes ++ piece) (prefix limits (bytes ++ piece)) request same)
 arrival_only limits piece (Waiting record_of) request same = same
 arrival_only limits piece (Busy other) request same = same
 arrival_only limits piece (Replied reply) request same = same

@@ -20,7 +20,7 @@ use Rattle.model.proofs.Sessions.TableCalls.{either, found_passes, marked, mark_
 use Rattle.model.proofs.Sessions.TableLaws.{all-filter, all-append, all-map, confirms, stays}
 use Rattle.model_tree.proofs.Facts.Counting.{size}
 use Rattle.model_tree.proofs.Facts.BooleanLaws.{and_false}
-use Rattle.model.proofs.Operations.RefusalLaws.{none_in_front}
+use Rattle.model.proofs.Operations.RefusalLaws.{none_earlier}
 use Rattle.model.proofs.Sessions.Yielding.{yielding_is}
 
 -- Tests over lists
@@ -512,10 +512,10 @@ module _ (table : Table) (one_each : (id : List ℕ) → size (is_session id) ta
         → KeepsRunning table (create_unless limits arguments client table first).table
     created_running (Some reason) is = same_running table table refl
     created_running None is =
-        let one = none_in_front (not (arguments.sequence == client.sequence)) status.SeqMisordered _ is in
-        let two = none_in_front _ status.Inval _ one.1 in
-        let three = none_in_front _ status.TooSmall _ two.1 in
-        let four = none_in_front (list_any bad table.sessions) status.Delay _ three.1 in
+        let one = none_earlier (not (arguments.sequence == client.sequence)) status.SeqMisordered _ is in
+        let two = none_earlier _ status.Inval _ one.1 in
+        let three = none_earlier _ status.TooSmall _ two.1 in
+        let four = none_earlier (list_any bad table.sessions) status.Delay _ three.1 in
         λ id place session on found. record {
           session = session;
           stands = find-append (is_session id) (staying client table) (new_session limits arguments client table ∷ []) session

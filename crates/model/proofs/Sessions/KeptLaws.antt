@@ -20,7 +20,7 @@ use Rattle.model_tree.specs.declared.status.Status.TheVariants as status
 use Rattle.model.specs.Operations.Answer.{Answer, Outcome, Done, Refused, ExchangeIdAnswer, CreateSessionAnswer}
 use Rattle.model_tree.specs.Trees.Keyed.{Keyed, at, with}
 use Rattle.model.specs.Operations.Operation.{Argument, SequenceArguments, CreateSessionArguments, operation_of}
-use Rattle.model.specs.Wire.Record.{Front, Partial, Whole}
+use Rattle.model.specs.Wire.Record.{Prefix, Partial, Whole}
 use Rattle.model.specs.Wire.Record as marks
 use Rattle.model_tree.specs.Refusals.Refusal.{first_refusal}
 use Rattle.model.specs.Wire.Rpc.{CallRead, NoCall, OtherVersion, Calls, Call, VersionRefused, read_call, is_call_read, Request, Answers, Runs, request_of, by_head, by_cred, compound_head, cred_of, is_empty, Success, reply_text, compound_text}
@@ -477,7 +477,7 @@ module _ (world : World) (short : IsShort world) (here : ℕ) where
       in_some : Connection → Option Connection
       in_some c = Some c
 
-  arrived_quiet : (bytes : List ℕ) (f : Front) (request : InProgress) → arrived bytes f ≡ Busy request → ⊥
+  arrived_quiet : (bytes : List ℕ) (f : Prefix) (request : InProgress) → arrived bytes f ≡ Busy request → ⊥
   arrived_quiet bytes Partial request same = cc
   arrived_quiet bytes (marks.Refused fault) request same = cc
   arrived_quiet bytes (Whole one rest) request same = by_call (is_call_read (read_call one)) same
@@ -487,7 +487,7 @@ module _ (world : World) (short : IsShort world) (here : ℕ) where
       by_call false same = cc
 
   arrival_only : (piece : List ℕ) (c : Connection) (request : InProgress) → arrives_at world.limits.records piece c ≡ Busy request → c ≡ Busy request
-  arrival_only piece (Quiet bytes) request same = absurd (arrived_quiet (bytes ++ piece) (marks.front world.limits.records (bytes ++ piece)) request same)
+  arrival_only piece (Quiet bytes) request same = absurd (arrived_quiet (bytes ++ piece) (marks.prefix world.limits.records (bytes ++ piece)) request same)
   arrival_only piece (Waiting record_of) request same = same
   arrival_only piece (Busy other) request same = same
   arrival_only piece (Replied reply) request same = same

@@ -26,7 +26,7 @@ use Rattle.model_tree.proofs.Trees.KeyedLaws.{at-above, at-with_same, at-with_ot
 use Rattle.model_tree.proofs.Trees.KeyedParts.{IsAbove-filter, at-filter, find-at}
 use Rattle.model.proofs.Sessions.OpensSteps.{set_opens, write_opens}
 use Rattle.model.proofs.Operations.StepCases.{does_cases}
-use Rattle.model.proofs.Operations.RefusalLaws.{none_in_front}
+use Rattle.model.proofs.Operations.RefusalLaws.{none_earlier}
 
 -- The serials of a run
 
@@ -356,7 +356,7 @@ module _ (run : ℕ) (small_run : run < 2 ^ 32) (limits : Limits) (state : State
   pub does_goes : (now : ℕ) (operation : Argument) → StepGoes operation (does limits state now operation)
   does_goes now (Argument.Open arguments) = elim (does_cases limits state now (Argument.Open arguments)) [
     | inl went ↦ subst (StepGoes (Argument.Open arguments)) (sym went.1)
-        (effect_opens now arguments (none_in_front (is_table_full limits.opens state.opens (asked_open state arguments)) status.Delay None went.0.late).0)
+        (effect_opens now arguments (none_earlier (is_table_full limits.opens state.opens (asked_open state arguments)) status.Delay None went.0.late).0)
     | inr not_gone ↦ subst (StepGoes (Argument.Open arguments)) (sym not_gone.1) (refused_goes (Argument.Open arguments) not_gone.0)
   ]
   does_goes now operation = others_go now operation refl

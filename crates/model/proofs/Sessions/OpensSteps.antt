@@ -28,7 +28,7 @@ use Rattle.model_tree.proofs.Trees.KeyedLaws.{at-above, at-with_same, at-with_ot
 use Rattle.model_tree.proofs.Trees.KeyedParts.{IsAbove-filter, length-filter, at-filter, length-with_new, length-with_same, length-without, find-at}
 use Rattle.model.proofs.Operations.StepCases.{Passes, does_cases}
 use Rattle.model.proofs.Operations.StepProofs.{gone_by, effect_changes, outcome_cases, effect_leaves, effect_refused}
-use Rattle.model.proofs.Operations.RefusalLaws.{none_in_front, none_in_both}
+use Rattle.model.proofs.Operations.RefusalLaws.{none_earlier, none_in_both}
 
 -- Files
 
@@ -251,8 +251,8 @@ module _ (modes : ModesKeepLimits) (inheritance : InheritanceKeepsLimits) (limit
       (opening.0, (none_in_both (share_refusals arguments) (place_refusals limits state arguments.opening) opening.1).1)
 
   known_file : (how : OpenType) (number : ℕ) → first_refusal (known_refusals limits state number how) ≡ None → is_directory_at state.tree number ≡ false
-  known_file NoCreate number passed = (none_in_front (is_directory_at state.tree number) status.IsDir None passed).0
-  known_file (Unchecked given) number passed = (none_in_front (is_directory_at state.tree number) status.IsDir _ passed).0
+  known_file NoCreate number passed = (none_earlier (is_directory_at state.tree number) status.IsDir None passed).0
+  known_file (Unchecked given) number passed = (none_earlier (is_directory_at state.tree number) status.IsDir _ passed).0
   known_file (Guarded given) number passed = absurd (some≢none status.Exist passed)
 
   -- by a name, whether it is there
@@ -286,8 +286,8 @@ module _ (modes : ModesKeepLimits) (inheritance : InheritanceKeepsLimits) (limit
   opened_file (Opening_of how ByHandle) same =
       let place : first_refusal (place_refusals limits state (Opening_of how ByHandle)) ≡ None
       = ap (λ (o : Opening). first_refusal (place_refusals limits state o)) (sym same) ∙ placed.1 in
-      let creating = none_in_front (creates how) status.Inval _ place in
-      (current_key state tested, (none_in_front (is_directory_at state.tree (current state)) status.IsDir None creating.1).0)
+      let creating = none_earlier (creates how) status.Inval _ place in
+      (current_key state tested, (none_earlier (is_directory_at state.tree (current state)) status.IsDir None creating.1).0)
   opened_file (Opening_of how (ByName name)) same =
       let middle : first_refusal (name_opening_refusals limits state how name) ≡ None
       = ap (λ (o : Opening). first_refusal (middle_at_open limits state o)) (sym same) ∙ passes.middle in
@@ -296,7 +296,7 @@ module _ (modes : ModesKeepLimits) (inheritance : InheritanceKeepsLimits) (limit
   pub open_keeps : AreOpens limits state.tree state.opens → KeepsOpens limits state (effect limits state now (Argument.Open arguments)).state
   unfolding effect opened
   open_keeps are =
-      let room = none_in_front (is_table_full limits.opens state.opens (asked_open state arguments)) status.Delay None passes.late in
+      let room = none_earlier (is_table_full limits.opens state.opens (asked_open state arguments)) status.Delay None passes.late in
       opens_one limits state (effect limits state now (Argument.Open arguments)).state (asked_open state arguments) are
       (λ serial known there. stays_file arguments.opening refl known.number (are.nodes serial known there) (are.files serial known there))
       (opened_file arguments.opening refl) (open_like state.opens (asked_open state arguments)) refl room.0 refl

@@ -32,8 +32,8 @@ in_run client = client / 2 ^ 32
 client_of_id : (client serial : ℕ) → client < 2 ^ 64 → from_be_bytes w64 (take 8 (session_id client serial)) ≡ client
 unfolding session_id
 client_of_id client serial small =
-    let front : take 8 (to_be_bytes w64 client ++ to_be_bytes w64 serial) ≡ to_be_bytes w64 client = refl in
-    ap (from_be_bytes w64) front ∙ from_be_bytes-to_be_bytes_8 client small
+    let prefix : take 8 (to_be_bytes w64 client ++ to_be_bytes w64 serial) ≡ to_be_bytes w64 client = refl in
+    ap (from_be_bytes w64) prefix ∙ from_be_bytes-to_be_bytes_8 client small
 
 small_client : (run client : ℕ) → run < 2 ^ 32 → in_run client ≡ run → client < 2 ^ 64
 small_client run client small is = omega (arith, small, is)

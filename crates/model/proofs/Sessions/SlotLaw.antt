@@ -16,7 +16,7 @@ use Rattle.model.specs.Operations.Answer.{CreateSessionAnswer}
 use Rattle.model.specs.Sessions.Session.{SessionLimits, Client, Slot, Session, Table, Begun, Refuses, Replays, Runs, Free, Running, Kept, SlotState, is_running_state, session_id, is_session, slot_at, no_slot, empty_table, has_state, without_unconfirmed, without_client, is_full_of_clients, new_record, exchange_by, exchange_id, is_confirmed_of, exchange_flags, has_only, create_refusals, create_unless, create_again, create_by, create_session, new_session, staying, is_of_clients, replaced_by, is_full_of_sessions, fore_channel, CreateSessionOutcome, next_number, destroy_by, destroy_session, is_running, destroy_client_by, destroy_client_id, is_client, reclaim_by, reclaim_complete, begin_new, begin_slot, begin_by, begin, with_slot, started, finished_slot, finish, without_where, limits_for, persists, begin_held, begin_dead, yielding}
 use Rattle.model.specs.Sessions.SessionRuns.{Call, Exchanges, Creates, Destroys, DestroysClient, Reclaims, Begins, Finishes, after, runs_on, number_on, started_by, numbers_on, CountsFrom, OthersBetween, EverySlot}
 use Rattle.model_tree.proofs.Facts.BooleanLaws.{second_of_neither}
-use Rattle.model.proofs.Operations.RefusalLaws.{none_in_front}
+use Rattle.model.proofs.Operations.RefusalLaws.{none_earlier}
 use Rattle.model.proofs.Sessions.Yielding.{yielding_is}
 
 -- Of both branches
@@ -168,9 +168,9 @@ destroy_stands id slot last name table stands = destroy_by_stands id slot last n
 -- CREATE_SESSION adds one, of a new id
 
 last_passes : (tests : Refusals) (test : Bool) (reason : Status) → first_refusal (tests ++ (test, reason) ∷ []) ≡ None → test ≡ false
-last_passes [] test reason e = (none_in_front test reason None e).0
+last_passes [] test reason e = (none_earlier test reason None e).0
 last_passes (first ∷ tests) test reason e =
-    last_passes tests test reason (none_in_front first.0 first.1 (first_refusal (tests ++ (test, reason) ∷ [])) e).1
+    last_passes tests test reason (none_earlier first.0 first.1 (first_refusal (tests ++ (test, reason) ∷ [])) e).1
 
 pub serial_left : (limits : SessionLimits) (arguments : CreateSessionArguments) (client : Client) (table : Table)
     → first_refusal (create_refusals limits arguments client table) ≡ None → table.session_serial < 2 ^ 64 - 1

@@ -15,7 +15,7 @@ use Rattle.model.proofs.Sessions.SlotLaw.{id_of, cond_runs, cond_never, refuses_
 use Rattle.model.proofs.Sessions.TableCalls.{either, found_passes}
 use Rattle.model_tree.proofs.Facts.Counting.{size}
 use Rattle.model_tree.proofs.Facts.BooleanLaws.{and_false, or_false}
-use Rattle.model.proofs.Operations.RefusalLaws.{none_in_front}
+use Rattle.model.proofs.Operations.RefusalLaws.{none_earlier}
 
 -- Tests over lists
 
@@ -176,10 +176,10 @@ created_same : (limits : SessionLimits) (arguments : CreateSessionArguments) (cl
     → first_refusal (create_refusals limits arguments client table) ≡ first → RunsSame table (create_unless limits arguments client table first).table
 created_same limits arguments client table (Some reason) is id place = refl
 created_same limits arguments client table None is id place =
-    let one = none_in_front (not (arguments.sequence == client.sequence)) status.SeqMisordered _ is in
-    let two = none_in_front _ status.Inval _ one.1 in
-    let three = none_in_front _ status.TooSmall _ two.1 in
-    let four = none_in_front (list_any bad table.sessions) status.Delay _ three.1 in
+    let one = none_earlier (not (arguments.sequence == client.sequence)) status.SeqMisordered _ is in
+    let two = none_earlier _ status.Inval _ one.1 in
+    let three = none_earlier _ status.TooSmall _ two.1 in
+    let four = none_earlier (list_any bad table.sessions) status.Delay _ three.1 in
     any-append (runs_at id place) (staying client table) (new_session limits arguments client table)
     (rests_here id place (new_session limits arguments client table) (fresh_rests (fore_channel (limits_for limits (persists arguments client table)) arguments.fore).max_requests place))
     ∙ any-filter (runs_at id place) (λ x. not (is_of_clients (replaced_by client table) x)) bad table.sessions ends four.0

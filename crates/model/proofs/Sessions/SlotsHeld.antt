@@ -7,7 +7,7 @@ use Rattle.model_tree.specs.declared.status.Status.TheVariants as status
 use Rattle.model.specs.Operations.Answer.{Answer, Outcome, Done, Refused, ExchangeIdAnswer, CreateSessionAnswer}
 use Rattle.model_tree.specs.Trees.Keyed.{Keyed, at, with, without}
 use Rattle.model.specs.Operations.Operation.{Argument, SequenceArguments, operation_of}
-use Rattle.model.specs.Wire.Record.{Front, Partial, Whole}
+use Rattle.model.specs.Wire.Record.{Prefix, Partial, Whole}
 use Rattle.model.specs.Wire.Record as marks
 use Rattle.model.specs.Wire.Rpc.{CallRead, NoCall, OtherVersion, Calls, VersionRefused, read_call, is_call_read, Request, Answers, Runs, request_of, Success, reply_text}
 use Rattle.model.specs.Server.Runs.{Serving, RunHistory, IsRun, mounted, Event, Arrives, Turns, HangsUp, Connects, Takes, effect_of, Begins, Goes_on, Fails_at, Stays_down, Flushed}
@@ -504,7 +504,7 @@ module _ (limits : ServerLimits) (world : World) (held : Held limits world) (her
       replaced (change connection) (λ request busy. is ∙ ap (λ (c : Connection). Some c) (only connection request busy))
       (λ id place. same connection id place ∙ sym (ap (is_busy_on id place) is))
 
-  arrived_idle : (bytes : List ℕ) (f : Front) (id : List ℕ) (place : ℕ) → is_busy_on id place (Some (arrived bytes f)) ≡ false
+  arrived_idle : (bytes : List ℕ) (f : Prefix) (id : List ℕ) (place : ℕ) → is_busy_on id place (Some (arrived bytes f)) ≡ false
   arrived_idle bytes Partial id place = refl
   arrived_idle bytes (marks.Refused fault) id place = refl
   arrived_idle bytes (Whole one rest) id place = by_call (is_call_read (read_call one))
@@ -515,7 +515,7 @@ module _ (limits : ServerLimits) (world : World) (held : Held limits world) (her
 
   arrival_same : (piece : List ℕ) (c : Connection) (id : List ℕ) (place : ℕ)
       → is_busy_on id place (Some (arrives_at world.limits.records piece c)) ≡ is_busy_on id place (Some c)
-  arrival_same piece (Quiet bytes) id place = arrived_idle (bytes ++ piece) (marks.front world.limits.records (bytes ++ piece)) id place
+  arrival_same piece (Quiet bytes) id place = arrived_idle (bytes ++ piece) (marks.prefix world.limits.records (bytes ++ piece)) id place
   arrival_same piece (Waiting record_of) id place = refl
   arrival_same piece (Busy other) id place = refl
   arrival_same piece (Replied reply) id place = refl

@@ -48,9 +48,9 @@ named opens run serial given =
     let mine : bytes_eq (take 4 (other_of run serial)) (to_be_bytes w32 run) ≡ true = same_run run in
     rw mine (ap (λ key. at key opens.known) (serial_is run serial given))
 
-standing : (opens : Opens) (context : Context) (serial seqid : ℕ) (known : Open) → OpenStands opens context serial known
+id_context : (opens : Opens) (context : Context) (serial seqid : ℕ) (known : Open) → OpenStands opens context serial known
     → found opens context (open_stateid context.run serial seqid) ≡ by_open context (open_stateid context.run serial seqid) (Some known)
-standing opens context serial seqid known stands =
+id_context opens context serial seqid known stands =
     is_meant opens context context.run serial seqid stands.given
     ∙ ap (by_open context (open_stateid context.run serial seqid)) (named opens context.run serial stands.given ∙ stands.there)
 
@@ -62,7 +62,7 @@ own_test context known own =
 pub own : (opens : Opens) (context : Context) (serial seqid : ℕ) (known : Open) → OpenStands opens context serial known → IsOwn context known
     → found opens context (open_stateid context.run serial seqid) ≡ by_seqid (open_stateid context.run serial seqid) known
 own opens context serial seqid known stands mine =
-    standing opens context serial seqid known stands
+    id_context opens context serial seqid known stands
     ∙ ap (λ b. if b then by_seqid (open_stateid context.run serial seqid) known else Refused status.BadStateId) (own_test context known mine)
 
 -- The verdicts
@@ -100,7 +100,7 @@ not_own_test a b (inr second) = rw second (and_false a)
 
 pub not_own : NotOwnIsBad
 not_own opens context serial known stands other seqid =
-    standing opens context serial seqid known stands
+    id_context opens context serial seqid known stands
     ∙ ap (λ b. if b then by_seqid (open_stateid context.run serial seqid) known else Refused status.BadStateId)
     (not_own_test (known.client == context.client) (known.number == current_number context) (tests other))
   where

@@ -19,7 +19,7 @@ use Rattle.model.proofs.Sessions.SlotLaw.{session_id-serial, id_of}
 use Rattle.model.proofs.Sessions.TableLaws.{size-without, all_mono, keep_all, Clients, Sessions, given_serial, fewer_clients, further_client, confirmed_clients, changed_clients, fewer_sessions, further_session, changed_sessions}
 use Rattle.model.proofs.Sessions.Yielding.{yielding_is}
 use Rattle.model_tree.proofs.Facts.Counting.{size, size-filter, size_changed, map-same}
-use Rattle.model.proofs.Operations.RefusalLaws.{none_in_front}
+use Rattle.model.proofs.Operations.RefusalLaws.{none_earlier}
 
 abbrev pub Holds : SessionLimits → Table → Type 0
 Holds limits table = Clients limits table.run table.client_serial table.clients × Sessions limits table.session_serial table.sessions
@@ -105,11 +105,11 @@ created_holds : (limits : SessionLimits) (arguments : CreateSessionArguments) (c
 created_holds limits arguments client table holds found (Some reason) is = holds
 created_holds limits arguments client table holds found None none =
     let slots = few_slots limits arguments.fore.max_requests (persists arguments client table) in
-    let behind_number = none_in_front (not (arguments.sequence == client.sequence)) status.SeqMisordered _ none in
-    let behind_flags = none_in_front (not (has_only session_flags arguments.flags)) status.Inval _ behind_number.1 in
-    let behind_size = none_in_front (is_too_small limits arguments.fore) status.TooSmall _ behind_flags.1 in
-    let behind_slots = none_in_front _ status.Delay _ behind_size.1 in
-    let behind_room = none_in_front (is_full_of_sessions limits client table) status.Delay None behind_slots.1 in
+    let behind_number = none_earlier (not (arguments.sequence == client.sequence)) status.SeqMisordered _ none in
+    let behind_flags = none_earlier (not (has_only session_flags arguments.flags)) status.Inval _ behind_number.1 in
+    let behind_size = none_earlier (is_too_small limits arguments.fore) status.TooSmall _ behind_flags.1 in
+    let behind_slots = none_earlier _ status.Delay _ behind_size.1 in
+    let behind_room = none_earlier (is_full_of_sessions limits client table) status.Delay None behind_slots.1 in
     let parts = or_parts (nat_le limits.sessions (length (staying client table))) (nat_le (2 ^ 64 - 1) table.session_serial) behind_room.0 in (
       confirmed_clients client (create_session_answer limits arguments client table) limits table.run table.client_serial table.clients holds.0 found,
       further_session limits table.session_serial (staying client table) (new_session limits arguments client table)

@@ -8,17 +8,17 @@ use Rattle.xdr.specs.declared.refusal.Refusal.{Refusal}
 use Rattle.xdr.specs.Grammar.{◌>>=◌, void, unsigned_int, unsigned_hyper}
 use Rattle.xdr.specs.Forms.{boolean, trimmed_bitmap}
 use Rattle.xdr.specs.Union.{on, no_other}
-use Rattle.xdr.specs.Laws.{IsBytes, Exact, OneSpelling}
+use Rattle.xdr.specs.Laws.{IsBytes, Exact, OneEncoding}
 use Rattle.xdr.proofs.Steps.{bind_ok, ok_is, IsBytes-behind}
 use Rattle.xdr.proofs.Numbers.{int_exact, hyper_exact}
-use Rattle.xdr.proofs.Sequences.{void_exact, then_exact, of_exact, one_spelling}
+use Rattle.xdr.proofs.Sequences.{void_exact, then_exact, of_exact, one_encoding}
 use Rattle.xdr.proofs.Opaques.{opaque_exact}
 use Rattle.xdr.proofs.Passing.{boolean_exact}
 use Rattle.xdr.proofs.Arrays.{array_exact, trimmed_exact}
 use Rattle.xdr.proofs.Unions.{TakesBy, AgainBy, on_takes, no_other_takes, union_exact, made_again}
 use Rattle.model_tree.specs.declared.node.NodeKind.TheVariants as kind
 use Rattle.model.specs.Wire.WireTypes.{any_opaque, file_handle}
-use Rattle.model.specs.Attributes.AttributeValue.{file_system_id, time, acl_entry, entries, kind_told, node_kind, Value, SupportedAttrs, Kind, FhExpireType, Change, Size, LinkSupport, SymlinkSupport, NamedAttr, Fsid, UniqueHandles, LeaseTime, RdattrError, Acl, AclSupport, FileHandle, FileId, MaxFileSize, MaxName, MaxRead, MaxWrite, Mode, NumLinks, Owner, OwnerGroup, TimeModify, SuppattrExclcreat, value_told, value_choice, value_at, values_at, attribute_of, value_text, values, whole, ReadsWhole}
+use Rattle.model.specs.Attributes.AttributeValue.{file_system_id, time, acl_entry, entries, encoded_kind, node_kind, Value, SupportedAttrs, Kind, FhExpireType, Change, Size, LinkSupport, SymlinkSupport, NamedAttr, Fsid, UniqueHandles, LeaseTime, RdattrError, Acl, AclSupport, FileHandle, FileId, MaxFileSize, MaxName, MaxRead, MaxWrite, Mode, NumLinks, Owner, OwnerGroup, TimeModify, SuppattrExclcreat, encoded_value, value_choice, value_at, values_at, attribute_of, value_text, values, whole, ReadsWhole}
 
 any_opaque_exact : Exact any_opaque
 any_opaque_exact = opaque_exact _ (omega arith)
@@ -38,50 +38,50 @@ acl_entry_exact = of_exact _ _ _ (λ _. refl) (λ _. refl) (then_exact int_exact
 pub entries_exact : Exact entries
 entries_exact = array_exact _ acl_entry (omega arith) acl_entry_exact
 
-kind_takes : TakesBy kind_told (λ n. n < 2 ^ 32) (on 1 void (λ _. kind.File) (on 2 void (λ _. kind.Directory) no_other))
+kind_takes : TakesBy encoded_kind (λ n. n < 2 ^ 32) (on 1 void (λ _. kind.File) (on 2 void (λ _. kind.Directory) no_other))
 kind_takes =
-    on_takes kind_told _ 1 void (λ _. kind.File) _ void_exact (λ _ _. refl)
-    (on_takes kind_told _ 2 void (λ _. kind.Directory) _ void_exact (λ _ _. refl)
-    (no_other_takes kind_told _))
+    on_takes encoded_kind _ 1 void (λ _. kind.File) _ void_exact (λ _ _. refl)
+    (on_takes encoded_kind _ 2 void (λ _. kind.Directory) _ void_exact (λ _ _. refl)
+    (no_other_takes encoded_kind _))
 
-kind_again : AgainBy kind_told (on 1 void (λ _. kind.File) (on 2 void (λ _. kind.Directory) no_other))
+kind_again : AgainBy encoded_kind (on 1 void (λ _. kind.File) (on 2 void (λ _. kind.Directory) no_other))
 kind_again kind.File rest small fits = refl
 kind_again kind.Directory rest small fits = refl
 
 node_kind_exact : Exact node_kind
 node_kind_exact = union_exact _ _ kind_takes kind_again
 
-value_takes : TakesBy value_told (λ _. Unit {0}) value_choice
+value_takes : TakesBy encoded_value (λ _. Unit {0}) value_choice
 value_takes =
-    (on_takes value_told _ 0 trimmed_bitmap SupportedAttrs _ trimmed_exact (λ _ _. refl)
-    (on_takes value_told _ 1 node_kind Kind _ node_kind_exact (λ _ _. refl)
-    (on_takes value_told _ 2 unsigned_int FhExpireType _ int_exact (λ _ _. refl)
-    (on_takes value_told _ 3 unsigned_hyper Change _ hyper_exact (λ _ _. refl)
-    (on_takes value_told _ 4 unsigned_hyper Size _ hyper_exact (λ _ _. refl)
-    (on_takes value_told _ 5 boolean LinkSupport _ boolean_exact (λ _ _. refl)
-    (on_takes value_told _ 6 boolean SymlinkSupport _ boolean_exact (λ _ _. refl)
-    (on_takes value_told _ 7 boolean NamedAttr _ boolean_exact (λ _ _. refl)
-    (on_takes value_told _ 8 file_system_id Fsid _ file_system_id_exact (λ _ _. refl)
-    (on_takes value_told _ 9 boolean UniqueHandles _ boolean_exact (λ _ _. refl)
-    (on_takes value_told _ 10 unsigned_int LeaseTime _ int_exact (λ _ _. refl)
-    (on_takes value_told _ 11 unsigned_int RdattrError _ int_exact (λ _ _. refl)
-    (on_takes value_told _ 12 entries Acl _ entries_exact (λ _ _. refl)
-    (on_takes value_told _ 13 unsigned_int AclSupport _ int_exact (λ _ _. refl)
-    (on_takes value_told _ 19 file_handle FileHandle _ file_handle_exact (λ _ _. refl)
-    (on_takes value_told _ 20 unsigned_hyper FileId _ hyper_exact (λ _ _. refl)
-    (on_takes value_told _ 27 unsigned_hyper MaxFileSize _ hyper_exact (λ _ _. refl)
-    (on_takes value_told _ 29 unsigned_int MaxName _ int_exact (λ _ _. refl)
-    (on_takes value_told _ 30 unsigned_hyper MaxRead _ hyper_exact (λ _ _. refl)
-    (on_takes value_told _ 31 unsigned_hyper MaxWrite _ hyper_exact (λ _ _. refl)
-    (on_takes value_told _ 33 unsigned_int Mode _ int_exact (λ _ _. refl)
-    (on_takes value_told _ 35 unsigned_int NumLinks _ int_exact (λ _ _. refl)
-    (on_takes value_told _ 36 any_opaque Owner _ any_opaque_exact (λ _ _. refl)
-    (on_takes value_told _ 37 any_opaque OwnerGroup _ any_opaque_exact (λ _ _. refl)
-    (on_takes value_told _ 53 time TimeModify _ time_exact (λ _ _. refl)
-    (on_takes value_told _ 75 trimmed_bitmap SuppattrExclcreat _ trimmed_exact (λ _ _. refl)
-    (no_other_takes value_told _)))))))))))))))))))))))))))
+    (on_takes encoded_value _ 0 trimmed_bitmap SupportedAttrs _ trimmed_exact (λ _ _. refl)
+    (on_takes encoded_value _ 1 node_kind Kind _ node_kind_exact (λ _ _. refl)
+    (on_takes encoded_value _ 2 unsigned_int FhExpireType _ int_exact (λ _ _. refl)
+    (on_takes encoded_value _ 3 unsigned_hyper Change _ hyper_exact (λ _ _. refl)
+    (on_takes encoded_value _ 4 unsigned_hyper Size _ hyper_exact (λ _ _. refl)
+    (on_takes encoded_value _ 5 boolean LinkSupport _ boolean_exact (λ _ _. refl)
+    (on_takes encoded_value _ 6 boolean SymlinkSupport _ boolean_exact (λ _ _. refl)
+    (on_takes encoded_value _ 7 boolean NamedAttr _ boolean_exact (λ _ _. refl)
+    (on_takes encoded_value _ 8 file_system_id Fsid _ file_system_id_exact (λ _ _. refl)
+    (on_takes encoded_value _ 9 boolean UniqueHandles _ boolean_exact (λ _ _. refl)
+    (on_takes encoded_value _ 10 unsigned_int LeaseTime _ int_exact (λ _ _. refl)
+    (on_takes encoded_value _ 11 unsigned_int RdattrError _ int_exact (λ _ _. refl)
+    (on_takes encoded_value _ 12 entries Acl _ entries_exact (λ _ _. refl)
+    (on_takes encoded_value _ 13 unsigned_int AclSupport _ int_exact (λ _ _. refl)
+    (on_takes encoded_value _ 19 file_handle FileHandle _ file_handle_exact (λ _ _. refl)
+    (on_takes encoded_value _ 20 unsigned_hyper FileId _ hyper_exact (λ _ _. refl)
+    (on_takes encoded_value _ 27 unsigned_hyper MaxFileSize _ hyper_exact (λ _ _. refl)
+    (on_takes encoded_value _ 29 unsigned_int MaxName _ int_exact (λ _ _. refl)
+    (on_takes encoded_value _ 30 unsigned_hyper MaxRead _ hyper_exact (λ _ _. refl)
+    (on_takes encoded_value _ 31 unsigned_hyper MaxWrite _ hyper_exact (λ _ _. refl)
+    (on_takes encoded_value _ 33 unsigned_int Mode _ int_exact (λ _ _. refl)
+    (on_takes encoded_value _ 35 unsigned_int NumLinks _ int_exact (λ _ _. refl)
+    (on_takes encoded_value _ 36 any_opaque Owner _ any_opaque_exact (λ _ _. refl)
+    (on_takes encoded_value _ 37 any_opaque OwnerGroup _ any_opaque_exact (λ _ _. refl)
+    (on_takes encoded_value _ 53 time TimeModify _ time_exact (λ _ _. refl)
+    (on_takes encoded_value _ 75 trimmed_bitmap SuppattrExclcreat _ trimmed_exact (λ _ _. refl)
+    (no_other_takes encoded_value _)))))))))))))))))))))))))))
 
-value_again : (v : Value) (rest : List ℕ) → (value_told v).Fits → value_choice (attribute_of v) (value_text v ++ rest) ≡ Ok (v, rest)
+value_again : (v : Value) (rest : List ℕ) → (encoded_value v).Fits → value_choice (attribute_of v) (value_text v ++ rest) ≡ Ok (v, rest)
 value_again (SupportedAttrs v) rest fits = made_again trimmed_bitmap SupportedAttrs trimmed_exact v rest fits
 value_again (Kind v) rest fits = made_again node_kind Kind node_kind_exact v rest fits
 value_again (FhExpireType v) rest fits = made_again unsigned_int FhExpireType int_exact v rest fits
@@ -132,7 +132,7 @@ values_take (n ∷ attributes) bytes vs rest fits e =
     let P : List Value × List ℕ → Type 0 = λ x. (values (n ∷ attributes)).Fits x.0 × (bytes ≡ flat_map value_text x.0 ++ x.1) in
     subst P (ok_is got (vs, rest) q.2) ((numbers, (t.fits, u.0.1)), parts)
 
-values_again : (vs : List Value) (rest : List ℕ) → AllByRecursion (λ v. (value_told v).Fits) vs → values_at (map attribute_of vs) (flat_map value_text vs ++ rest) ≡ Ok (vs, rest)
+values_again : (vs : List Value) (rest : List ℕ) → AllByRecursion (λ v. (encoded_value v).Fits) vs → values_at (map attribute_of vs) (flat_map value_text vs ++ rest) ≡ Ok (vs, rest)
 unfolding values_at value_at
 values_again [] rest fits = refl
 values_again (v ∷ vs) rest fits =
@@ -144,8 +144,8 @@ values_exact attributes = record {
   again = λ vs rest fits. subst (λ (ns : List ℕ). values_at ns (flat_map value_text vs ++ rest) ≡ Ok (vs, rest)) fits.0 (values_again vs rest fits.1);
 }
 
-pub one_values : (attributes : List ℕ) → OneSpelling (values attributes)
-one_values attributes = one_spelling (values attributes) (values_exact attributes)
+pub one_values : (attributes : List ℕ) → OneEncoding (values attributes)
+one_values attributes = one_encoding (values attributes) (values_exact attributes)
 
 -- ---- bytes that are exactly the values
 
@@ -154,14 +154,14 @@ empty_is [] none = refl
 empty_is (b ∷ rest) none = absurd (omega arith)
 
 pub are_values : (attributes bytes : List ℕ) (vs : List Value) (rest : List ℕ) → IsBytes bytes → values_at attributes bytes ≡ Ok (vs, rest) → length rest ≡ 0
-    → (values attributes).Fits vs × (bytes ≡ (values attributes).spelling vs)
+    → (values attributes).Fits vs × (bytes ≡ (values attributes).encoding vs)
 are_values attributes bytes vs rest fits read none =
     let t = (values_exact attributes).takes bytes vs rest fits read in
-    (t.0, t.1 ∙ ap (λ (x : List ℕ). (values attributes).spelling vs ++ x) (empty_is rest none) ∙ append-nil ((values attributes).spelling vs))
+    (t.0, t.1 ∙ ap (λ (x : List ℕ). (values attributes).encoding vs ++ x) (empty_is rest none) ∙ append-nil ((values attributes).encoding vs))
 
-pub again : (attributes : List ℕ) (vs : List Value) (bytes : List ℕ) → (values attributes).Fits vs → bytes ≡ (values attributes).spelling vs → values_at attributes bytes ≡ Ok (vs, [])
+pub again : (attributes : List ℕ) (vs : List Value) (bytes : List ℕ) → (values attributes).Fits vs → bytes ≡ (values attributes).encoding vs → values_at attributes bytes ≡ Ok (vs, [])
 again attributes vs bytes fits is =
-    ap (values_at attributes) (is ∙ sym (append-nil ((values attributes).spelling vs))) ∙ (values_exact attributes).again vs [] fits
+    ap (values_at attributes) (is ∙ sym (append-nil ((values attributes).encoding vs))) ∙ (values_exact attributes).again vs [] fits
 
 gave : List Value → List ℕ → Result (List Value × List ℕ) Refusal
 gave vs rest = Ok (vs, rest)

@@ -4,11 +4,11 @@ use Rattle.std.specs.Int.{w32}
 use Rattle.std.proofs.lemmas.Bool.{eqb-true, eqb-false, ne_eqb}
 use Rattle.xdr.specs.Grammar.{◌>>=◌, void, number, number_at, unsigned_int, unsigned_hyper}
 use Rattle.xdr.specs.Forms.{always, trimmed_bitmap}
-use Rattle.xdr.specs.Laws.{IsBytes, Exact, OneSpelling}
+use Rattle.xdr.specs.Laws.{IsBytes, Exact, OneEncoding}
 use Rattle.xdr.specs.Union.{made}
 use Rattle.xdr.proofs.Steps.{bind_ok, chosen, ok_is, IsBytes-behind}
 use Rattle.xdr.proofs.Numbers.{int_takes, int_again, int_exact, hyper_exact}
-use Rattle.xdr.proofs.Sequences.{void_exact, then_exact, of_exact, one_spelling}
+use Rattle.xdr.proofs.Sequences.{void_exact, then_exact, of_exact, one_encoding}
 use Rattle.xdr.proofs.Passing.{boolean_exact, always_exact}
 use Rattle.xdr.proofs.Arrays.{chain_exact, trimmed_exact}
 use Rattle.xdr.proofs.Unions.{TakesOne, TakesBy, AgainBy, on_takes, no_other_takes, union_exact, made_again}
@@ -17,7 +17,7 @@ use Rattle.model_tree.specs.declared.status.Status.TheVariants as status
 use Rattle.model_tree.specs.Refusals.Status.{code_of}
 use Rattle.model.specs.Operations.Answer.{Answer, Outcome, Done, Refused}
 use Rattle.model.specs.Wire.WireTypes.{file_handle, verifier, state_id, change_info}
-use Rattle.model.specs.Wire.WireAnswers.{answered_attributes, access_answer, create_answer, open_answer, read_answer, entry, read_dir_answer, rename_answer, write_answer, exchange_id_answer, create_session_answer, sequence_answer, answer_told, answer_choice, refusals, refusal_of, behind_refusal, outcome_told, refused_by, behind_status, outcome_choice, outcome_at, outcome}
+use Rattle.model.specs.Wire.WireAnswers.{answered_attributes, access_answer, create_answer, open_answer, read_answer, entry, read_dir_answer, rename_answer, write_answer, exchange_id_answer, create_session_answer, sequence_answer, encoded_answer, answer_choice, refusals, refusal_of, behind_refusal, encoded_outcome, refused_by, behind_status, outcome_choice, outcome_at, outcome}
 use Rattle.model.proofs.Wire.ExactTypes.{any_opaque_exact, file_handle_exact, verifier_exact, session_id_exact, state_id_exact, attributes_of_exact, change_info_exact, channel_exact}
 use Rattle.model.proofs.Sessions.TableCalls.{found_passes}
 
@@ -67,36 +67,36 @@ pub sequence_answer_exact : Exact sequence_answer
 sequence_answer_exact = of_exact _ _ _ (λ _. refl) (λ _. refl)
     (then_exact session_id_exact (then_exact int_exact (then_exact int_exact (then_exact int_exact (then_exact int_exact int_exact)))))
 
-pub answer_takes : TakesBy answer_told (λ n. n < 2 ^ 32) answer_choice
+pub answer_takes : TakesBy encoded_answer (λ n. n < 2 ^ 32) answer_choice
 answer_takes =
-    (on_takes answer_told _ 3 access_answer Answer.Access _ access_answer_exact (λ _ _. refl)
-    (on_takes answer_told _ 4 state_id Answer.Close _ state_id_exact (λ _ _. refl)
-    (on_takes answer_told _ 5 verifier Answer.Commit _ verifier_exact (λ _ _. refl)
-    (on_takes answer_told _ 6 create_answer Answer.Create _ create_answer_exact (λ _ _. refl)
-    (on_takes answer_told _ 9 answered_attributes Answer.GetAttr _ answered_attributes_exact (λ _ _. refl)
-    (on_takes answer_told _ 10 file_handle Answer.GetFh _ file_handle_exact (λ _ _. refl)
-    (on_takes answer_told _ 15 void (λ _. Answer.Lookup) _ void_exact (λ _ _. refl)
-    (on_takes answer_told _ 16 void (λ _. Answer.LookupParent) _ void_exact (λ _ _. refl)
-    (on_takes answer_told _ 18 open_answer Answer.Open _ open_answer_exact (λ _ _. refl)
-    (on_takes answer_told _ 22 void (λ _. Answer.PutFh) _ void_exact (λ _ _. refl)
-    (on_takes answer_told _ 24 void (λ _. Answer.PutRootFh) _ void_exact (λ _ _. refl)
-    (on_takes answer_told _ 25 read_answer Answer.Read _ read_answer_exact (λ _ _. refl)
-    (on_takes answer_told _ 26 read_dir_answer Answer.ReadDir _ read_dir_answer_exact (λ _ _. refl)
-    (on_takes answer_told _ 28 change_info Answer.Remove _ change_info_exact (λ _ _. refl)
-    (on_takes answer_told _ 29 rename_answer Answer.Rename _ rename_answer_exact (λ _ _. refl)
-    (on_takes answer_told _ 31 void (λ _. Answer.RestoreFh) _ void_exact (λ _ _. refl)
-    (on_takes answer_told _ 32 void (λ _. Answer.SaveFh) _ void_exact (λ _ _. refl)
-    (on_takes answer_told _ 34 trimmed_bitmap Answer.SetAttr _ trimmed_exact (λ _ _. refl)
-    (on_takes answer_told _ 38 write_answer Answer.Write _ write_answer_exact (λ _ _. refl)
-    (on_takes answer_told _ 42 exchange_id_answer Answer.ExchangeId _ exchange_id_answer_exact (λ _ _. refl)
-    (on_takes answer_told _ 43 create_session_answer Answer.CreateSession _ create_session_answer_exact (λ _ _. refl)
-    (on_takes answer_told _ 44 void (λ _. Answer.DestroySession) _ void_exact (λ _ _. refl)
-    (on_takes answer_told _ 53 sequence_answer Answer.Sequence _ sequence_answer_exact (λ _ _. refl)
-    (on_takes answer_told _ 57 void (λ _. Answer.DestroyClientId) _ void_exact (λ _ _. refl)
-    (on_takes answer_told _ 58 void (λ _. Answer.ReclaimComplete) _ void_exact (λ _ _. refl)
-    (no_other_takes answer_told _))))))))))))))))))))))))))
+    (on_takes encoded_answer _ 3 access_answer Answer.Access _ access_answer_exact (λ _ _. refl)
+    (on_takes encoded_answer _ 4 state_id Answer.Close _ state_id_exact (λ _ _. refl)
+    (on_takes encoded_answer _ 5 verifier Answer.Commit _ verifier_exact (λ _ _. refl)
+    (on_takes encoded_answer _ 6 create_answer Answer.Create _ create_answer_exact (λ _ _. refl)
+    (on_takes encoded_answer _ 9 answered_attributes Answer.GetAttr _ answered_attributes_exact (λ _ _. refl)
+    (on_takes encoded_answer _ 10 file_handle Answer.GetFh _ file_handle_exact (λ _ _. refl)
+    (on_takes encoded_answer _ 15 void (λ _. Answer.Lookup) _ void_exact (λ _ _. refl)
+    (on_takes encoded_answer _ 16 void (λ _. Answer.LookupParent) _ void_exact (λ _ _. refl)
+    (on_takes encoded_answer _ 18 open_answer Answer.Open _ open_answer_exact (λ _ _. refl)
+    (on_takes encoded_answer _ 22 void (λ _. Answer.PutFh) _ void_exact (λ _ _. refl)
+    (on_takes encoded_answer _ 24 void (λ _. Answer.PutRootFh) _ void_exact (λ _ _. refl)
+    (on_takes encoded_answer _ 25 read_answer Answer.Read _ read_answer_exact (λ _ _. refl)
+    (on_takes encoded_answer _ 26 read_dir_answer Answer.ReadDir _ read_dir_answer_exact (λ _ _. refl)
+    (on_takes encoded_answer _ 28 change_info Answer.Remove _ change_info_exact (λ _ _. refl)
+    (on_takes encoded_answer _ 29 rename_answer Answer.Rename _ rename_answer_exact (λ _ _. refl)
+    (on_takes encoded_answer _ 31 void (λ _. Answer.RestoreFh) _ void_exact (λ _ _. refl)
+    (on_takes encoded_answer _ 32 void (λ _. Answer.SaveFh) _ void_exact (λ _ _. refl)
+    (on_takes encoded_answer _ 34 trimmed_bitmap Answer.SetAttr _ trimmed_exact (λ _ _. refl)
+    (on_takes encoded_answer _ 38 write_answer Answer.Write _ write_answer_exact (λ _ _. refl)
+    (on_takes encoded_answer _ 42 exchange_id_answer Answer.ExchangeId _ exchange_id_answer_exact (λ _ _. refl)
+    (on_takes encoded_answer _ 43 create_session_answer Answer.CreateSession _ create_session_answer_exact (λ _ _. refl)
+    (on_takes encoded_answer _ 44 void (λ _. Answer.DestroySession) _ void_exact (λ _ _. refl)
+    (on_takes encoded_answer _ 53 sequence_answer Answer.Sequence _ sequence_answer_exact (λ _ _. refl)
+    (on_takes encoded_answer _ 57 void (λ _. Answer.DestroyClientId) _ void_exact (λ _ _. refl)
+    (on_takes encoded_answer _ 58 void (λ _. Answer.ReclaimComplete) _ void_exact (λ _ _. refl)
+    (no_other_takes encoded_answer _))))))))))))))))))))))))))
 
-pub answer_again : AgainBy answer_told answer_choice
+pub answer_again : AgainBy encoded_answer answer_choice
 answer_again (Answer.Access v) rest small fits = made_again access_answer Answer.Access access_answer_exact v rest fits
 answer_again (Answer.Close v) rest small fits = made_again state_id Answer.Close state_id_exact v rest fits
 answer_again (Answer.Commit v) rest small fits = made_again verifier Answer.Commit verifier_exact v rest fits
@@ -173,12 +173,12 @@ refusal_again status.DeadSession other = refl
 refusal_again status.NotOnlyOp other = refl
 
 refused_takes : (n code : ℕ) (o : Option Status) (bytes : List ℕ) (w : Outcome) (rest : List ℕ) → code ≢ 0 → refusal_of code ≡ o → IsBytes bytes → refused_by n o bytes ≡ Ok (w, rest)
-    → TakesOne outcome_told n (number w32 code ++ bytes) w rest
+    → TakesOne encoded_outcome n (number w32 code ++ bytes) w rest
 refused_takes n code None bytes w rest other is fits e = absurd cc
 refused_takes n code (Some reason) bytes w rest other is fits e =
     let same : code_of reason ≡ code = eqb-true (code_of reason) code (found_passes (λ r. eqb (code_of r) code) refusals reason is) in
     let not_ok : code_of reason ≢ 0 = λ z. other (sym same ∙ z) in
-    let R : Outcome × List ℕ → Type 0 = λ x. TakesOne outcome_told n (number w32 code ++ bytes) x.0 x.1 in
+    let R : Outcome × List ℕ → Type 0 = λ x. TakesOne encoded_outcome n (number w32 code ++ bytes) x.0 x.1 in
     let plain : Outcome × List ℕ = (Refused n reason, bytes) in
     elim (chosen (eqb n 34) (made (λ _. Refused n reason) (always 0 unsigned_int) bytes) (Ok plain) (Ok (w, rest)) e) [
       | inl h ↦
@@ -197,7 +197,7 @@ refused_takes n code (Some reason) bytes w rest other is fits e =
           subst R (ok_is plain (w, rest) h.1) (record { is_number = refl; fits = not_ok; parts = parts })
     ]
 
-outcome_takes : TakesBy outcome_told (λ n. n < 2 ^ 32) outcome_choice
+outcome_takes : TakesBy encoded_outcome (λ n. n < 2 ^ 32) outcome_choice
 outcome_takes n bytes w rest small fits e =
     let p = bind_ok (number_at w32 bytes) (behind_status n) (w, rest) e in
     let t = int_takes bytes p.0.0 p.0.1 fits p.1 in
@@ -207,9 +207,9 @@ outcome_takes n bytes w rest small fits e =
           let q = bind_ok (answer_choice n p.0.1) (λ x. Ok (Done x.0, x.1)) (w, rest) h.1 in
           let u = answer_takes n p.0.1 q.0.0 q.0.1 small tail_fits q.1 in
           let got : Outcome × List ℕ = (Done q.0.0, q.0.1) in
-          let parts : bytes ≡ (number w32 0 ++ (answer_told q.0.0).text) ++ q.0.1 =
-          t.1 ∙ ap (λ (k : ℕ). number w32 k ++ p.0.1) (eqb-true p.0.0 0 h.0) ∙ ap (λ (x : List ℕ). number w32 0 ++ x) u.parts ∙ sym (append_assoc (number w32 0) (answer_told q.0.0).text q.0.1) in
-          let R : Outcome × List ℕ → Type 0 = λ x. TakesOne outcome_told n bytes x.0 x.1 in
+          let parts : bytes ≡ (number w32 0 ++ (encoded_answer q.0.0).text) ++ q.0.1 =
+          t.1 ∙ ap (λ (k : ℕ). number w32 k ++ p.0.1) (eqb-true p.0.0 0 h.0) ∙ ap (λ (x : List ℕ). number w32 0 ++ x) u.parts ∙ sym (append_assoc (number w32 0) (encoded_answer q.0.0).text q.0.1) in
+          let R : Outcome × List ℕ → Type 0 = λ x. TakesOne encoded_outcome n bytes x.0 x.1 in
           subst R (ok_is got (w, rest) q.2) (record { is_number = u.is_number; fits = u.fits; parts = parts })
       | inr h ↦
           let u = refused_takes n p.0.0 (refusal_of p.0.0) p.0.1 w rest (eqb-false p.0.0 0 h.0) refl tail_fits h.1 in
@@ -271,16 +271,16 @@ behind_again n reason rest =
       | false ↦ refl
     ]
 
-outcome_again : AgainBy outcome_told outcome_choice
+outcome_again : AgainBy encoded_outcome outcome_choice
 outcome_again (Done answer) rest small fits =
-    rw (append_assoc (number w32 0) (answer_told answer).text rest, int_again 0 ((answer_told answer).text ++ rest) (omega arith), answer_again answer rest small fits) refl
+    rw (append_assoc (number w32 0) (encoded_answer answer).text rest, int_again 0 ((encoded_answer answer).text ++ rest) (omega arith), answer_again answer rest small fits) refl
 outcome_again (Refused n reason) rest small fits =
     rw (append_assoc (number w32 (code_of reason)) (behind_refusal n) rest, int_again (code_of reason) (behind_refusal n ++ rest) (code_small reason), ne_eqb (code_of reason) 0 fits, refusal_again reason fits)
     (behind_again n reason rest)
 
 pub outcome_exact : Exact outcome
 unfolding outcome_at
-outcome_exact = union_exact outcome_told outcome_at outcome_takes outcome_again
+outcome_exact = union_exact encoded_outcome outcome_at outcome_takes outcome_again
 
-pub one_outcome : OneSpelling outcome
-one_outcome = one_spelling outcome outcome_exact
+pub one_outcome : OneEncoding outcome
+one_outcome = one_encoding outcome outcome_exact

@@ -11,7 +11,7 @@ use Rattle.xdr.proofs.Opaques.{fixed_exact, opaque_exact}
 use Rattle.xdr.proofs.Arrays.{array_exact, optional_exact, bitmap_exact}
 use Rattle.xdr.proofs.Unions.{TakesBy, AgainBy, on_takes, no_other_takes, union_exact, made_again}
 use Rattle.model.specs.Operations.Operation.{NoSecurity, SystemSecurity}
-use Rattle.model.specs.Wire.WireTypes.{any_opaque, file_handle, verifier, session_id, owner_id, state_id, attributes_of, attributes, change_info, channel, implementation, system_credential, security_told, callback_security}
+use Rattle.model.specs.Wire.WireTypes.{any_opaque, file_handle, verifier, session_id, owner_id, state_id, attributes_of, attributes, change_info, channel, implementation, system_credential, encoded_security, callback_security}
 
 pub any_opaque_exact : Exact any_opaque
 any_opaque_exact = opaque_exact _ (omega arith)
@@ -51,13 +51,13 @@ pub system_credential_exact : Exact system_credential
 system_credential_exact = of_exact _ _ _ (λ _. refl) (λ _. refl)
     (then_exact int_exact (then_exact (opaque_exact 255 (omega arith)) (then_exact int_exact (then_exact int_exact (array_exact 16 unsigned_int (omega arith) int_exact)))))
 
-security_takes : TakesBy security_told (λ n. n < 2 ^ 32) (on 0 void (λ _. NoSecurity) (on 1 system_credential SystemSecurity no_other))
+security_takes : TakesBy encoded_security (λ n. n < 2 ^ 32) (on 0 void (λ _. NoSecurity) (on 1 system_credential SystemSecurity no_other))
 security_takes =
-    on_takes security_told _ 0 void (λ _. NoSecurity) _ void_exact (λ _ _. refl)
-    (on_takes security_told _ 1 system_credential SystemSecurity _ system_credential_exact (λ _ _. refl)
-    (no_other_takes security_told _))
+    on_takes encoded_security _ 0 void (λ _. NoSecurity) _ void_exact (λ _ _. refl)
+    (on_takes encoded_security _ 1 system_credential SystemSecurity _ system_credential_exact (λ _ _. refl)
+    (no_other_takes encoded_security _))
 
-security_again : AgainBy security_told (on 0 void (λ _. NoSecurity) (on 1 system_credential SystemSecurity no_other))
+security_again : AgainBy encoded_security (on 0 void (λ _. NoSecurity) (on 1 system_credential SystemSecurity no_other))
 security_again NoSecurity rest small fits = refl
 security_again (SystemSecurity credential) rest small fits = made_again system_credential SystemSecurity system_credential_exact credential rest fits
 

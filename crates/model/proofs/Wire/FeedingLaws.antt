@@ -5,19 +5,19 @@ use Rattle.std.proofs.lemmas.List.{append-nil, length-append, take_all}
 use Rattle.std.proofs.lemmas.Bool.{cases_lt}
 use Rattle.std.proofs.Math.Seq.{take-append_seam}
 use Rattle.xdr.specs.Laws.{IsBytes}
-use Rattle.model.specs.Wire.Record.{RecordLimits, RecordFault, Front, Partial, Refused, Whole, front, front_from, Stream, records, records_from, behind_front, fed, fed_by, IsSent, record_text, joined}
+use Rattle.model.specs.Wire.Record.{RecordLimits, RecordFault, Prefix, Partial, Refused, Whole, prefix, prefix_from, Stream, records, records_from, behind_prefix, fed, fed_by, IsSent, record_text, joined}
 use Rattle.model.specs.Wire.Rpc.{read_call, is_call_read}
 use Rattle.model.specs.Server.World.{Connection, Quiet, Waiting, Busy, Replied, Closed, arrived, arrives_at, taken_of, taken_at}
-use Rattle.model.specs.Wire.Feeding.{FeedStep, Feeds, Releases, Feeding, nothing_fed, front_taken, let_go, gone, after_step, after_steps, AreBytes, IsRefusedBehind, IsFed, EveryFeeding}
+use Rattle.model.specs.Wire.Feeding.{FeedStep, Feeds, Releases, Feeding, nothing_fed, prefix_taken, let_go, gone, after_step, after_steps, AreBytes, IsRefusedBehind, IsFed, EveryFeeding}
 use Rattle.model.proofs.Wire.RecordLaws.{records_by, fed_behind, every_fragmenting}
 use Rattle.model.proofs.Wire.RecordOnly.{only_sent}
 
 -- Bytes
 
-append_bytes : (front rest : List ℕ) → IsBytes front → IsBytes rest → IsBytes (front ++ rest)
-append_bytes [] rest front_are rest_are i = rest_are i
-append_bytes (byte ∷ front) rest front_are rest_are zero = front_are zero
-append_bytes (byte ∷ front) rest front_are rest_are (suc i) = append_bytes front rest (λ j. front_are (suc j)) rest_are i
+append_bytes : (prefix rest : List ℕ) → IsBytes prefix → IsBytes rest → IsBytes (prefix ++ rest)
+append_bytes [] rest prefix_are rest_are i = rest_are i
+append_bytes (byte ∷ prefix) rest prefix_are rest_are zero = prefix_are zero
+append_bytes (byte ∷ prefix) rest prefix_are rest_are (suc i) = append_bytes prefix rest (λ j. prefix_are (suc j)) rest_are i
 
 -- The end of a record's bytes within the last piece
 
@@ -58,9 +58,9 @@ ended_before (byte ∷ bytes) piece (first ∷ sent) rest same long =
 
 module _ (limits : RecordLimits) (small : limits.bytes < 2 ^ 31) where
   -- what is sent is found at the start of whatever begins with it
-  sent_front : (bytes one rest : List ℕ) (sent : IsSent limits bytes one rest) (behind : List ℕ)
-      → front limits (record_text sent.earlier sent.last ++ behind) ≡ Whole one behind
-  sent_front bytes one rest sent behind =
+  sent_prefix : (bytes one rest : List ℕ) (sent : IsSent limits bytes one rest) (behind : List ℕ)
+      → prefix limits (record_text sent.earlier sent.last ++ behind) ≡ Whole one behind
+  sent_prefix bytes one rest sent behind =
       let size : length (joined sent.earlier sent.last) ≤ limits.bytes = omega (arith, sent.size, ap length sent.whole) in
       every_fragmenting limits sent.earlier sent.last behind size (omega (arith, size, small)) sent.number
       ∙ ap (λ (r : List ℕ). Whole r behind) (sym sent.whole)
@@ -69,25 +69,25 @@ module _ (limits : RecordLimits) (small : limits.bytes < 2 ^ 31) where
   partial_not one behind same = cc
 
   -- the piece is taken up to the record's end
-  whole_front : (bytes piece one rest : List ℕ) → IsBytes (bytes ++ piece) → front limits bytes ≡ Partial → front limits (bytes ++ piece) ≡ Whole one rest
-      → front limits (bytes ++ take (length piece - length rest) piece) ≡ Whole one []
-  whole_front bytes piece one rest are partial whole =
+  whole_prefix : (bytes piece one rest : List ℕ) → IsBytes (bytes ++ piece) → prefix limits bytes ≡ Partial → prefix limits (bytes ++ piece) ≡ Whole one rest
+      → prefix limits (bytes ++ take (length piece - length rest) piece) ≡ Whole one []
+  whole_prefix bytes piece one rest are partial whole =
       by_length (only_sent limits (bytes ++ piece) one rest are whole) (cases_lt (length piece) (length rest))
     where
       by_length : IsSent limits (bytes ++ piece) one rest → (length piece < length rest) ⊎ (length rest ≤ length piece)
-          → front limits (bytes ++ take (length piece - length rest) piece) ≡ Whole one []
+          → prefix limits (bytes ++ take (length piece - length rest) piece) ≡ Whole one []
       by_length sent (inr short) =
           let text = record_text sent.earlier sent.last in
           let cut : bytes ++ take (length piece - length rest) piece ≡ text ++ [] = ends bytes piece text rest sent.sent short ∙ sym (append-nil text) in
-          ap (front limits) cut ∙ sent_front (bytes ++ piece) one rest sent []
+          ap (prefix limits) cut ∙ sent_prefix (bytes ++ piece) one rest sent []
       by_length sent (inl long) =
           let before = ended_before bytes piece (record_text sent.earlier sent.last) rest sent.sent long in
-          absurd (partial_not one before.0 (sym (ap (front limits) before.1 ∙ sent_front (bytes ++ piece) one rest sent before.0) ∙ partial))
+          absurd (partial_not one before.0 (sym (ap (prefix limits) before.1 ∙ sent_prefix (bytes ++ piece) one rest sent before.0) ∙ partial))
 
   -- What is kept from step to step: the law, and that the next record's bytes are part of one
 
   abbrev IsOpen : Connection → Type 0
-  IsOpen (Quiet bytes) = (front limits bytes ≡ Partial) × IsBytes bytes
+  IsOpen (Quiet bytes) = (prefix limits bytes ≡ Partial) × IsBytes bytes
   IsOpen connection = Unit {0}
 
   abbrev Keeps : Connection → (taken : List ℕ) → (released : List (List ℕ)) → Type 0
@@ -98,33 +98,33 @@ module _ (limits : RecordLimits) (small : limits.bytes < 2 ^ 31) where
 
   -- the records of the bytes with a piece after them
   further : (bytes taken : List ℕ) (released : List (List ℕ)) (piece : List ℕ) → records limits taken ≡ stream_of released bytes None
-      → (this : Front) → front limits (bytes ++ piece) ≡ this
+      → (this : Prefix) → prefix limits (bytes ++ piece) ≡ this
       → records limits (taken ++ piece) ≡ fed_by limits piece (stream_of released bytes None) None
-      × (records limits (bytes ++ piece) ≡ behind_front (records limits) (bytes ++ piece) this)
-  further bytes taken released piece is this front_is = (
+      × (records limits (bytes ++ piece) ≡ behind_prefix (records limits) (bytes ++ piece) this)
+  further bytes taken released piece is this prefix_is = (
     fed_behind limits (length taken) taken piece (omega arith) ∙ ap (λ (s : Stream). fed limits s piece) is,
-    records_by limits (length (bytes ++ piece)) (bytes ++ piece) (omega arith) ∙ ap (behind_front (records limits) (bytes ++ piece)) front_is,
+    records_by limits (length (bytes ++ piece)) (bytes ++ piece) (omega arith) ∙ ap (behind_prefix (records limits) (bytes ++ piece)) prefix_is,
   )
 
   abbrev joined_to : List (List ℕ) → Stream → Stream
   joined_to released more = record more { records = released ++ more.records }
 
   joins : (bytes taken : List ℕ) (released : List (List ℕ)) (piece : List ℕ) → records limits taken ≡ stream_of released bytes None
-      → (this : Front) → front limits (bytes ++ piece) ≡ this
-      → records limits (taken ++ piece) ≡ joined_to released (behind_front (records limits) (bytes ++ piece) this)
-  joins bytes taken released piece is this front_is =
-      let both = further bytes taken released piece is this front_is in
+      → (this : Prefix) → prefix limits (bytes ++ piece) ≡ this
+      → records limits (taken ++ piece) ≡ joined_to released (behind_prefix (records limits) (bytes ++ piece) this)
+  joins bytes taken released piece is this prefix_is =
+      let both = further bytes taken released piece is this prefix_is in
       both.0 ∙ ap (joined_to released) both.1
 
   whole_feeds : (bytes taken : List ℕ) (released : List (List ℕ)) (piece one rest : List ℕ) → IsBytes bytes → IsBytes piece
-      → front limits bytes ≡ Partial → records limits taken ≡ stream_of released bytes None → front limits (bytes ++ piece) ≡ Whole one rest
+      → prefix limits bytes ≡ Partial → records limits taken ≡ stream_of released bytes None → prefix limits (bytes ++ piece) ≡ Whole one rest
       → (is_call : Bool) → is_call_read (read_call one) ≡ is_call
       → Keeps (cond is_call (Waiting one) Closed)
-      (taken ++ front_taken piece (taken_of piece (Whole one rest) (cond is_call (Waiting one) Closed))) released
+      (taken ++ prefix_taken piece (taken_of piece (Whole one rest) (cond is_call (Waiting one) Closed))) released
   unfolding records_from
   whole_feeds bytes taken released piece one rest bytes_are piece_are partial is whole true call =
-      let front_is = whole_front bytes piece one rest (append_bytes bytes piece bytes_are piece_are) partial whole in
-      (joins bytes taken released (take (length piece - length rest) piece) is (Whole one []) front_is, tt)
+      let prefix_is = whole_prefix bytes piece one rest (append_bytes bytes piece bytes_are piece_are) partial whole in
+      (joins bytes taken released (take (length piece - length rest) piece) is (Whole one []) prefix_is, tt)
   whole_feeds bytes taken released piece one rest bytes_are piece_are partial is whole false no_call =
       let all = joins bytes taken released piece is (Whole one rest) whole in (
         record {
@@ -136,16 +136,16 @@ module _ (limits : RecordLimits) (small : limits.bytes < 2 ^ 31) where
       )
 
   quiet_feeds : (bytes taken : List ℕ) (released : List (List ℕ)) (piece : List ℕ) → IsBytes bytes → IsBytes piece
-      → front limits bytes ≡ Partial → records limits taken ≡ stream_of released bytes None → (this : Front) → front limits (bytes ++ piece) ≡ this
-      → Keeps (arrived (bytes ++ piece) this) (taken ++ front_taken piece (taken_of piece this (arrived (bytes ++ piece) this))) released
-  quiet_feeds bytes taken released piece bytes_are piece_are partial is Partial front_is =
-      let all = joins bytes taken released piece is Partial front_is in
+      → prefix limits bytes ≡ Partial → records limits taken ≡ stream_of released bytes None → (this : Prefix) → prefix limits (bytes ++ piece) ≡ this
+      → Keeps (arrived (bytes ++ piece) this) (taken ++ prefix_taken piece (taken_of piece this (arrived (bytes ++ piece) this))) released
+  quiet_feeds bytes taken released piece bytes_are piece_are partial is Partial prefix_is =
+      let all = joins bytes taken released piece is Partial prefix_is in
       let none : stream_of (released ++ []) (bytes ++ piece) None ≡ stream_of released (bytes ++ piece) None =
       ap (λ (l : List (List ℕ)). stream_of l (bytes ++ piece) None) (append-nil released) in
       let whole_piece : take (length piece) piece ≡ piece = take_all (length piece) piece (omega arith) in
-      (ap (λ (p : List ℕ). records limits (taken ++ p)) whole_piece ∙ (all ∙ none), (front_is, append_bytes bytes piece bytes_are piece_are))
-  quiet_feeds bytes taken released piece bytes_are piece_are partial is (Refused fault) front_is =
-      let all = joins bytes taken released piece is (Refused fault) front_is in (
+      (ap (λ (p : List ℕ). records limits (taken ++ p)) whole_piece ∙ (all ∙ none), (prefix_is, append_bytes bytes piece bytes_are piece_are))
+  quiet_feeds bytes taken released piece bytes_are piece_are partial is (Refused fault) prefix_is =
+      let all = joins bytes taken released piece is (Refused fault) prefix_is in (
         record {
           more = [];
           behind = ap (λ (s : Stream). s.records) all;
@@ -153,8 +153,8 @@ module _ (limits : RecordLimits) (small : limits.bytes < 2 ^ 31) where
         },
         tt,
       )
-  quiet_feeds bytes taken released piece bytes_are piece_are partial is (Whole one rest) front_is =
-      whole_feeds bytes taken released piece one rest bytes_are piece_are partial is front_is (is_call_read (read_call one)) refl
+  quiet_feeds bytes taken released piece bytes_are piece_are partial is (Whole one rest) prefix_is =
+      whole_feeds bytes taken released piece one rest bytes_are piece_are partial is prefix_is (is_call_read (read_call one)) refl
 
   -- what is refused stays so
 
@@ -186,10 +186,10 @@ module _ (limits : RecordLimits) (small : limits.bytes < 2 ^ 31) where
       }
 
   feeds : (connection : Connection) (taken : List ℕ) (released : List (List ℕ)) (piece : List ℕ) → IsBytes piece → Keeps connection taken released
-      → Keeps (arrives_at limits piece connection) (taken ++ front_taken piece (taken_at limits piece connection)) released
+      → Keeps (arrives_at limits piece connection) (taken ++ prefix_taken piece (taken_at limits piece connection)) released
   unfolding taken_at
   feeds (Quiet bytes) taken released piece piece_are keeps =
-      quiet_feeds bytes taken released piece keeps.1.1 piece_are keeps.1.0 keeps.0 (front limits (bytes ++ piece)) refl
+      quiet_feeds bytes taken released piece keeps.1.1 piece_are keeps.1.0 keeps.0 (prefix limits (bytes ++ piece)) refl
   feeds (Waiting request) taken released piece piece_are keeps = (ap (records limits) (append-nil taken) ∙ keeps.0, tt)
   feeds Closed taken released piece piece_are keeps = (
     subst (λ (s : Stream). IsRefusedBehind s released) (sym (fed_behind limits (length taken) taken piece (omega arith)))
@@ -201,7 +201,7 @@ module _ (limits : RecordLimits) (small : limits.bytes < 2 ^ 31) where
 
   releases : (connection : Connection) (taken : List ℕ) (released : List (List ℕ)) → Keeps connection taken released
       → Keeps (let_go connection) taken (released ++ gone connection)
-  unfolding front_from
+  unfolding prefix_from
   releases (Quiet bytes) taken released keeps = subst (Keeps (Quiet bytes) taken) (sym (append-nil released)) keeps
   releases (Waiting request) taken released keeps = (keeps.0, (refl, λ i. omega arith))
   releases Closed taken released keeps = subst (Keeps Closed taken) (sym (append-nil released)) keeps
@@ -217,7 +217,7 @@ module _ (limits : RecordLimits) (small : limits.bytes < 2 ^ 31) where
       each_step (after_step limits feeding Releases) steps are (releases feeding.connection feeding.taken feeding.released keeps)
 
   begins : Keeps (Quiet []) [] []
-  unfolding front_from records_from
+  unfolding prefix_from records_from
   begins = (refl, (refl, λ i. omega arith))
 
 pub every_feeding : EveryFeeding

@@ -5,7 +5,7 @@ use Rattle.std.proofs.lemmas.List.{take-append-le, drop-append-le}
 use Rattle.std.proofs.lemmas.Nat.{from_be_bytes-to_be_bytes_4}
 use Rattle.std.specs.List.{flat_map}
 use Rattle.std.specs.Int.{w32, from_be_bytes}
-use Rattle.model.specs.Wire.Record.{RecordLimits, RecordFault, Gathered, nothing_gathered, Fragment, Waits, Refuses, Brings, behind_header, fragment, Front, Partial, Refused, Whole, gathered_with, behind_fragment, front_from, front, Stream, behind_front, records_from, records, framed, top_bit, fragment_text, record_text, joined, EveryFragmenting, fed_by, fed, EveryCut, SentIsRead}
+use Rattle.model.specs.Wire.Record.{RecordLimits, RecordFault, Gathered, nothing_gathered, Fragment, Waits, Refuses, Brings, behind_header, fragment, Prefix, Partial, Refused, Whole, gathered_with, behind_fragment, prefix_from, prefix, Stream, behind_prefix, records_from, records, framed, top_bit, fragment_text, record_text, joined, EveryFragmenting, fed_by, fed, EveryCut, SentIsRead}
 
 -- What more bytes after it make of a fragment
 
@@ -31,7 +31,7 @@ body_extends size is_last bytes more false e =
     let here : size ≤ length bytes = ltb-false (length bytes) size e in
     let long = long_enough size bytes more e in
     ap (λ (b : Bool). cond b Waits (Brings (take size (bytes ++ more)) is_last (drop size (bytes ++ more)))) long
-    ∙ ap (λ (front : List ℕ). Brings front is_last (drop size (bytes ++ more))) (take-append-le size bytes more here)
+    ∙ ap (λ (prefix : List ℕ). Brings prefix is_last (drop size (bytes ++ more))) (take-append-le size bytes more here)
     ∙ ap (λ (rest : List ℕ). Brings (take size bytes) is_last rest) (drop-append-le size bytes more here)
 
 header_extends : (limits : RecordLimits) (gathered : Gathered) (header : ℕ) (bytes more : List ℕ)
@@ -51,7 +51,7 @@ fragment_by limits gathered bytes more false e =
     let header = from_be_bytes w32 (take 4 bytes) in
     let is : fragment limits gathered (bytes ++ more) ≡ behind_header limits gathered header (drop 4 bytes ++ more) =
     ap (λ (b : Bool). cond b Waits (behind_header limits gathered (from_be_bytes w32 (take 4 (bytes ++ more))) (drop 4 (bytes ++ more)))) (long_enough 4 bytes more e)
-    ∙ ap (λ (front : List ℕ). behind_header limits gathered (from_be_bytes w32 front) (drop 4 (bytes ++ more))) (take-append-le 4 bytes more here)
+    ∙ ap (λ (prefix : List ℕ). behind_header limits gathered (from_be_bytes w32 prefix) (drop 4 (bytes ++ more))) (take-append-le 4 bytes more here)
     ∙ ap (λ (rest : List ℕ). behind_header limits gathered header rest) (drop-append-le 4 bytes more here) in
     subst (λ (after : Fragment). Extends more (behind_header limits gathered header (drop 4 bytes)) after) (sym is)
     (header_extends limits gathered header (drop 4 bytes) more)
@@ -91,12 +91,12 @@ fragment_shrinks limits gathered bytes =
 
 -- What more bytes after it make of a record
 
-abbrev pub Follows : List ℕ → Front → Front → Type 0
+abbrev pub Follows : List ℕ → Prefix → Prefix → Type 0
 Follows more Partial after = Unit {0}
 Follows more (Refused fault) after = after ≡ Refused fault
 Follows more (Whole bytes rest) after = after ≡ Whole bytes (rest ++ more)
 
-behind_follows : (more : List ℕ) (further further' : Gathered → List ℕ → Front) (gathered : Gathered) (most : ℕ)
+behind_follows : (more : List ℕ) (further further' : Gathered → List ℕ → Prefix) (gathered : Gathered) (most : ℕ)
     → ((next : Gathered) (rest : List ℕ) → length rest + 4 ≤ most → Follows more (further next rest) (further' next (rest ++ more)))
     → (this after : Fragment) → Extends more this after → Shrinks most this
     → Follows more (behind_fragment further gathered this) (behind_fragment further' gathered after)
@@ -104,7 +104,7 @@ behind_follows more further further' gathered most step Waits after extends shri
 behind_follows more further further' gathered most step (Refuses fault) after extends shrinks = ap (behind_fragment further' gathered) extends
 behind_follows more further further' gathered most step (Brings bytes true rest) after extends shrinks = ap (behind_fragment further' gathered) extends
 behind_follows more further further' gathered most step (Brings bytes false rest) after extends shrinks =
-    subst (λ (front : Fragment). Follows more (further (gathered_with gathered bytes) rest) (behind_fragment further' gathered front)) (sym extends)
+    subst (λ (prefix : Fragment). Follows more (further (gathered_with gathered bytes) rest) (behind_fragment further' gathered prefix)) (sym extends)
     (step (gathered_with gathered bytes) rest shrinks)
 
 waits_at_nothing : (limits : RecordLimits) (gathered : Gathered) (bytes : List ℕ) → length bytes ≤ 0 → fragment limits gathered bytes ≡ Waits
@@ -113,27 +113,27 @@ waits_at_nothing limits gathered bytes h =
     ap (λ (b : Bool). cond b Waits (behind_header limits gathered (from_be_bytes w32 (take 4 bytes)) (drop 4 bytes)))
     (lt-ltb (length bytes) 4 (omega arith))
 
-pub front_follows : (limits : RecordLimits) (n m : ℕ) (gathered : Gathered) (bytes more : List ℕ) → length (bytes ++ more) ≤ m
-    → Follows more (front_from limits n gathered bytes) (front_from limits m gathered (bytes ++ more))
-unfolding front_from
-front_follows limits zero m gathered bytes more h = tt
-front_follows limits (suc n) zero gathered bytes more h =
+pub prefix_follows : (limits : RecordLimits) (n m : ℕ) (gathered : Gathered) (bytes more : List ℕ) → length (bytes ++ more) ≤ m
+    → Follows more (prefix_from limits n gathered bytes) (prefix_from limits m gathered (bytes ++ more))
+unfolding prefix_from
+prefix_follows limits zero m gathered bytes more h = tt
+prefix_follows limits (suc n) zero gathered bytes more h =
     let none : length bytes ≤ 0 = omega (arith, length-append bytes more) in
-    subst (λ (this : Fragment). Follows more (behind_fragment (front_from limits n) gathered this) Partial) (sym (waits_at_nothing limits gathered bytes none)) tt
-front_follows limits (suc n) (suc m) gathered bytes more h =
-    behind_follows more (front_from limits n) (front_from limits m) gathered (length bytes)
-    (λ next rest less. front_follows limits n m next rest more (omega (arith, length-append rest more, length-append bytes more)))
+    subst (λ (this : Fragment). Follows more (behind_fragment (prefix_from limits n) gathered this) Partial) (sym (waits_at_nothing limits gathered bytes none)) tt
+prefix_follows limits (suc n) (suc m) gathered bytes more h =
+    behind_follows more (prefix_from limits n) (prefix_from limits m) gathered (length bytes)
+    (λ next rest less. prefix_follows limits n m next rest more (omega (arith, length-append rest more, length-append bytes more)))
     (fragment limits gathered bytes) (fragment limits gathered (bytes ++ more))
     (fragment_extends limits gathered bytes more) (fragment_shrinks limits gathered bytes)
 
 -- A record takes bytes
 
-abbrev Leaves : ℕ → Front → Type 0
+abbrev Leaves : ℕ → Prefix → Type 0
 Leaves most Partial = Unit {0}
 Leaves most (Refused fault) = Unit {0}
 Leaves most (Whole bytes rest) = length rest + 4 ≤ most
 
-behind_leaves : (further : Gathered → List ℕ → Front) (gathered : Gathered) (most : ℕ) → ((next : Gathered) (rest : List ℕ) → Leaves (length rest) (further next rest))
+behind_leaves : (further : Gathered → List ℕ → Prefix) (gathered : Gathered) (most : ℕ) → ((next : Gathered) (rest : List ℕ) → Leaves (length rest) (further next rest))
     → (this : Fragment) → Shrinks most this → Leaves most (behind_fragment further gathered this)
 behind_leaves further gathered most step Waits shrinks = tt
 behind_leaves further gathered most step (Refuses fault) shrinks = tt
@@ -141,49 +141,49 @@ behind_leaves further gathered most step (Brings bytes true rest) shrinks = shri
 behind_leaves further gathered most step (Brings bytes false rest) shrinks =
     leaves_more (length rest) most (further (gathered_with gathered bytes) rest) (omega arith) (step (gathered_with gathered bytes) rest)
   where
-    leaves_more : (less most : ℕ) (front : Front) → less ≤ most → Leaves less front → Leaves most front
+    leaves_more : (less most : ℕ) (prefix : Prefix) → less ≤ most → Leaves less prefix → Leaves most prefix
     leaves_more less most Partial h leaves = tt
     leaves_more less most (Refused fault) h leaves = tt
     leaves_more less most (Whole bytes rest) h leaves = omega arith
 
-front_leaves : (limits : RecordLimits) (n : ℕ) (gathered : Gathered) (bytes : List ℕ) → Leaves (length bytes) (front_from limits n gathered bytes)
-unfolding front_from
-front_leaves limits zero gathered bytes = tt
-front_leaves limits (suc n) gathered bytes =
-    behind_leaves (front_from limits n) gathered (length bytes) (λ next rest. front_leaves limits n next rest) (fragment limits gathered bytes) (fragment_shrinks limits gathered bytes)
+prefix_leaves : (limits : RecordLimits) (n : ℕ) (gathered : Gathered) (bytes : List ℕ) → Leaves (length bytes) (prefix_from limits n gathered bytes)
+unfolding prefix_from
+prefix_leaves limits zero gathered bytes = tt
+prefix_leaves limits (suc n) gathered bytes =
+    behind_leaves (prefix_from limits n) gathered (length bytes) (λ next rest. prefix_leaves limits n next rest) (fragment limits gathered bytes) (fragment_shrinks limits gathered bytes)
 
 -- The records of a stream, whatever the fuel
 
 behind_same : (further further' : List ℕ → Stream) (bytes : List ℕ) (most : ℕ) → ((rest : List ℕ) → length rest + 4 ≤ most → further rest ≡ further' rest)
-    → (this : Front) → Leaves most this → behind_front further bytes this ≡ behind_front further' bytes this
+    → (this : Prefix) → Leaves most this → behind_prefix further bytes this ≡ behind_prefix further' bytes this
 behind_same further further' bytes most step Partial leaves = refl
 behind_same further further' bytes most step (Refused fault) leaves = refl
 behind_same further further' bytes most step (Whole one rest) leaves =
     ap (λ (stream : Stream). record stream { records = one ∷ stream.records }) (step rest leaves)
 
-pub partial_at_nothing : (limits : RecordLimits) (n : ℕ) (gathered : Gathered) (bytes : List ℕ) → length bytes ≤ 0 → front_from limits n gathered bytes ≡ Partial
-unfolding front_from
+pub partial_at_nothing : (limits : RecordLimits) (n : ℕ) (gathered : Gathered) (bytes : List ℕ) → length bytes ≤ 0 → prefix_from limits n gathered bytes ≡ Partial
+unfolding prefix_from
 partial_at_nothing limits zero gathered bytes h = refl
-partial_at_nothing limits (suc n) gathered bytes h = ap (behind_fragment (front_from limits n) gathered) (waits_at_nothing limits gathered bytes h)
+partial_at_nothing limits (suc n) gathered bytes h = ap (behind_fragment (prefix_from limits n) gathered) (waits_at_nothing limits gathered bytes h)
 
 same_records : (limits : RecordLimits) (n m : ℕ) (bytes : List ℕ) → length bytes ≤ n → length bytes ≤ m → records_from limits n bytes ≡ records_from limits m bytes
 unfolding records_from
 same_records limits zero zero bytes h k = refl
-same_records limits zero (suc m) bytes h k = sym (ap (behind_front (records_from limits m) bytes) (partial_at_nothing limits (length bytes) nothing_gathered bytes h))
-same_records limits (suc n) zero bytes h k = ap (behind_front (records_from limits n) bytes) (partial_at_nothing limits (length bytes) nothing_gathered bytes k)
+same_records limits zero (suc m) bytes h k = sym (ap (behind_prefix (records_from limits m) bytes) (partial_at_nothing limits (length bytes) nothing_gathered bytes h))
+same_records limits (suc n) zero bytes h k = ap (behind_prefix (records_from limits n) bytes) (partial_at_nothing limits (length bytes) nothing_gathered bytes k)
 same_records limits (suc n) (suc m) bytes h k =
     behind_same (records_from limits n) (records_from limits m) bytes (length bytes)
     (λ rest less. same_records limits n m rest (omega arith) (omega arith))
-    (front limits bytes) (front_leaves limits (length bytes) nothing_gathered bytes)
+    (prefix limits bytes) (prefix_leaves limits (length bytes) nothing_gathered bytes)
 
 -- from the front on
-pub records_by : (limits : RecordLimits) (n : ℕ) (bytes : List ℕ) → length bytes ≤ n → records_from limits n bytes ≡ behind_front (records limits) bytes (front limits bytes)
+pub records_by : (limits : RecordLimits) (n : ℕ) (bytes : List ℕ) → length bytes ≤ n → records_from limits n bytes ≡ behind_prefix (records limits) bytes (prefix limits bytes)
 unfolding records_from
-records_by limits zero bytes h = sym (ap (behind_front (records limits) bytes) (partial_at_nothing limits (length bytes) nothing_gathered bytes h))
+records_by limits zero bytes h = sym (ap (behind_prefix (records limits) bytes) (partial_at_nothing limits (length bytes) nothing_gathered bytes h))
 records_by limits (suc n) bytes h =
     behind_same (records_from limits n) (records limits) bytes (length bytes)
     (λ rest less. same_records limits n (length rest) rest (omega arith) (omega arith))
-    (front limits bytes) (front_leaves limits (length bytes) nothing_gathered bytes)
+    (prefix limits bytes) (prefix_leaves limits (length bytes) nothing_gathered bytes)
 
 -- A piece that follows
 
@@ -193,13 +193,13 @@ fed_one limits one piece stream (Some fault) = refl
 fed_one limits one piece stream None = refl
 
 behind_fed : (limits : RecordLimits) (bytes piece : List ℕ) (most : ℕ) → ((rest : List ℕ) → length rest + 4 ≤ most → records limits (rest ++ piece) ≡ fed limits (records limits rest) piece)
-    → (this after : Front) → front limits (bytes ++ piece) ≡ after → Follows piece this after → Leaves most this
-    → behind_front (records limits) (bytes ++ piece) after ≡ fed limits (behind_front (records limits) bytes this) piece
+    → (this after : Prefix) → prefix limits (bytes ++ piece) ≡ after → Follows piece this after → Leaves most this
+    → behind_prefix (records limits) (bytes ++ piece) after ≡ fed limits (behind_prefix (records limits) bytes this) piece
 behind_fed limits bytes piece most step Partial after is follows leaves =
-    ap (behind_front (records limits) (bytes ++ piece)) (sym is) ∙ sym (records_by limits (length (bytes ++ piece)) (bytes ++ piece) (omega arith))
-behind_fed limits bytes piece most step (Refused fault) after is follows leaves = ap (behind_front (records limits) (bytes ++ piece)) follows
+    ap (behind_prefix (records limits) (bytes ++ piece)) (sym is) ∙ sym (records_by limits (length (bytes ++ piece)) (bytes ++ piece) (omega arith))
+behind_fed limits bytes piece most step (Refused fault) after is follows leaves = ap (behind_prefix (records limits) (bytes ++ piece)) follows
 behind_fed limits bytes piece most step (Whole one rest) after is follows leaves =
-    ap (behind_front (records limits) (bytes ++ piece)) follows
+    ap (behind_prefix (records limits) (bytes ++ piece)) follows
     ∙ ap (λ (stream : Stream). record stream { records = one ∷ stream.records }) (step rest leaves)
     ∙ sym (fed_one limits one piece (records limits rest) (records limits rest).fault)
 
@@ -208,9 +208,9 @@ fed_with : (limits : RecordLimits) (bytes piece : List ℕ) → ((rest : List �
 fed_with limits bytes piece step =
     records_by limits (length (bytes ++ piece)) (bytes ++ piece) (omega arith)
     ∙ behind_fed limits bytes piece (length bytes) step
-    (front limits bytes) (front limits (bytes ++ piece)) refl
-    (front_follows limits (length bytes) (length (bytes ++ piece)) nothing_gathered bytes piece (omega arith))
-    (front_leaves limits (length bytes) nothing_gathered bytes)
+    (prefix limits bytes) (prefix limits (bytes ++ piece)) refl
+    (prefix_follows limits (length bytes) (length (bytes ++ piece)) nothing_gathered bytes piece (omega arith))
+    (prefix_leaves limits (length bytes) nothing_gathered bytes)
     ∙ ap (λ (stream : Stream). fed limits stream piece) (sym (records_by limits (length bytes) bytes (omega arith)))
 
 pub fed_behind : (limits : RecordLimits) (n : ℕ) (bytes piece : List ℕ) → length bytes ≤ n → records limits (bytes ++ piece) ≡ fed limits (records limits bytes) piece
@@ -244,7 +244,7 @@ sent_header limits bytes rest small short some =
     ∙ if_false _ _ _ (le-ltb (length (bytes ++ rest)) ((2 ^ 31 + length bytes) % 2 ^ 31) (omega (arith, length-append bytes rest)))
     ∙ ap (λ (n : ℕ). Brings (take n (bytes ++ rest)) (nat_le (2 ^ 31) (2 ^ 31 + length bytes)) (drop n (bytes ++ rest))) size
     ∙ ap (λ (b : Bool). Brings (take (length bytes) (bytes ++ rest)) b (drop (length bytes) (bytes ++ rest))) (le-leb (2 ^ 31) (2 ^ 31 + length bytes) (omega arith))
-    ∙ ap (λ (front : List ℕ). Brings front true (drop (length bytes) (bytes ++ rest))) (take_at bytes rest (length bytes) refl)
+    ∙ ap (λ (prefix : List ℕ). Brings prefix true (drop (length bytes) (bytes ++ rest))) (take_at bytes rest (length bytes) refl)
     ∙ ap (λ (left : List ℕ). Brings bytes true left) (drop_at bytes rest (length bytes) refl)
 
 sent_fragment : (limits : RecordLimits) (bytes rest : List ℕ) → length bytes ≤ limits.bytes → length bytes < 2 ^ 31 → 0 < limits.fragments
@@ -255,15 +255,15 @@ sent_fragment limits bytes rest small short some =
     ∙ ap (λ (header : ℕ). behind_header limits nothing_gathered header (bytes ++ rest)) (from_be_bytes-to_be_bytes_4 (2 ^ 31 + length bytes) (omega arith))
     ∙ sent_header limits bytes rest small short some
 
-front_one : (limits : RecordLimits) (n : ℕ) (all bytes rest : List ℕ) → fragment limits nothing_gathered all ≡ Brings bytes true rest
-    → front_from limits (suc n) nothing_gathered all ≡ Whole bytes rest
-unfolding front_from
-front_one limits n all bytes rest e = ap (behind_fragment (front_from limits n) nothing_gathered) e
+prefix_one : (limits : RecordLimits) (n : ℕ) (all bytes rest : List ℕ) → fragment limits nothing_gathered all ≡ Brings bytes true rest
+    → prefix_from limits (suc n) nothing_gathered all ≡ Whole bytes rest
+unfolding prefix_from
+prefix_one limits n all bytes rest e = ap (behind_fragment (prefix_from limits n) nothing_gathered) e
 
 pub sent_is_read : SentIsRead
 unfolding framed
 sent_is_read limits bytes rest small short some =
-    front_one limits (suc (suc (suc (length (bytes ++ rest))))) (framed bytes ++ rest) bytes rest (sent_fragment limits bytes rest small short some)
+    prefix_one limits (suc (suc (suc (length (bytes ++ rest))))) (framed bytes ++ rest) bytes rest (sent_fragment limits bytes rest small short some)
 
 -- However it is fragmented
 
@@ -290,7 +290,7 @@ header_brings limits gathered is_last bytes rest small short some =
     ∙ if_false _ _ _ (le-ltb (length (bytes ++ rest)) ((top_bit is_last + length bytes) % 2 ^ 31) (omega (arith, size, length-append bytes rest)))
     ∙ ap (λ (n : ℕ). Brings (take n (bytes ++ rest)) (nat_le (2 ^ 31) (top_bit is_last + length bytes)) (drop n (bytes ++ rest))) size
     ∙ ap (λ (b : Bool). Brings (take (length bytes) (bytes ++ rest)) b (drop (length bytes) (bytes ++ rest))) (top_is is_last (length bytes) short)
-    ∙ ap (λ (front : List ℕ). Brings front is_last (drop (length bytes) (bytes ++ rest))) (take_at bytes rest (length bytes) refl)
+    ∙ ap (λ (prefix : List ℕ). Brings prefix is_last (drop (length bytes) (bytes ++ rest))) (take_at bytes rest (length bytes) refl)
     ∙ ap (λ (left : List ℕ). Brings bytes is_last left) (drop_at bytes rest (length bytes) refl)
 
 fragment_brings : (limits : RecordLimits) (gathered : Gathered) (is_last : Bool) (bytes rest : List ℕ) → length gathered.bytes + length bytes ≤ limits.bytes → length bytes < 2 ^ 31
@@ -301,20 +301,20 @@ fragment_brings limits gathered is_last bytes rest small short some =
     ∙ ap (λ (header : ℕ). behind_header limits gathered header (bytes ++ rest)) (from_be_bytes-to_be_bytes_4 (top_bit is_last + length bytes) (top_fits is_last (length bytes) short))
     ∙ header_brings limits gathered is_last bytes rest small short some
 
-front_joins : (limits : RecordLimits) (n : ℕ) (gathered : Gathered) (earlier : List (List ℕ)) (last rest : List ℕ) → length earlier < n
+prefix_joins : (limits : RecordLimits) (n : ℕ) (gathered : Gathered) (earlier : List (List ℕ)) (last rest : List ℕ) → length earlier < n
     → length gathered.bytes + length (joined earlier last) ≤ limits.bytes → length (joined earlier last) < 2 ^ 31 → gathered.fragments + length earlier < limits.fragments
-    → front_from limits n gathered (record_text earlier last ++ rest) ≡ Whole (gathered.bytes ++ joined earlier last) rest
-unfolding front_from
-front_joins limits zero gathered earlier last rest fuel small short some = absurd (omega arith)
-front_joins limits (suc n) gathered [] last rest fuel small short some =
-    ap (behind_fragment (front_from limits n) gathered) (fragment_brings limits gathered true last rest small short (omega arith))
-front_joins limits (suc n) gathered (bytes ∷ earlier) last rest fuel small short some =
+    → prefix_from limits n gathered (record_text earlier last ++ rest) ≡ Whole (gathered.bytes ++ joined earlier last) rest
+unfolding prefix_from
+prefix_joins limits zero gathered earlier last rest fuel small short some = absurd (omega arith)
+prefix_joins limits (suc n) gathered [] last rest fuel small short some =
+    ap (behind_fragment (prefix_from limits n) gathered) (fragment_brings limits gathered true last rest small short (omega arith))
+prefix_joins limits (suc n) gathered (bytes ∷ earlier) last rest fuel small short some =
     let size = length-append bytes (joined earlier last) in
     let next = gathered_with gathered bytes in
-    ap (λ (all : List ℕ). front_from limits (suc n) gathered all) (append_assoc (fragment_text false bytes) (record_text earlier last) rest)
-    ∙ ap (behind_fragment (front_from limits n) gathered)
+    ap (λ (all : List ℕ). prefix_from limits (suc n) gathered all) (append_assoc (fragment_text false bytes) (record_text earlier last) rest)
+    ∙ ap (behind_fragment (prefix_from limits n) gathered)
     (fragment_brings limits gathered false bytes (record_text earlier last ++ rest) (omega (arith, size)) (omega (arith, size)) (omega arith))
-    ∙ front_joins limits n next earlier last rest (omega arith) (omega (arith, size, length-append gathered.bytes bytes)) (omega (arith, size)) (omega arith)
+    ∙ prefix_joins limits n next earlier last rest (omega arith) (omega (arith, size, length-append gathered.bytes bytes)) (omega (arith, size)) (omega arith)
     ∙ ap (λ (all : List ℕ). Whole all rest) (append_assoc gathered.bytes bytes (joined earlier last))
 
 enough : (earlier : List (List ℕ)) (last rest : List ℕ) → length earlier < length (record_text earlier last ++ rest)
@@ -327,4 +327,4 @@ enough (bytes ∷ earlier) last rest =
 
 pub every_fragmenting : EveryFragmenting
 every_fragmenting limits earlier last rest small short some =
-    front_joins limits (length (record_text earlier last ++ rest)) nothing_gathered earlier last rest (enough earlier last rest) (omega arith) short (omega arith)
+    prefix_joins limits (length (record_text earlier last ++ rest)) nothing_gathered earlier last rest (enough earlier last rest) (omega arith) short (omega arith)

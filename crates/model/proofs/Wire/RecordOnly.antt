@@ -4,7 +4,7 @@ use Rattle.std.specs.Int.{w32, to_be_bytes, from_be_bytes}
 use Rattle.xdr.specs.Laws.{IsBytes}
 use Rattle.xdr.proofs.Numbers.{wide32}
 use Rattle.xdr.proofs.Steps.{IsBytes-take, IsBytes-drop}
-use Rattle.model.specs.Wire.Record.{RecordLimits, RecordFault, RecordTooBig, TooManyFragments, Gathered, nothing_gathered, Fragment, Waits, Refuses, Brings, behind_header, fragment, Front, Partial, Whole, gathered_with, behind_fragment, front_from, front, top_bit, fragment_text, record_text, joined, OnlySent}
+use Rattle.model.specs.Wire.Record.{RecordLimits, RecordFault, RecordTooBig, TooManyFragments, Gathered, nothing_gathered, Fragment, Waits, Refuses, Brings, behind_header, fragment, Prefix, Partial, Whole, gathered_with, behind_fragment, prefix_from, prefix, top_bit, fragment_text, record_text, joined, OnlySent}
 
 -- A test that let a fragment through
 
@@ -45,13 +45,13 @@ brought_by limits gathered bytes part is_last rest are long e =
     let enough : size ≤ length (drop 4 bytes) = ltb-false (length (drop 4 bytes)) size three.0 in
     let four : 4 ≤ length bytes = ltb-false (length bytes) 4 long in
     let part_size : length part ≡ size = ap length (sym part_is) ∙ length_of_take size (drop 4 bytes) enough in
-    let front_bytes = IsBytes-take 4 bytes are in
-    let small : header < 2 ^ 32 = wide32.below (take 4 bytes) front_bytes in
-    let spelled : to_be_bytes w32 header ≡ take 4 bytes = wide32.back (take 4 bytes) (length_of_take 4 bytes four) front_bytes in
+    let prefix_bytes = IsBytes-take 4 bytes are in
+    let small : header < 2 ^ 32 = wide32.below (take 4 bytes) prefix_bytes in
+    let encoded : to_be_bytes w32 header ≡ take 4 bytes = wide32.back (take 4 bytes) (length_of_take 4 bytes four) prefix_bytes in
     let number : top_bit is_last + length part ≡ header = ap (λ (n : ℕ). top_bit is_last + n) part_size ∙ header_is header is_last small last_is in
     record {
       text = sym (take-append-drop 4 bytes)
-          ∙ ap (λ (all : List ℕ). all ++ drop 4 bytes) (sym spelled ∙ ap (to_be_bytes w32) (sym number))
+          ∙ ap (λ (all : List ℕ). all ++ drop 4 bytes) (sym encoded ∙ ap (to_be_bytes w32) (sym number))
           ∙ ap (λ (all : List ℕ). to_be_bytes w32 (top_bit is_last + length part) ++ all) (sym (take-append-drop size (drop 4 bytes)))
           ∙ ap (λ (all : List ℕ). to_be_bytes w32 (top_bit is_last + length part) ++ (all ++ drop size (drop 4 bytes))) part_is
           ∙ ap (λ (all : List ℕ). to_be_bytes w32 (top_bit is_last + length part) ++ (part ++ all)) rest_is
@@ -71,9 +71,9 @@ brought limits gathered bytes part is_last rest are e =
     brought_by limits gathered bytes part is_last rest are long.0 long.1
 
 -- the bytes after a fragment are bytes
-behind_bytes : (front rest bytes : List ℕ) → bytes ≡ front ++ rest → IsBytes bytes → IsBytes rest
-behind_bytes front rest bytes e are =
-    subst IsBytes (ap (drop (length front)) e ∙ drop_at front rest (length front) refl) (IsBytes-drop (length front) bytes are)
+behind_bytes : (prefix rest bytes : List ℕ) → bytes ≡ prefix ++ rest → IsBytes bytes → IsBytes rest
+behind_bytes prefix rest bytes e are =
+    subst IsBytes (ap (drop (length prefix)) e ∙ drop_at prefix rest (length prefix) refl) (IsBytes-drop (length prefix) bytes are)
 
 record SentFrom (limits : RecordLimits) (gathered : Gathered) (bytes one rest : List ℕ) : Type 0 where
   earlier : List (List ℕ)
@@ -86,7 +86,7 @@ record SentFrom (limits : RecordLimits) (gathered : Gathered) (bytes one rest : 
 partial_not : {A : Type 0} (one rest : List ℕ) → Partial ≡ Whole one rest → A
 partial_not one rest e = let never : ⊥ = cc in absurd never
 
-by_fragment : (limits : RecordLimits) (further : Gathered → List ℕ → Front) (gathered : Gathered) (bytes one rest : List ℕ) → IsBytes bytes
+by_fragment : (limits : RecordLimits) (further : Gathered → List ℕ → Prefix) (gathered : Gathered) (bytes one rest : List ℕ) → IsBytes bytes
     → ((next : Gathered) (more : List ℕ) → IsBytes more → further next more ≡ Whole one rest → SentFrom limits next more one rest)
     → (this : Fragment) → fragment limits gathered bytes ≡ this → behind_fragment further gathered this ≡ Whole one rest → SentFrom limits gathered bytes one rest
 by_fragment limits further gathered bytes one rest are step Waits is e = partial_not one rest e
@@ -119,12 +119,12 @@ by_fragment limits further gathered bytes one rest are step (Brings part false m
       number = omega arith;
     }
 
-sent_from : (limits : RecordLimits) (n : ℕ) (gathered : Gathered) (bytes one rest : List ℕ) → IsBytes bytes → front_from limits n gathered bytes ≡ Whole one rest
+sent_from : (limits : RecordLimits) (n : ℕ) (gathered : Gathered) (bytes one rest : List ℕ) → IsBytes bytes → prefix_from limits n gathered bytes ≡ Whole one rest
     → SentFrom limits gathered bytes one rest
-unfolding front_from
+unfolding prefix_from
 sent_from limits zero gathered bytes one rest are e = partial_not one rest e
 sent_from limits (suc n) gathered bytes one rest are e =
-    by_fragment limits (front_from limits n) gathered bytes one rest are
+    by_fragment limits (prefix_from limits n) gathered bytes one rest are
     (λ next more are_more e_more. sent_from limits n next more one rest are_more e_more)
     (fragment limits gathered bytes) refl e
 

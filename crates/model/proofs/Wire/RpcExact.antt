@@ -7,11 +7,11 @@ use Rattle.std.proofs.lemmas.List.{append-nil}
 use Rattle.xdr.specs.declared.refusal.Refusal.{Refusal}
 use Rattle.xdr.specs.Grammar.{Grammar, number, void, unsigned_int, ◌&◌}
 use Rattle.xdr.specs.Forms.{always}
-use Rattle.xdr.specs.Laws.{IsBytes, Exact, OneSpelling}
+use Rattle.xdr.specs.Laws.{IsBytes, Exact, OneEncoding}
 use Rattle.xdr.specs.Union.{on, no_other}
 use Rattle.xdr.proofs.Steps.{chosen, IsBytes-behind}
 use Rattle.xdr.proofs.Numbers.{int_exact}
-use Rattle.xdr.proofs.Sequences.{void_exact, then_exact, of_exact, one_spelling}
+use Rattle.xdr.proofs.Sequences.{void_exact, then_exact, of_exact, one_encoding}
 use Rattle.xdr.proofs.Passing.{always_exact}
 use Rattle.xdr.proofs.Opaques.{opaque_exact}
 use Rattle.xdr.proofs.Arrays.{array_exact}
@@ -19,7 +19,7 @@ use Rattle.xdr.proofs.Unions.{TakesBy, AgainBy, on_takes, no_other_takes, union_
 use Rattle.model.specs.Operations.Operation.{SystemCredential}
 use Rattle.model.specs.Wire.Rpc.{Call, NoCall, OtherVersion, Calls, read_call, behind_start, behind_version, call_start, call_header, opaque_auth, Reply, reply_text, credential_by}
 use Rattle.model.specs.Wire.Rpc as rpc
-use Rattle.model.specs.Wire.RpcGrammar.{CallHead, call_head, call_with, IsCall, IsOtherCall, OtherRpc, Unauthenticated, denial_told, denial, Tells, NoProgram, OtherProgram, NoProcedure, NoArguments, acceptance_told, accepted, Verdict, Accepts, Denies, verdict_told, ReplyHead, reply_head, verdict_of, result_of, head_of, alone, reply_of, reply_by, read_reply, ReadsCalls, ReadsReplies, ReadsCredentials}
+use Rattle.model.specs.Wire.RpcGrammar.{CallHead, call_head, call_with, IsCall, IsOtherCall, OtherRpc, Unauthenticated, encoded_denial, denial, Tells, NoProgram, OtherProgram, NoProcedure, NoArguments, encoded_acceptance, accepted, Verdict, Accepts, Denies, encoded_verdict, ReplyHead, reply_head, verdict_of, result_of, head_of, alone, reply_of, reply_by, read_reply, ReadsCalls, ReadsReplies, ReadsCredentials}
 use Rattle.model.specs.Wire.WireTypes.{system_credential}
 
 -- Calls
@@ -40,8 +40,8 @@ pub call_head_exact : Exact call_head
 call_head_exact = of_exact _ _ _ (λ _. refl) (λ _. refl)
     (then_exact int_exact (then_exact (always_int 0 (omega arith)) (then_exact (always_int 2 (omega arith)) call_header_exact)))
 
-pub one_call_head : OneSpelling call_head
-one_call_head = one_spelling call_head call_head_exact
+pub one_call_head : OneEncoding call_head
+one_call_head = one_encoding call_head call_head_exact
 
 -- the first three words, and what follows them
 
@@ -82,8 +82,8 @@ module _ (bytes : List ℕ) (bytes_are : IsBytes bytes) where
       record {
         head = headed xid header.0;
         fits = (small, (tt, (tt, t.0)));
-        spelled = text ∙ (ap (λ (b : List ℕ). three xid 0 2 ++ b) (t.1 ∙ ap (λ (b : List ℕ). call_header.spelling header.0 ++ b) body_is)
-            ∙ regroup (number w32 xid) (number w32 0) (number w32 2) (call_header.spelling header.0) call.body);
+        encoded = text ∙ (ap (λ (b : List ℕ). three xid 0 2 ++ b) (t.1 ∙ ap (λ (b : List ℕ). call_header.encoding header.0 ++ b) body_is)
+            ∙ regroup (number w32 xid) (number w32 0) (number w32 2) (call_header.encoding header.0) call.body);
         call_is = sym made ∙ ap (call_with (headed xid header.0)) body_is;
       }
 
@@ -130,7 +130,7 @@ module _ (bytes : List ℕ) (bytes_are : IsBytes bytes) where
             rest = start.1;
             fits = (subst (λ (x : ℕ). x < 2 ^ 32) xid_is t.0.0, (omega arith, t.0.1.1));
             other = eqb-false start.0.1.1 2 other.0;
-            spelled = t.1 ∙ (ap (λ (m : ℕ). three start.0.0 m start.0.1.1 ++ start.1) type_is
+            encoded = t.1 ∙ (ap (λ (m : ℕ). three start.0.0 m start.0.1.1 ++ start.1) type_is
                 ∙ ap (λ (x : ℕ). three x 0 start.0.1.1 ++ start.1) xid_is);
           }
     ]
@@ -144,19 +144,19 @@ module _ (bytes : List ℕ) (bytes_are : IsBytes bytes) where
 abbrev header_of : CallHead → Header
 header_of head = (head.program, (head.version, (head.procedure, (head.credential, head.verifier))))
 
-call_again : (head : CallHead) (body : List ℕ) → call_head.Fits head → read_call (call_head.spelling head ++ body) ≡ Calls (call_with head body)
+call_again : (head : CallHead) (body : List ℕ) → call_head.Fits head → read_call (call_head.encoding head ++ body) ≡ Calls (call_with head body)
 unfolding read_call
 call_again head body fits =
     let header = header_of head in
-    let behind = call_header.spelling header ++ body in
-    let text : call_head.spelling head ++ body ≡ three head.xid 0 2 ++ behind =
-    sym (regroup (number w32 head.xid) (number w32 0) (number w32 2) (call_header.spelling header) body) in
-    let start : call_start.read (call_head.spelling head ++ body) ≡ Ok ((head.xid, (0, 2)), behind) =
+    let behind = call_header.encoding header ++ body in
+    let text : call_head.encoding head ++ body ≡ three head.xid 0 2 ++ behind =
+    sym (regroup (number w32 head.xid) (number w32 0) (number w32 2) (call_header.encoding header) body) in
+    let start : call_start.read (call_head.encoding head ++ body) ≡ Ok ((head.xid, (0, 2)), behind) =
     ap call_start.read text ∙ call_start_exact.again (head.xid, (0, 2)) behind (fits.0, (omega arith, omega arith)) in
     ap behind_start start ∙ ap (behind_version head.xid) (call_header_exact.again header body fits.1.1.1)
 
 other_again : (xid version : ℕ) (rest : List ℕ) → call_start.Fits (xid, (0, version)) → version ≢ 2
-    → read_call (call_start.spelling (xid, (0, version)) ++ rest) ≡ OtherVersion xid
+    → read_call (call_start.encoding (xid, (0, version)) ++ rest) ≡ OtherVersion xid
 unfolding read_call
 other_again xid version rest fits other =
     ap behind_start (call_start_exact.again (xid, (0, version)) rest fits) ∙ rw (ne_eqb version 2 other) refl
@@ -166,11 +166,11 @@ unfolding read_call
 reads_calls = record {
   call = λ bytes call bytes_are. record {
     0 = by_start bytes bytes_are call (call_start.read bytes) refl;
-    1 = λ is. ap read_call is.spelled ∙ (call_again is.head call.body is.fits ∙ ap Calls (sym is.call_is));
+    1 = λ is. ap read_call is.encoded ∙ (call_again is.head call.body is.fits ∙ ap Calls (sym is.call_is));
   };
   other = λ bytes xid bytes_are. record {
     0 = by_other bytes bytes_are xid (call_start.read bytes) refl;
-    1 = λ is. ap read_call is.spelled ∙ other_again xid is.version is.rest is.fits is.other;
+    1 = λ is. ap read_call is.encoded ∙ other_again xid is.version is.rest is.fits is.other;
   };
 }
 
@@ -196,9 +196,9 @@ reads_credentials body known bytes_are = record {
   0 = λ is.
       let alone = known_alone (system_credential.read body) known is in
       let t = system_credential_exact.takes body known alone.0 bytes_are alone.1 in
-      (t.0, t.1 ∙ (ap (λ (r : List ℕ). system_credential.spelling known ++ r) alone.2 ∙ append-nil (system_credential.spelling known)));
+      (t.0, t.1 ∙ (ap (λ (r : List ℕ). system_credential.encoding known ++ r) alone.2 ∙ append-nil (system_credential.encoding known)));
   1 = λ is.
-      let text : body ≡ system_credential.spelling known ++ [] = is.1 ∙ sym (append-nil (system_credential.spelling known)) in
+      let text : body ≡ system_credential.encoding known ++ [] = is.1 ∙ sym (append-nil (system_credential.encoding known)) in
       ap credential_by (ap system_credential.read text ∙ system_credential_exact.again known [] is.0);
 }
 
@@ -210,30 +210,30 @@ versions k = always k unsigned_int & always k unsigned_int
 versions_exact : (k : ℕ) → k < 2 ^ 32 → Exact (versions k)
 versions_exact k small = then_exact (always_int k small) (always_int k small)
 
-denial_takes : TakesBy denial_told (λ n. n < 2 ^ 32) (on 0 (versions 2) (λ _. OtherRpc) (on 1 unsigned_int Unauthenticated no_other))
+denial_takes : TakesBy encoded_denial (λ n. n < 2 ^ 32) (on 0 (versions 2) (λ _. OtherRpc) (on 1 unsigned_int Unauthenticated no_other))
 denial_takes =
-    on_takes denial_told _ 0 (versions 2) (λ _. OtherRpc) _ (versions_exact 2 (omega arith)) (λ _ _. refl)
-    (on_takes denial_told _ 1 unsigned_int Unauthenticated _ int_exact (λ _ _. refl)
-    (no_other_takes denial_told _))
+    on_takes encoded_denial _ 0 (versions 2) (λ _. OtherRpc) _ (versions_exact 2 (omega arith)) (λ _ _. refl)
+    (on_takes encoded_denial _ 1 unsigned_int Unauthenticated _ int_exact (λ _ _. refl)
+    (no_other_takes encoded_denial _))
 
-denial_again : AgainBy denial_told (on 0 (versions 2) (λ _. OtherRpc) (on 1 unsigned_int Unauthenticated no_other))
+denial_again : AgainBy encoded_denial (on 0 (versions 2) (λ _. OtherRpc) (on 1 unsigned_int Unauthenticated no_other))
 denial_again OtherRpc rest small fits = made_again (versions 2) (λ _. OtherRpc) (versions_exact 2 (omega arith)) (tt, tt) rest fits
 denial_again (Unauthenticated stat) rest small fits = made_again unsigned_int Unauthenticated int_exact stat rest fits
 
 denial_exact : Exact denial
 denial_exact = union_exact _ _ denial_takes denial_again
 
-acceptance_takes : TakesBy acceptance_told (λ n. n < 2 ^ 32)
+acceptance_takes : TakesBy encoded_acceptance (λ n. n < 2 ^ 32)
     (on 0 void (λ _. Tells) (on 1 void (λ _. NoProgram) (on 2 (versions 4) (λ _. OtherProgram) (on 3 void (λ _. NoProcedure) (on 4 void (λ _. NoArguments) no_other)))))
 acceptance_takes =
-    on_takes acceptance_told _ 0 void (λ _. Tells) _ void_exact (λ _ _. refl)
-    (on_takes acceptance_told _ 1 void (λ _. NoProgram) _ void_exact (λ _ _. refl)
-    (on_takes acceptance_told _ 2 (versions 4) (λ _. OtherProgram) _ (versions_exact 4 (omega arith)) (λ _ _. refl)
-    (on_takes acceptance_told _ 3 void (λ _. NoProcedure) _ void_exact (λ _ _. refl)
-    (on_takes acceptance_told _ 4 void (λ _. NoArguments) _ void_exact (λ _ _. refl)
-    (no_other_takes acceptance_told _)))))
+    on_takes encoded_acceptance _ 0 void (λ _. Tells) _ void_exact (λ _ _. refl)
+    (on_takes encoded_acceptance _ 1 void (λ _. NoProgram) _ void_exact (λ _ _. refl)
+    (on_takes encoded_acceptance _ 2 (versions 4) (λ _. OtherProgram) _ (versions_exact 4 (omega arith)) (λ _ _. refl)
+    (on_takes encoded_acceptance _ 3 void (λ _. NoProcedure) _ void_exact (λ _ _. refl)
+    (on_takes encoded_acceptance _ 4 void (λ _. NoArguments) _ void_exact (λ _ _. refl)
+    (no_other_takes encoded_acceptance _)))))
 
-acceptance_again : AgainBy acceptance_told
+acceptance_again : AgainBy encoded_acceptance
     (on 0 void (λ _. Tells) (on 1 void (λ _. NoProgram) (on 2 (versions 4) (λ _. OtherProgram) (on 3 void (λ _. NoProcedure) (on 4 void (λ _. NoArguments) no_other)))))
 acceptance_again Tells rest small fits = refl
 acceptance_again NoProgram rest small fits = refl
@@ -245,13 +245,13 @@ accepted_exact : Exact accepted
 accepted_exact = of_exact _ _ _ (λ _. refl) (λ _. refl)
     (then_exact (always_int 0 (omega arith)) (then_exact (always_int 0 (omega arith)) (union_exact _ _ acceptance_takes acceptance_again)))
 
-verdict_takes : TakesBy verdict_told (λ n. n < 2 ^ 32) (on 0 accepted Accepts (on 1 denial Denies no_other))
+verdict_takes : TakesBy encoded_verdict (λ n. n < 2 ^ 32) (on 0 accepted Accepts (on 1 denial Denies no_other))
 verdict_takes =
-    on_takes verdict_told _ 0 accepted Accepts _ accepted_exact (λ _ _. refl)
-    (on_takes verdict_told _ 1 denial Denies _ denial_exact (λ _ _. refl)
-    (no_other_takes verdict_told _))
+    on_takes encoded_verdict _ 0 accepted Accepts _ accepted_exact (λ _ _. refl)
+    (on_takes encoded_verdict _ 1 denial Denies _ denial_exact (λ _ _. refl)
+    (no_other_takes encoded_verdict _))
 
-verdict_again : AgainBy verdict_told (on 0 accepted Accepts (on 1 denial Denies no_other))
+verdict_again : AgainBy encoded_verdict (on 0 accepted Accepts (on 1 denial Denies no_other))
 verdict_again (Accepts of) rest small fits = made_again accepted Accepts accepted_exact of rest fits
 verdict_again (Denies of) rest small fits = made_again denial Denies denial_exact of rest fits
 
@@ -259,19 +259,19 @@ pub reply_head_exact : Exact reply_head
 reply_head_exact = of_exact _ _ _ (λ _. refl) (λ _. refl)
     (then_exact int_exact (then_exact (always_int 1 (omega arith)) (union_exact _ _ verdict_takes verdict_again)))
 
-pub one_reply_head : OneSpelling reply_head
-one_reply_head = one_spelling reply_head reply_head_exact
+pub one_reply_head : OneEncoding reply_head
+one_reply_head = one_encoding reply_head reply_head_exact
 
 -- a reply is its header, followed by its result
-spelled_so : (xid : ℕ) (reply : Reply) → reply_text xid reply ≡ reply_head.spelling (head_of xid reply) ++ result_of reply
+encoded_so : (xid : ℕ) (reply : Reply) → reply_text xid reply ≡ reply_head.encoding (head_of xid reply) ++ result_of reply
 unfolding reply_text
-spelled_so xid rpc.VersionRefused = simp (append_assoc, append-nil)
-spelled_so xid (rpc.AuthRefused stat) = simp (append_assoc, append-nil)
-spelled_so xid rpc.ProgramUnavailable = simp (append_assoc, append-nil)
-spelled_so xid rpc.ProgramMismatch = simp (append_assoc, append-nil)
-spelled_so xid rpc.ProcedureUnavailable = simp (append_assoc, append-nil)
-spelled_so xid rpc.GarbageArguments = simp (append_assoc, append-nil)
-spelled_so xid (rpc.Success result) = simp (append_assoc, append-nil)
+encoded_so xid rpc.VersionRefused = simp (append_assoc, append-nil)
+encoded_so xid (rpc.AuthRefused stat) = simp (append_assoc, append-nil)
+encoded_so xid rpc.ProgramUnavailable = simp (append_assoc, append-nil)
+encoded_so xid rpc.ProgramMismatch = simp (append_assoc, append-nil)
+encoded_so xid rpc.ProcedureUnavailable = simp (append_assoc, append-nil)
+encoded_so xid rpc.GarbageArguments = simp (append_assoc, append-nil)
+encoded_so xid (rpc.Success result) = simp (append_assoc, append-nil)
 
 alone_is : (one reply : Reply) (rest : List ℕ) → result_of one ≡ [] → alone one rest ≡ Some reply → (verdict_of reply ≡ verdict_of one) × (result_of reply ≡ rest)
 alone_is one reply [] short is =
@@ -324,8 +324,8 @@ by_reply bytes bytes_are xid reply (Ok head) read is =
     let head_is : head.0 ≡ head_of xid reply =
     ap (λ (x : ℕ). at x head.0.verdict) told.0 ∙ ap (at xid) (sym parts.0) in (
       subst reply_head.Fits head_is t.0,
-      t.1 ∙ (ap (λ (h : ReplyHead). reply_head.spelling h ++ head.1) head_is
-          ∙ (ap (λ (r : List ℕ). reply_head.spelling (head_of xid reply) ++ r) (sym parts.1) ∙ sym (spelled_so xid reply))),
+      t.1 ∙ (ap (λ (h : ReplyHead). reply_head.encoding h ++ head.1) head_is
+          ∙ (ap (λ (r : List ℕ). reply_head.encoding (head_of xid reply) ++ r) (sym parts.1) ∙ sym (encoded_so xid reply))),
     )
   where
     at : ℕ → Verdict → ReplyHead
@@ -336,7 +336,7 @@ unfolding read_reply
 reads_replies bytes xid reply bytes_are = record {
   0 = by_reply bytes bytes_are xid reply (reply_head.read bytes) refl;
   1 = λ is.
-      let text : bytes ≡ reply_head.spelling (head_of xid reply) ++ result_of reply = is.1 ∙ spelled_so xid reply in
+      let text : bytes ≡ reply_head.encoding (head_of xid reply) ++ result_of reply = is.1 ∙ encoded_so xid reply in
       let read : reply_head.read bytes ≡ Ok (head_of xid reply, result_of reply) =
       ap reply_head.read text ∙ reply_head_exact.again (head_of xid reply) (result_of reply) is.0 in
       ap reply_by read ∙ ap (option_map (paired xid)) (reply_again reply);

@@ -6,7 +6,7 @@ use Rattle.std.specs.List.{flat_map, AllByRecursion}
 use Rattle.xdr.specs.declared.refusal.Refusal.{Refusal}
 use Rattle.xdr.specs.Grammar.{Grammar, ◌>>=◌, ◌&◌, of, void, unsigned_int, unsigned_hyper}
 use Rattle.xdr.specs.Forms.{array, boolean, trimmed_bitmap}
-use Rattle.xdr.specs.Union.{Told, tells, Choice, on, no_other, union}
+use Rattle.xdr.specs.Union.{Encoded, arm, Choice, on, no_other, union}
 use Rattle.xdr.specs.Laws.{IsBytes}
 use Rattle.model_tree.specs.declared.node.NodeKind.{NodeKind}
 use Rattle.model_tree.specs.declared.node.NodeKind.TheVariants as kind
@@ -51,12 +51,12 @@ abbrev pub entries : Grammar (List AclEntry)
 entries = array (2 ^ 32 - 1) acl_entry
 
 -- nfs_ftype4: NF4REG is 1 and NF4DIR 2
-abbrev pub kind_told : NodeKind → Told
-kind_told kind.File = tells 1 void tt
-kind_told kind.Directory = tells 2 void tt
+abbrev pub encoded_kind : NodeKind → Encoded
+encoded_kind kind.File = arm 1 void tt
+encoded_kind kind.Directory = arm 2 void tt
 
 abbrev pub node_kind : Grammar NodeKind
-node_kind = union kind_told (on 1 void (λ _. kind.File) (on 2 void (λ _. kind.Directory) no_other))
+node_kind = union encoded_kind (on 1 void (λ _. kind.File) (on 2 void (λ _. kind.Directory) no_other))
 
 -- the value of an attribute
 pub data Value : Type 0 where
@@ -88,33 +88,33 @@ pub data Value : Type 0 where
   SuppattrExclcreat : List ℕ → Value
 
 -- its attribute's number, and its encoding, which does not include that number
-abbrev pub value_told : Value → Told
-value_told (SupportedAttrs v) = tells 0 trimmed_bitmap v
-value_told (Kind v) = tells 1 node_kind v
-value_told (FhExpireType v) = tells 2 unsigned_int v
-value_told (Change v) = tells 3 unsigned_hyper v
-value_told (Size v) = tells 4 unsigned_hyper v
-value_told (LinkSupport v) = tells 5 boolean v
-value_told (SymlinkSupport v) = tells 6 boolean v
-value_told (NamedAttr v) = tells 7 boolean v
-value_told (Fsid v) = tells 8 file_system_id v
-value_told (UniqueHandles v) = tells 9 boolean v
-value_told (LeaseTime v) = tells 10 unsigned_int v
-value_told (RdattrError v) = tells 11 unsigned_int v
-value_told (Acl v) = tells 12 entries v
-value_told (AclSupport v) = tells 13 unsigned_int v
-value_told (FileHandle v) = tells 19 file_handle v
-value_told (FileId v) = tells 20 unsigned_hyper v
-value_told (MaxFileSize v) = tells 27 unsigned_hyper v
-value_told (MaxName v) = tells 29 unsigned_int v
-value_told (MaxRead v) = tells 30 unsigned_hyper v
-value_told (MaxWrite v) = tells 31 unsigned_hyper v
-value_told (Mode v) = tells 33 unsigned_int v
-value_told (NumLinks v) = tells 35 unsigned_int v
-value_told (Owner v) = tells 36 any_opaque v
-value_told (OwnerGroup v) = tells 37 any_opaque v
-value_told (TimeModify v) = tells 53 time v
-value_told (SuppattrExclcreat v) = tells 75 trimmed_bitmap v
+abbrev pub encoded_value : Value → Encoded
+encoded_value (SupportedAttrs v) = arm 0 trimmed_bitmap v
+encoded_value (Kind v) = arm 1 node_kind v
+encoded_value (FhExpireType v) = arm 2 unsigned_int v
+encoded_value (Change v) = arm 3 unsigned_hyper v
+encoded_value (Size v) = arm 4 unsigned_hyper v
+encoded_value (LinkSupport v) = arm 5 boolean v
+encoded_value (SymlinkSupport v) = arm 6 boolean v
+encoded_value (NamedAttr v) = arm 7 boolean v
+encoded_value (Fsid v) = arm 8 file_system_id v
+encoded_value (UniqueHandles v) = arm 9 boolean v
+encoded_value (LeaseTime v) = arm 10 unsigned_int v
+encoded_value (RdattrError v) = arm 11 unsigned_int v
+encoded_value (Acl v) = arm 12 entries v
+encoded_value (AclSupport v) = arm 13 unsigned_int v
+encoded_value (FileHandle v) = arm 19 file_handle v
+encoded_value (FileId v) = arm 20 unsigned_hyper v
+encoded_value (MaxFileSize v) = arm 27 unsigned_hyper v
+encoded_value (MaxName v) = arm 29 unsigned_int v
+encoded_value (MaxRead v) = arm 30 unsigned_hyper v
+encoded_value (MaxWrite v) = arm 31 unsigned_hyper v
+encoded_value (Mode v) = arm 33 unsigned_int v
+encoded_value (NumLinks v) = arm 35 unsigned_int v
+encoded_value (Owner v) = arm 36 any_opaque v
+encoded_value (OwnerGroup v) = arm 37 any_opaque v
+encoded_value (TimeModify v) = arm 53 time v
+encoded_value (SuppattrExclcreat v) = arm 75 trimmed_bitmap v
 
 abbrev pub value_choice : Choice Value
 value_choice =
@@ -156,16 +156,16 @@ values_at (attribute ∷ rest) bytes =
     value_at attribute bytes >>= λ x. values_at rest x.1 >>= λ xs. Ok (x.0 ∷ xs.0, xs.1)
 
 abbrev pub attribute_of : Value → ℕ
-attribute_of v = (value_told v).number
+attribute_of v = (encoded_value v).number
 
 abbrev pub value_text : Value → List ℕ
-value_text v = (value_told v).text
+value_text v = (encoded_value v).text
 
 -- The values of these attributes, in their order (section 3.3.9, `fattr4`: by rising number)
 abbrev pub values : (attributes : List ℕ) → Grammar (List Value)
 values attributes = record {
-  Fits = λ vs. (map attribute_of vs ≡ attributes) × AllByRecursion (λ v. (value_told v).Fits) vs;
-  spelling = λ vs. flat_map value_text vs;
+  Fits = λ vs. (map attribute_of vs ≡ attributes) × AllByRecursion (λ v. (encoded_value v).Fits) vs;
+  encoding = λ vs. flat_map value_text vs;
   read = λ bytes. values_at attributes bytes;
 }
 
@@ -181,4 +181,4 @@ whole_values attributes bytes = whole (values_at attributes bytes)
 abbrev pub ReadsWhole : Type 0
 ReadsWhole = (attributes bytes : List ℕ) (vs : List Value) → IsBytes bytes
     → (whole_values attributes bytes ≡ Some vs)
-    ↔ ((values attributes).Fits vs × (bytes ≡ (values attributes).spelling vs))
+    ↔ ((values attributes).Fits vs × (bytes ≡ (values attributes).encoding vs))

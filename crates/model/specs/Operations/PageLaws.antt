@@ -10,12 +10,12 @@ use Rattle.model.specs.Wire.WireAnswers as answers
 -- the bytes of an answer with these entries
 abbrev pub page_size : List Entry → (is_end : Bool) → ℕ
 page_size entries is_end =
-    length (answers.read_dir_answer.spelling (record { entries = entries; is_end = is_end }))
+    length (answers.read_dir_answer.encoding (record { entries = entries; is_end = is_end }))
 
 pub record IsPage (limits : Limits) (state : State) (arguments : ReadDirArguments) : Type 0 where
   -- its entries are the first of all after the cookie
   pub rest : List Entry
-  pub front : all_entries limits state arguments ≡ (page limits state arguments).entries ++ rest
+  pub prefix : all_entries limits state arguments ≡ (page limits state arguments).entries ++ rest
   -- unless it is empty, it fits, as it is encoded
   pub fits : 0 < length (page limits state arguments).entries
       → page_size (page limits state arguments).entries (page limits state arguments).is_end

@@ -70,7 +70,7 @@ listed_entry limits tree cred bitmap name = record {
 
 -- an entry comes after a bool
 abbrev pub entry_size : Entry → ℕ
-entry_size entry = 4 + length (answers.entry.spelling entry)
+entry_size entry = 4 + length (answers.entry.encoding entry)
 
 abbrev pub fitting : (room : ℕ) → List Entry → List Entry
 fitting room [] = []

@@ -8,7 +8,7 @@ use Rattle.model_tree.specs.declared.status.Status.TheVariants as status
 use Rattle.model.specs.Operations.Answer.{Answer}
 use Rattle.model.specs.Attributes.Attribute.{attributes_of, is_among, size_number, acl_number, mode_number, owner_number, owner_group_number, attribute_refusals, settable_at_setattr, is_empty, trimmed, size_given, acl_given, mode_given, owner_given, group_given}
 use Rattle.model_tree.specs.Trees.Changes.{touched}
-use Rattle.model_tree.specs.Trees.Edit.{Shown, Edit, Show, SetSize}
+use Rattle.model_tree.specs.Trees.Edit.{Metadata, Edit, Show, SetSize}
 use Rattle.model_tree.specs.Trees.Keyed.{at}
 use Rattle.model_tree.specs.declared.limits.Limits.{Limits}
 use Rattle.model_tree.specs.Rights.Acl.{read_acl, write_data, write_acl, write_owner}
@@ -59,9 +59,9 @@ list_set of acl mode (Some set) = set
 list_set of acl (Some mode) None = moded of acl mode
 list_set of acl None None = acl
 
-abbrev pub shown_set : Option Node → Attributes → (stamp now : ℕ) → Shown
-shown_set None given stamp now = touched None stamp now
-shown_set (Some node) given stamp now = record {
+abbrev pub metadata_set : Option Node → Attributes → (stamp now : ℕ) → Metadata
+metadata_set None given stamp now = touched None stamp now
+metadata_set (Some node) given stamp now = record {
   owner = unwrap_or (owner_given given) node.owner;
   group = unwrap_or (group_given given) node.group;
   acl = list_set (kind_of node.content) node.acl (mode_given given) (acl_given given);
@@ -76,7 +76,7 @@ size_edits number (Some size) = SetSize number size ∷ []
 abbrev pub set_edits : Tree → (number : ℕ) → Attributes → (stamp now : ℕ) → List Edit
 set_edits tree number given stamp now =
     size_edits number (size_given given)
-    ++ (Show number (shown_set (at number tree) given stamp now) ∷ [])
+    ++ (Show number (metadata_set (at number tree) given stamp now) ∷ [])
 
 -- an empty bitmap sets nothing, and is no change
 abbrev pub sets : SetAttrArguments → Bool

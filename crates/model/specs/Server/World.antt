@@ -15,7 +15,7 @@ use Rattle.model_tree.specs.declared.limits.Limits.{Limits}
 use Rattle.model.specs.Sessions.Opens.{Opens, no_opens}
 use Rattle.model.specs.Operations.Operation.{Argument, SequenceArguments, operation_of}
 use Rattle.model.specs.Operations.OperationNumber.{OP_ACCESS, OP_EXCHANGE_ID, OP_CREATE_SESSION, OP_DESTROY_SESSION, OP_SEQUENCE, OP_DESTROY_CLIENTID, OP_RECLAIM_COMPLETE}
-use Rattle.model.specs.Wire.Record.{RecordLimits, Front, Partial, Refused, Whole, front, framed}
+use Rattle.model.specs.Wire.Record.{RecordLimits, Prefix, Partial, Refused, Whole, prefix, framed}
 use Rattle.model_tree.specs.Refusals.Refusal.{first_refusal}
 use Rattle.model.specs.Wire.Rpc.{CallRead, NoCall, OtherVersion, Calls, read_call, is_call_read, Request, Answers, Runs, request_of, Reply, VersionRefused, Success, Compound, reply_text, compound_text, is_empty}
 use Rattle.model.specs.Server.Served.{is_served, looks_no_further}
@@ -278,7 +278,7 @@ run world request now operation =
 
 -- a result on the wire
 unfoldable pub outcome_text : Outcome → List ℕ
-outcome_text result = answers.outcome.spelling result
+outcome_text result = answers.outcome.encoding result
 
 -- the reply's record if this result were the last one, without the record's header
 abbrev pub reply_with : InProgress → Outcome → List ℕ
@@ -501,14 +501,14 @@ one world number now = turned world number now (at number world.connections)
 
 -- after the bytes so far a piece comes, up to the end of the first whole record; a record that is
 -- no call closes
-abbrev pub arrived : (bytes : List ℕ) → Front → Connection
+abbrev pub arrived : (bytes : List ℕ) → Prefix → Connection
 arrived bytes Partial = Quiet bytes
 arrived bytes (Refused fault) = Closed
 arrived bytes (Whole request rest) =
     if is_call_read (read_call request) then Waiting request else Closed
 
 abbrev pub arrives_at : RecordLimits → (piece : List ℕ) → Connection → Connection
-arrives_at limits piece (Quiet bytes) = arrived (bytes ++ piece) (front limits (bytes ++ piece))
+arrives_at limits piece (Quiet bytes) = arrived (bytes ++ piece) (prefix limits (bytes ++ piece))
 arrives_at limits piece connection = connection
 
 abbrev pub connection_changed : World → (number : ℕ) → (Connection → Connection) → Option Connection
@@ -523,15 +523,15 @@ arrives world number piece =
     (at number world.connections)
 
 -- how many bytes of the piece are taken; none if the connection is closed, then or before
-abbrev pub taken_of : (piece : List ℕ) → Front → Connection → Option ℕ
-taken_of piece front Closed = None
+abbrev pub taken_of : (piece : List ℕ) → Prefix → Connection → Option ℕ
+taken_of piece prefix Closed = None
 taken_of piece Partial connection = Some (length piece)
 taken_of piece (Refused fault) connection = None
 taken_of piece (Whole request rest) connection = Some (length piece - length rest)
 
 unfoldable pub taken_at : RecordLimits → (piece : List ℕ) → Connection → Option ℕ
 taken_at limits piece (Quiet bytes) =
-    taken_of piece (front limits (bytes ++ piece)) (arrives_at limits piece (Quiet bytes))
+    taken_of piece (prefix limits (bytes ++ piece)) (arrives_at limits piece (Quiet bytes))
 taken_at limits piece Closed = None
 taken_at limits piece connection = Some 0
 

@@ -21,9 +21,9 @@ abbrev pub nothing_fed : Feeding
 nothing_fed = record { connection = Quiet []; taken = []; released = [] }
 
 -- the prefix of a piece that is taken; the whole of one that is refused
-abbrev pub front_taken : (piece : List ℕ) → Option ℕ → List ℕ
-front_taken piece (Some n) = take n piece
-front_taken piece None = piece
+abbrev pub prefix_taken : (piece : List ℕ) → Option ℕ → List ℕ
+prefix_taken piece (Some n) = take n piece
+prefix_taken piece None = piece
 
 -- a whole request is released
 abbrev pub let_go : Connection → Connection
@@ -37,7 +37,7 @@ gone connection = []
 abbrev pub after_step : RecordLimits → Feeding → FeedStep → Feeding
 after_step limits feeding (Feeds piece) = record feeding {
   connection = arrives_at limits piece feeding.connection;
-  taken = feeding.taken ++ front_taken piece (taken_at limits piece feeding.connection);
+  taken = feeding.taken ++ prefix_taken piece (taken_at limits piece feeding.connection);
 }
 after_step limits feeding Releases = record feeding {
   connection = let_go feeding.connection;

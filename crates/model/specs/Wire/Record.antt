@@ -52,10 +52,10 @@ fragment limits gathered bytes =
 
 -- at the start of some bytes: no whole record, a header that is refused, or a record and the bytes
 -- after it
-pub data Front : Type 0 where
-  Partial : Front
-  Refused : RecordFault → Front
-  Whole : (bytes : List ℕ) → (rest : List ℕ) → Front
+pub data Prefix : Type 0 where
+  Partial : Prefix
+  Refused : RecordFault → Prefix
+  Whole : (bytes : List ℕ) → (rest : List ℕ) → Prefix
 
 abbrev pub gathered_with : Gathered → List ℕ → Gathered
 gathered_with gathered bytes = record {
@@ -64,7 +64,7 @@ gathered_with gathered bytes = record {
 }
 
 -- `further` looks for the fragment after this one
-abbrev pub behind_fragment : (Gathered → List ℕ → Front) → Gathered → Fragment → Front
+abbrev pub behind_fragment : (Gathered → List ℕ → Prefix) → Gathered → Fragment → Prefix
 behind_fragment further gathered Waits = Partial
 behind_fragment further gathered (Refuses fault) = Refused fault
 behind_fragment further gathered (Brings bytes true rest) = Whole (gathered.bytes ++ bytes) rest
@@ -72,13 +72,13 @@ behind_fragment further gathered (Brings bytes false rest) =
     further (gathered_with gathered bytes) rest
 
 -- `fuel` is at least the number of the bytes: each fragment takes some
-unfoldable pub front_from : RecordLimits → (fuel : ℕ) → Gathered → List ℕ → Front
-front_from limits zero gathered bytes = Partial
-front_from limits (suc fuel) gathered bytes =
-    behind_fragment (front_from limits fuel) gathered (fragment limits gathered bytes)
+unfoldable pub prefix_from : RecordLimits → (fuel : ℕ) → Gathered → List ℕ → Prefix
+prefix_from limits zero gathered bytes = Partial
+prefix_from limits (suc fuel) gathered bytes =
+    behind_fragment (prefix_from limits fuel) gathered (fragment limits gathered bytes)
 
-abbrev pub front : RecordLimits → List ℕ → Front
-front limits bytes = front_from limits (length bytes) nothing_gathered bytes
+abbrev pub prefix : RecordLimits → List ℕ → Prefix
+prefix limits bytes = prefix_from limits (length bytes) nothing_gathered bytes
 
 -- A stream
 
@@ -89,16 +89,16 @@ pub record Stream : Type 0 where
   pub rest : List ℕ
   pub fault : Option RecordFault
 
-abbrev pub behind_front : (List ℕ → Stream) → List ℕ → Front → Stream
-behind_front further bytes Partial = record { records = []; rest = bytes; fault = None }
-behind_front further bytes (Refused fault) = record { records = []; rest = []; fault = Some fault }
-behind_front further bytes (Whole one rest) =
+abbrev pub behind_prefix : (List ℕ → Stream) → List ℕ → Prefix → Stream
+behind_prefix further bytes Partial = record { records = []; rest = bytes; fault = None }
+behind_prefix further bytes (Refused fault) = record { records = []; rest = []; fault = Some fault }
+behind_prefix further bytes (Whole one rest) =
     record (further rest) { records = one ∷ (further rest).records }
 
 unfoldable pub records_from : RecordLimits → (fuel : ℕ) → List ℕ → Stream
 records_from limits zero bytes = record { records = []; rest = bytes; fault = None }
 records_from limits (suc fuel) bytes =
-    behind_front (records_from limits fuel) bytes (front limits bytes)
+    behind_prefix (records_from limits fuel) bytes (prefix limits bytes)
 
 abbrev pub records : RecordLimits → List ℕ → Stream
 records limits bytes = records_from limits (length bytes) bytes
@@ -131,7 +131,7 @@ EveryCut = (limits : RecordLimits) (pieces : List (List ℕ))
 abbrev pub SentIsRead : Type 0
 SentIsRead = (limits : RecordLimits) (bytes rest : List ℕ)
     → length bytes ≤ limits.bytes → length bytes < 2 ^ 31 → 0 < limits.fragments
-    → front limits (framed bytes ++ rest) ≡ Whole bytes rest
+    → prefix limits (framed bytes ++ rest) ≡ Whole bytes rest
 
 -- A record as it may be sent: fragments, of which the last one has the top bit
 
@@ -156,7 +156,7 @@ abbrev pub EveryFragmenting : Type 0
 EveryFragmenting = (limits : RecordLimits) (earlier : List (List ℕ)) (last rest : List ℕ)
     → length (joined earlier last) ≤ limits.bytes → length (joined earlier last) < 2 ^ 31
     → length earlier < limits.fragments
-    → front limits (record_text earlier last ++ rest) ≡ Whole (joined earlier last) rest
+    → prefix limits (record_text earlier last ++ rest) ≡ Whole (joined earlier last) rest
 
 -- What is read is a record so sent, with the bytes after it: nothing else is taken for one.
 pub record IsSent (limits : RecordLimits) (bytes one rest : List ℕ) : Type 0 where
@@ -170,4 +170,4 @@ pub record IsSent (limits : RecordLimits) (bytes one rest : List ℕ) : Type 0 w
 abbrev pub OnlySent : Type 0
 OnlySent =
     (limits : RecordLimits) (bytes one rest : List ℕ) → IsBytes bytes
-    → front limits bytes ≡ Whole one rest → IsSent limits bytes one rest
+    → prefix limits bytes ≡ Whole one rest → IsSent limits bytes one rest

@@ -24,11 +24,11 @@ compound_result = unsigned_int & opaque tag_limit & array (2 ^ 32 - 1) outcome
 -- these are the results of a request so far
 pub record AreResults (request : InProgress) (results : List Outcome) : Type 0 where
   pub answered : request.answered ≡ length results
-  pub spelled : request.results ≡ flat_map outcome_text results
+  pub encoded : request.results ≡ flat_map outcome_text results
 
 -- A request begins without results, and goes on after one more; at its end they are encoded as one
 -- result.
-pub record SpellsResults : Type 0 where
+pub record EncodesResults : Type 0 where
   pub begins : (world : World) (xid : ℕ) (cred : Cred) (compound : Compound)
       → AreResults (in_progress world xid cred compound) []
   pub goes_on : (request : InProgress) (results : List Outcome) (next : Outcome)
@@ -36,7 +36,7 @@ pub record SpellsResults : Type 0 where
       → AreResults (with_result request next) (results ++ next ∷ [])
   pub ends : (request : InProgress) (results : List Outcome) (last : Status)
       → AreResults request results
-      → result_of request last ≡ compound_result.spelling (code_of last, (request.tag, results))
+      → result_of request last ≡ compound_result.encoding (code_of last, (request.tag, results))
 
 -- So it is at each moment of every run of the server.
 abbrev pub HasResults : InProgress → Type 0

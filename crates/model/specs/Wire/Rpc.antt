@@ -116,12 +116,12 @@ credential_by (Ok (known, byte ∷ bytes)) = None
 abbrev pub credential_in : (body : List ℕ) → Option SystemCredential
 credential_in body = credential_by (system_credential.read body)
 
-abbrev pub cred_told : SystemCredential → Cred
-cred_told known = record { uid = known.uid; gid = known.gid; gids = known.gids }
+abbrev pub encoded_cred : SystemCredential → Cred
+encoded_cred known = record { uid = known.uid; gid = known.gid; gids = known.gids }
 
 -- the caller that it names
 abbrev pub cred_of : (body : List ℕ) → Option Cred
-cred_of body = option_map cred_told (credential_in body)
+cred_of body = option_map encoded_cred (credential_in body)
 
 -- COMPOUND (RFC 8881, section 16.2)
 

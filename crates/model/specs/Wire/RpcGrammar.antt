@@ -6,7 +6,7 @@ use Rattle.xdr.specs.declared.refusal.Refusal.{Refusal}
 use Rattle.xdr.specs.Grammar.{Grammar, ◌&◌, of, void, unsigned_int}
 use Rattle.xdr.specs.Forms.{always}
 use Rattle.xdr.specs.Laws.{IsBytes}
-use Rattle.xdr.specs.Union.{Told, tells, on, no_other, union}
+use Rattle.xdr.specs.Union.{Encoded, arm, on, no_other, union}
 use Rattle.model.specs.Operations.Operation.{SystemCredential}
 use Rattle.model.specs.Wire.Rpc.{Call, OtherVersion, Calls, read_call, call_start, opaque_auth, Reply, reply_text, is_empty, credential_in}
 use Rattle.model.specs.Wire.Rpc as rpc
@@ -52,7 +52,7 @@ call_with head body = record {
 pub record IsCall (bytes : List ℕ) (call : Call) : Type 0 where
   pub head : CallHead
   pub fits : call_head.Fits head
-  pub spelled : bytes ≡ call_head.spelling head ++ call.body
+  pub encoded : bytes ≡ call_head.encoding head ++ call.body
   pub call_is : call ≡ call_with head call.body
 
 -- it begins a call of another RPC version
@@ -61,7 +61,7 @@ pub record IsOtherCall (bytes : List ℕ) (xid : ℕ) : Type 0 where
   pub rest : List ℕ
   pub fits : call_start.Fits (xid, (0, version))
   pub other : version ≢ 2
-  pub spelled : bytes ≡ call_start.spelling (xid, (0, version)) ++ rest
+  pub encoded : bytes ≡ call_start.encoding (xid, (0, version)) ++ rest
 
 -- Replies
 
@@ -71,12 +71,12 @@ pub data Denial : Type 0 where
   OtherRpc : Denial
   Unauthenticated : (auth_stat : ℕ) → Denial
 
-abbrev pub denial_told : Denial → Told
-denial_told OtherRpc = tells 0 (always 2 unsigned_int & always 2 unsigned_int) (tt, tt)
-denial_told (Unauthenticated stat) = tells 1 unsigned_int stat
+abbrev pub encoded_denial : Denial → Encoded
+encoded_denial OtherRpc = arm 0 (always 2 unsigned_int & always 2 unsigned_int) (tt, tt)
+encoded_denial (Unauthenticated stat) = arm 1 unsigned_int stat
 
 abbrev pub denial : Grammar Denial
-denial = union denial_told
+denial = union encoded_denial
     (on 0 (always 2 unsigned_int & always 2 unsigned_int) (λ _. OtherRpc)
     (on 1 unsigned_int Unauthenticated no_other))
 
@@ -89,15 +89,15 @@ pub data Acceptance : Type 0 where
   NoProcedure : Acceptance
   NoArguments : Acceptance
 
-abbrev pub acceptance_told : Acceptance → Told
-acceptance_told Tells = tells 0 void tt
-acceptance_told NoProgram = tells 1 void tt
-acceptance_told OtherProgram = tells 2 (always 4 unsigned_int & always 4 unsigned_int) (tt, tt)
-acceptance_told NoProcedure = tells 3 void tt
-acceptance_told NoArguments = tells 4 void tt
+abbrev pub encoded_acceptance : Acceptance → Encoded
+encoded_acceptance Tells = arm 0 void tt
+encoded_acceptance NoProgram = arm 1 void tt
+encoded_acceptance OtherProgram = arm 2 (always 4 unsigned_int & always 4 unsigned_int) (tt, tt)
+encoded_acceptance NoProcedure = arm 3 void tt
+encoded_acceptance NoArguments = arm 4 void tt
 
 abbrev pub acceptance : Grammar Acceptance
-acceptance = union acceptance_told
+acceptance = union encoded_acceptance
     (on 0 void (λ _. Tells)
     (on 1 void (λ _. NoProgram)
     (on 2 (always 4 unsigned_int & always 4 unsigned_int) (λ _. OtherProgram)
@@ -115,12 +115,12 @@ pub data Verdict : Type 0 where
   Accepts : Acceptance → Verdict
   Denies : Denial → Verdict
 
-abbrev pub verdict_told : Verdict → Told
-verdict_told (Accepts of) = tells 0 accepted of
-verdict_told (Denies of) = tells 1 denial of
+abbrev pub encoded_verdict : Verdict → Encoded
+encoded_verdict (Accepts of) = arm 0 accepted of
+encoded_verdict (Denies of) = arm 1 denial of
 
 abbrev pub verdict : Grammar Verdict
-verdict = union verdict_told (on 0 accepted Accepts (on 1 denial Denies no_other))
+verdict = union encoded_verdict (on 0 accepted Accepts (on 1 denial Denies no_other))
 
 -- the number of the call, the message type of a reply, and the verdict
 pub record ReplyHead : Type 0 where
@@ -191,4 +191,4 @@ ReadsReplies = (bytes : List ℕ) (xid : ℕ) (reply : Reply) → IsBytes bytes
 abbrev pub ReadsCredentials : Type 0
 ReadsCredentials = (body : List ℕ) (known : SystemCredential) → IsBytes body
     → (credential_in body ≡ Some known)
-    ↔ (system_credential.Fits known × (body ≡ system_credential.spelling known))
+    ↔ (system_credential.Fits known × (body ≡ system_credential.encoding known))

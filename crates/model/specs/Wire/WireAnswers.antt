@@ -6,7 +6,7 @@ use Rattle.xdr.specs.declared.refusal.Refusal.{Refusal}
 use Rattle.xdr.specs.declared.refusal.Refusal.TheVariants.{Value}
 use Rattle.xdr.specs.Grammar.{Grammar, ◌>>=◌, ◌&◌, of, void, number, number_at, unsigned_int, unsigned_hyper}
 use Rattle.xdr.specs.Forms.{always, boolean, chain, trimmed_bitmap}
-use Rattle.xdr.specs.Union.{Told, tells, Choice, made, on, no_other, union}
+use Rattle.xdr.specs.Union.{Encoded, arm, Choice, made, on, no_other, union}
 use Rattle.model_tree.specs.declared.status.Status.{Status}
 use Rattle.model_tree.specs.declared.status.Status.TheVariants as status
 use Rattle.model_tree.specs.Refusals.Status.{code_of}
@@ -106,32 +106,32 @@ sequence_answer = of
     (session_id & unsigned_int & unsigned_int & unsigned_int & unsigned_int & unsigned_int)
 
 -- what follows the status OK, by the operation's number
-abbrev pub answer_told : Answer → Told
-answer_told (Answer.Access a) = tells OP_ACCESS access_answer a
-answer_told (Answer.Close state) = tells OP_CLOSE state_id state
-answer_told (Answer.Commit bytes) = tells OP_COMMIT verifier bytes
-answer_told (Answer.Create a) = tells OP_CREATE create_answer a
-answer_told (Answer.GetAttr given) = tells OP_GETATTR answered_attributes given
-answer_told (Answer.GetFh handle) = tells OP_GETFH file_handle handle
-answer_told Answer.Lookup = tells OP_LOOKUP void tt
-answer_told Answer.LookupParent = tells OP_LOOKUPP void tt
-answer_told (Answer.Open a) = tells OP_OPEN open_answer a
-answer_told Answer.PutFh = tells OP_PUTFH void tt
-answer_told Answer.PutRootFh = tells OP_PUTROOTFH void tt
-answer_told (Answer.Read a) = tells OP_READ read_answer a
-answer_told (Answer.ReadDir a) = tells OP_READDIR read_dir_answer a
-answer_told (Answer.Remove change) = tells OP_REMOVE change_info change
-answer_told (Answer.Rename a) = tells OP_RENAME rename_answer a
-answer_told Answer.RestoreFh = tells OP_RESTOREFH void tt
-answer_told Answer.SaveFh = tells OP_SAVEFH void tt
-answer_told (Answer.SetAttr was_set) = tells OP_SETATTR trimmed_bitmap was_set
-answer_told (Answer.Write a) = tells OP_WRITE write_answer a
-answer_told (Answer.ExchangeId a) = tells OP_EXCHANGE_ID exchange_id_answer a
-answer_told (Answer.CreateSession a) = tells OP_CREATE_SESSION create_session_answer a
-answer_told Answer.DestroySession = tells OP_DESTROY_SESSION void tt
-answer_told (Answer.Sequence a) = tells OP_SEQUENCE sequence_answer a
-answer_told Answer.DestroyClientId = tells OP_DESTROY_CLIENTID void tt
-answer_told Answer.ReclaimComplete = tells OP_RECLAIM_COMPLETE void tt
+abbrev pub encoded_answer : Answer → Encoded
+encoded_answer (Answer.Access a) = arm OP_ACCESS access_answer a
+encoded_answer (Answer.Close state) = arm OP_CLOSE state_id state
+encoded_answer (Answer.Commit bytes) = arm OP_COMMIT verifier bytes
+encoded_answer (Answer.Create a) = arm OP_CREATE create_answer a
+encoded_answer (Answer.GetAttr given) = arm OP_GETATTR answered_attributes given
+encoded_answer (Answer.GetFh handle) = arm OP_GETFH file_handle handle
+encoded_answer Answer.Lookup = arm OP_LOOKUP void tt
+encoded_answer Answer.LookupParent = arm OP_LOOKUPP void tt
+encoded_answer (Answer.Open a) = arm OP_OPEN open_answer a
+encoded_answer Answer.PutFh = arm OP_PUTFH void tt
+encoded_answer Answer.PutRootFh = arm OP_PUTROOTFH void tt
+encoded_answer (Answer.Read a) = arm OP_READ read_answer a
+encoded_answer (Answer.ReadDir a) = arm OP_READDIR read_dir_answer a
+encoded_answer (Answer.Remove change) = arm OP_REMOVE change_info change
+encoded_answer (Answer.Rename a) = arm OP_RENAME rename_answer a
+encoded_answer Answer.RestoreFh = arm OP_RESTOREFH void tt
+encoded_answer Answer.SaveFh = arm OP_SAVEFH void tt
+encoded_answer (Answer.SetAttr was_set) = arm OP_SETATTR trimmed_bitmap was_set
+encoded_answer (Answer.Write a) = arm OP_WRITE write_answer a
+encoded_answer (Answer.ExchangeId a) = arm OP_EXCHANGE_ID exchange_id_answer a
+encoded_answer (Answer.CreateSession a) = arm OP_CREATE_SESSION create_session_answer a
+encoded_answer Answer.DestroySession = arm OP_DESTROY_SESSION void tt
+encoded_answer (Answer.Sequence a) = arm OP_SEQUENCE sequence_answer a
+encoded_answer Answer.DestroyClientId = arm OP_DESTROY_CLIENTID void tt
+encoded_answer Answer.ReclaimComplete = arm OP_RECLAIM_COMPLETE void tt
 
 abbrev pub answer_choice : Choice Answer
 answer_choice =
@@ -189,14 +189,14 @@ refusal_of n = find (λ reason. code_of reason == n) refusals
 abbrev pub behind_refusal : (operation : ℕ) → List ℕ
 behind_refusal operation = if operation == OP_SETATTR then number w32 0 else []
 
-abbrev pub outcome_told : Outcome → Told
-outcome_told (Done answer) =
+abbrev pub encoded_outcome : Outcome → Encoded
+encoded_outcome (Done answer) =
     record {
-      number = (answer_told answer).number;
-      Fits = (answer_told answer).Fits;
-      text = number w32 0 ++ (answer_told answer).text;
+      number = (encoded_answer answer).number;
+      Fits = (encoded_answer answer).Fits;
+      text = number w32 0 ++ (encoded_answer answer).text;
     }
-outcome_told (Refused operation reason) =
+encoded_outcome (Refused operation reason) =
     record {
       number = operation;
       Fits = code_of reason ≢ 0;
@@ -225,4 +225,4 @@ outcome_at operation bytes = outcome_choice operation bytes
 
 -- nfs_resop4
 abbrev pub outcome : Grammar Outcome
-outcome = union outcome_told outcome_at
+outcome = union encoded_outcome outcome_at

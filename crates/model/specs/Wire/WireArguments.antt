@@ -3,7 +3,7 @@ use Rattle.std.specs.Prelude.{◌≢◌, ℕ, ◌<◌, Bool, List, [], Option, R
 use Rattle.xdr.specs.declared.refusal.Refusal.{Refusal}
 use Rattle.xdr.specs.Grammar.{Grammar, ◌&◌, of, void, unsigned_int, unsigned_hyper}
 use Rattle.xdr.specs.Forms.{below, always, boolean, array, optional, bitmap}
-use Rattle.xdr.specs.Union.{Told, tells, Choice, on, no_other, any_other, other_below, union}
+use Rattle.xdr.specs.Union.{Encoded, arm, Choice, on, no_other, any_other, other_below, union}
 use Rattle.model.specs.Operations.Operation.{StateId, Attributes, Channel, Implementation, CallbackSecurity, CloseArguments, CommitArguments, CreateArguments, NewDirectory, OtherType, NoCreate, Unchecked, Guarded, Claim, ByName, ByHandle, OtherClaim, Opening, Opens, Exclusive, OpenArguments, ReadArguments, ReadDirArguments, RenameArguments, SetAttrArguments, WriteArguments, ExchangeIdArguments, CreateSessionArguments, SequenceArguments, Argument}
 use Rattle.model.specs.Operations.OperationNumber.{OP_ACCESS, OP_CLOSE, OP_COMMIT, OP_CREATE, OP_GETATTR, OP_GETFH, OP_LOOKUP, OP_LOOKUPP, OP_OPEN, OP_PUTFH, OP_PUTROOTFH, OP_READ, OP_READDIR, OP_REMOVE, OP_RENAME, OP_RESTOREFH, OP_SAVEFH, OP_SETATTR, OP_WRITE, OP_EXCHANGE_ID, OP_CREATE_SESSION, OP_DESTROY_SESSION, OP_SEQUENCE, OP_DESTROY_CLIENTID, OP_RECLAIM_COMPLETE}
 use Rattle.model.specs.Wire.WireTypes.{any_opaque, file_handle, verifier, session_id, owner_id, state_id, attributes, channel, implementation, callback_security}
@@ -19,9 +19,9 @@ commit_arguments =
     (unsigned_hyper & unsigned_int)
 
 -- NF4DIR is 2; what follows another type is ignored
-abbrev pub create_told : CreateArguments → Told
-create_told (NewDirectory name given) = tells 2 (any_opaque & attributes) (name, given)
-create_told (OtherType n) = record { number = n; Fits = n ≢ 2; text = [] }
+abbrev pub encoded_create : CreateArguments → Encoded
+encoded_create (NewDirectory name given) = arm 2 (any_opaque & attributes) (name, given)
+encoded_create (OtherType n) = record { number = n; Fits = n ≢ 2; text = [] }
 
 abbrev pub create_choice : Choice CreateArguments
 create_choice =
@@ -29,27 +29,27 @@ create_choice =
     (any_other OtherType)
 
 abbrev pub create_arguments : Grammar CreateArguments
-create_arguments = union create_told create_choice
+create_arguments = union encoded_create create_choice
 
 -- CLAIM_NULL is 0 and CLAIM_FH 4; what follows another claim is ignored
-abbrev pub claim_told : Claim → Told
-claim_told (ByName name) = tells 0 any_opaque name
-claim_told ByHandle = tells 4 void tt
-claim_told (OtherClaim n) = record { number = n; Fits = (n ≢ 0) × (n ≢ 4); text = [] }
+abbrev pub encoded_claim : Claim → Encoded
+encoded_claim (ByName name) = arm 0 any_opaque name
+encoded_claim ByHandle = arm 4 void tt
+encoded_claim (OtherClaim n) = record { number = n; Fits = (n ≢ 0) × (n ≢ 4); text = [] }
 
 abbrev pub claim_choice : Choice Claim
 claim_choice = on 0 any_opaque ByName (on 4 void (λ _. ByHandle) (any_other OtherClaim))
 
 abbrev pub claim : Grammar Claim
-claim = union claim_told claim_choice
+claim = union encoded_claim claim_choice
 
 -- createhow4: UNCHECKED4 is 0 and GUARDED4 1, both with attributes; what follows EXCLUSIVE4 2 and
 -- EXCLUSIVE4_1 3 is ignored
-abbrev pub create_how_told : Opening → Told
-create_how_told (Opens (Unchecked given) by) = tells 0 (attributes & claim) (given, by)
-create_how_told (Opens (Guarded given) by) = tells 1 (attributes & claim) (given, by)
-create_how_told (Opens NoCreate by) = record { number = 0; Fits = ⊥; text = [] }
-create_how_told (Exclusive mode) = record {
+abbrev pub encoded_create_how : Opening → Encoded
+encoded_create_how (Opens (Unchecked given) by) = arm 0 (attributes & claim) (given, by)
+encoded_create_how (Opens (Guarded given) by) = arm 1 (attributes & claim) (given, by)
+encoded_create_how (Opens NoCreate by) = record { number = 0; Fits = ⊥; text = [] }
+encoded_create_how (Exclusive mode) = record {
   number = mode;
   Fits = (mode ≢ 0) × (mode ≢ 1) × (mode < 4);
   text = [];
@@ -62,20 +62,20 @@ create_how_choice =
     (other_below 4 Exclusive))
 
 abbrev pub create_how : Grammar Opening
-create_how = union create_how_told create_how_choice
+create_how = union encoded_create_how create_how_choice
 
 -- openflag4 and the claim after it: OPEN4_NOCREATE is 0 and OPEN4_CREATE 1
-abbrev pub opening_told : Opening → Told
-opening_told (Opens NoCreate by) = tells 0 claim by
-opening_told (Opens (Unchecked given) by) = tells 1 create_how (Opens (Unchecked given) by)
-opening_told (Opens (Guarded given) by) = tells 1 create_how (Opens (Guarded given) by)
-opening_told (Exclusive mode) = tells 1 create_how (Exclusive mode)
+abbrev pub encoded_opening : Opening → Encoded
+encoded_opening (Opens NoCreate by) = arm 0 claim by
+encoded_opening (Opens (Unchecked given) by) = arm 1 create_how (Opens (Unchecked given) by)
+encoded_opening (Opens (Guarded given) by) = arm 1 create_how (Opens (Guarded given) by)
+encoded_opening (Exclusive mode) = arm 1 create_how (Exclusive mode)
 
 abbrev pub opening_choice : Choice Opening
 opening_choice = on 0 claim (λ by. Opens NoCreate by) (on 1 create_how (λ how. how) no_other)
 
 abbrev pub opening : Grammar Opening
-opening = union opening_told opening_choice
+opening = union encoded_opening opening_choice
 
 abbrev pub open_arguments : Grammar OpenArguments
 open_arguments = of
@@ -164,32 +164,32 @@ sequence_arguments = of
     (session_id & unsigned_int & unsigned_int & unsigned_int & boolean)
 
 -- nfs_argop4: the operation's number chooses the arguments
-abbrev pub argument_told : Argument → Told
-argument_told (Argument.Access rights) = tells OP_ACCESS unsigned_int rights
-argument_told (Argument.Close a) = tells OP_CLOSE close_arguments a
-argument_told (Argument.Commit a) = tells OP_COMMIT commit_arguments a
-argument_told (Argument.Create a) = tells OP_CREATE create_arguments a
-argument_told (Argument.GetAttr asked) = tells OP_GETATTR bitmap asked
-argument_told Argument.GetFh = tells OP_GETFH void tt
-argument_told (Argument.Lookup name) = tells OP_LOOKUP any_opaque name
-argument_told Argument.LookupParent = tells OP_LOOKUPP void tt
-argument_told (Argument.Open a) = tells OP_OPEN open_arguments a
-argument_told (Argument.PutFh handle) = tells OP_PUTFH file_handle handle
-argument_told Argument.PutRootFh = tells OP_PUTROOTFH void tt
-argument_told (Argument.Read a) = tells OP_READ read_arguments a
-argument_told (Argument.ReadDir a) = tells OP_READDIR read_dir_arguments a
-argument_told (Argument.Remove name) = tells OP_REMOVE any_opaque name
-argument_told (Argument.Rename a) = tells OP_RENAME rename_arguments a
-argument_told Argument.RestoreFh = tells OP_RESTOREFH void tt
-argument_told Argument.SaveFh = tells OP_SAVEFH void tt
-argument_told (Argument.SetAttr a) = tells OP_SETATTR set_attr_arguments a
-argument_told (Argument.Write a) = tells OP_WRITE write_arguments a
-argument_told (Argument.ExchangeId a) = tells OP_EXCHANGE_ID exchange_id_arguments a
-argument_told (Argument.CreateSession a) = tells OP_CREATE_SESSION create_session_arguments a
-argument_told (Argument.DestroySession session) = tells OP_DESTROY_SESSION session_id session
-argument_told (Argument.Sequence a) = tells OP_SEQUENCE sequence_arguments a
-argument_told (Argument.DestroyClientId client) = tells OP_DESTROY_CLIENTID unsigned_hyper client
-argument_told (Argument.ReclaimComplete one_fs) = tells OP_RECLAIM_COMPLETE boolean one_fs
+abbrev pub encoded_argument : Argument → Encoded
+encoded_argument (Argument.Access rights) = arm OP_ACCESS unsigned_int rights
+encoded_argument (Argument.Close a) = arm OP_CLOSE close_arguments a
+encoded_argument (Argument.Commit a) = arm OP_COMMIT commit_arguments a
+encoded_argument (Argument.Create a) = arm OP_CREATE create_arguments a
+encoded_argument (Argument.GetAttr asked) = arm OP_GETATTR bitmap asked
+encoded_argument Argument.GetFh = arm OP_GETFH void tt
+encoded_argument (Argument.Lookup name) = arm OP_LOOKUP any_opaque name
+encoded_argument Argument.LookupParent = arm OP_LOOKUPP void tt
+encoded_argument (Argument.Open a) = arm OP_OPEN open_arguments a
+encoded_argument (Argument.PutFh handle) = arm OP_PUTFH file_handle handle
+encoded_argument Argument.PutRootFh = arm OP_PUTROOTFH void tt
+encoded_argument (Argument.Read a) = arm OP_READ read_arguments a
+encoded_argument (Argument.ReadDir a) = arm OP_READDIR read_dir_arguments a
+encoded_argument (Argument.Remove name) = arm OP_REMOVE any_opaque name
+encoded_argument (Argument.Rename a) = arm OP_RENAME rename_arguments a
+encoded_argument Argument.RestoreFh = arm OP_RESTOREFH void tt
+encoded_argument Argument.SaveFh = arm OP_SAVEFH void tt
+encoded_argument (Argument.SetAttr a) = arm OP_SETATTR set_attr_arguments a
+encoded_argument (Argument.Write a) = arm OP_WRITE write_arguments a
+encoded_argument (Argument.ExchangeId a) = arm OP_EXCHANGE_ID exchange_id_arguments a
+encoded_argument (Argument.CreateSession a) = arm OP_CREATE_SESSION create_session_arguments a
+encoded_argument (Argument.DestroySession session) = arm OP_DESTROY_SESSION session_id session
+encoded_argument (Argument.Sequence a) = arm OP_SEQUENCE sequence_arguments a
+encoded_argument (Argument.DestroyClientId client) = arm OP_DESTROY_CLIENTID unsigned_hyper client
+encoded_argument (Argument.ReclaimComplete one_fs) = arm OP_RECLAIM_COMPLETE boolean one_fs
 
 abbrev pub argument_choice : Choice Argument
 argument_choice =
@@ -225,4 +225,4 @@ arguments_at operation bytes = argument_choice operation bytes
 
 -- an operation's number, and its arguments
 abbrev pub argument : Grammar Argument
-argument = union argument_told arguments_at
+argument = union encoded_argument arguments_at

@@ -2,7 +2,7 @@
 use Rattle.std.specs.Prelude.{ℕ, ◌-◌, ◌^◌, Bool, List, Option}
 use Rattle.xdr.specs.Grammar.{Grammar, ◌&◌, of, void, unsigned_int, unsigned_hyper}
 use Rattle.xdr.specs.Forms.{boolean, fixed_opaque, opaque, array, optional, bitmap}
-use Rattle.xdr.specs.Union.{Told, tells, on, no_other, union}
+use Rattle.xdr.specs.Union.{Encoded, arm, on, no_other, union}
 use Rattle.model.specs.Operations.Operation.{StateId, Attributes, ChangeInfo, Channel, Implementation, SystemCredential, CallbackSecurity, NoSecurity, SystemSecurity}
 
 -- a name, or data: no limit but that of its length
@@ -95,11 +95,11 @@ system_credential = of
     (unsigned_int & opaque 255 & unsigned_int & unsigned_int & array 16 unsigned_int)
 
 -- callback_sec_parms4
-abbrev pub security_told : CallbackSecurity → Told
-security_told NoSecurity = tells 0 void tt
-security_told (SystemSecurity credential) = tells 1 system_credential credential
+abbrev pub encoded_security : CallbackSecurity → Encoded
+encoded_security NoSecurity = arm 0 void tt
+encoded_security (SystemSecurity credential) = arm 1 system_credential credential
 
 abbrev pub callback_security : Grammar CallbackSecurity
 callback_security =
-    union security_told
+    union encoded_security
     (on 0 void (λ _. NoSecurity) (on 1 system_credential SystemSecurity no_other))

@@ -174,8 +174,8 @@ record Tests (of : NodeKind) (ace : Ace) : Type 0 where
 tests_of : (of : NodeKind) (ace : Ace) → Fits of ace → Tests of ace
 tests_of of ace e =
     let parts = and_parts (are_flags_for of ace.flags.0 && is_within ace.mask.0 every_right) (has_width ace.who) e in
-    let front = and_parts (are_flags_for of ace.flags.0) (is_within ace.mask.0 every_right) parts.0 in
-    record { flags = front.0; mask = front.1; who = parts.1 }
+    let prefix = and_parts (are_flags_for of ace.flags.0) (is_within ace.mask.0 every_right) parts.0 in
+    record { flags = prefix.0; mask = prefix.1; who = parts.1 }
 
 fits_by : (of : NodeKind) (ace : Ace) → are_flags_for of ace.flags.0 ≡ true → is_within ace.mask.0 every_right ≡ true → has_width ace.who ≡ true → Fits of ace
 fits_by of ace flags mask who = and_from _ _ (and_from _ _ flags mask) who

@@ -225,29 +225,29 @@ module _ (limits : Limits) (tree : Tree) (well : IsWellFormed limits tree) (stam
       )) in
       let between = edited (removal place (Some entry)) tree in
       let after = done (touch tree place stamp now) between in
-      let shown = node_is_shown limits between None gone.forest place (touched (at place tree) stamp now)
+      let metadata = node_is_shown limits between None gone.forest place (touched (at place tree) stamp now)
       (gone.directories place apart ∙ is) (gone.lists place apart) in
       subst (λ (found : Option (ℕ × DirEntry)). IsChanged limits stamp tree
       (edited (removal place found ++ (touch tree place stamp now ∷ [])) tree) entry.1.number) (sym has) (record {
-        well_formed = λ fitting. well_formed_of limits after shown.forest fitting;
-        before = λ bound low. shown.before bound low (gone.before bound (was_before stamp bound tree before low));
+        well_formed = λ fitting. well_formed_of limits after metadata.forest fitting;
+        before = λ bound low. metadata.before bound low (gone.before bound (was_before stamp bound tree before low));
         stamped = record {
           node = λ number node there. elim (cases_eq number place) [
             | inl one ↦ inr (
-              shown.here node (ap (λ n. at n after) (sym one) ∙ there),
+              metadata.here node (ap (λ n. at n after) (sym one) ∙ there),
               inl (ap (λ n. is_key n tree) one ∙ directory_key tree place is),
             )
             | inr away ↦ elim (cases_eq number entry.1.number) [
-              | inl target ↦ absurd (some≢none node (sym there ∙ (shown.elsewhere number away ∙ (ap (λ n. at n between) target ∙ gone.gone))))
-              | inr off ↦ inl (sym (gone.elsewhere number away off) ∙ (sym (shown.elsewhere number away) ∙ there))
+              | inl target ↦ absurd (some≢none node (sym there ∙ (metadata.elsewhere number away ∙ (ap (λ n. at n between) target ∙ gone.gone))))
+              | inr off ↦ inl (sym (gone.elsewhere number away off) ∙ (sym (metadata.elsewhere number away) ∙ there))
             ]
           ];
-          entry = λ number of other named. inl (gone.fewer number of other (sym (ap (at of) (shown.names number)) ∙ named));
+          entry = λ number of other named. inl (gone.fewer number of other (sym (ap (at of) (metadata.names number)) ∙ named));
         };
-        differs = another place is after shown.here;
+        differs = another place is after metadata.here;
         files = λ number off file. elim (cases_eq number place) [
           | inl one ↦ absurd (no_file tree place is (ap (λ n. is_file_node (at n tree)) (sym one) ∙ file))
-          | inr away ↦ ap is_file_node (shown.elsewhere number away ∙ gone.elsewhere number away off) ∙ file
+          | inr away ↦ ap is_file_node (metadata.elsewhere number away ∙ gone.elsewhere number away off) ∙ file
         ];
       })
     where
@@ -372,36 +372,36 @@ module _ (limits : Limits) (tree : Tree) (well : IsWellFormed limits tree) (stam
       (ap (times_named name) (made.names place) ∙ never_named name (names_at tree place) lacks)
       (λ below. apart (from_leaf t1 stamp no_names place below)) in
       let t3 = done (touch tree place stamp now) t2 in
-      let shown = node_is_shown limits t2 None put.forest place (touched (at place tree) stamp now)
+      let metadata = node_is_shown limits t2 None put.forest place (touched (at place tree) stamp now)
       (put.directories place ∙ (ap is_directory_node (made.elsewhere place apart) ∙ is))
       (put.lists place ∙ ap acl_of (made.elsewhere place apart)) in
       record {
-        well_formed = λ fitting. well_formed_of limits t3 shown.forest fitting;
-        before = λ bound order. shown.before bound order (put.before bound order
+        well_formed = λ fitting. well_formed_of limits t3 metadata.forest fitting;
+        before = λ bound order. metadata.before bound order (put.before bound order
             (made.before bound order (let new : node.change < bound = omega (arith, order, change) in new) (was_before stamp bound tree before order)));
         stamped = record {
           node = λ number other has. elim (cases_eq number place) [
-            | inl one ↦ inr (shown.here other (ap (λ n. at n t3) (sym one) ∙ has), inl (ap (λ n. is_key n tree) one ∙ directory_key tree place is))
+            | inl one ↦ inr (metadata.here other (ap (λ n. at n t3) (sym one) ∙ has), inl (ap (λ n. is_key n tree) one ∙ directory_key tree place is))
             | inr away ↦ elim (cases_eq number stamp) [
               | inl one ↦ inr (
                 sym (ap (λ (n : Node). n.change) (some_node node other (sym made.here ∙ (sym (put.elsewhere stamp (λ same. apart (sym same)))
-                    ∙ (sym (shown.elsewhere stamp (λ same. apart (sym same))) ∙ (ap (λ n. at n t3) (sym one) ∙ has)))))) ∙ change,
+                    ∙ (sym (metadata.elsewhere stamp (λ same. apart (sym same))) ∙ (ap (λ n. at n t3) (sym one) ∙ has)))))) ∙ change,
                 inr one,
               )
-              | inr off ↦ inl (sym (made.elsewhere number off) ∙ (sym (put.elsewhere number away) ∙ (sym (shown.elsewhere number away) ∙ has)))
+              | inr off ↦ inl (sym (made.elsewhere number off) ∙ (sym (put.elsewhere number away) ∙ (sym (metadata.elsewhere number away) ∙ has)))
             ]
           ];
-          entry = λ number of other named. elim (put.entries number of other (sym (ap (at of) (shown.names number)) ∙ named)) [
+          entry = λ number of other named. elim (put.entries number of other (sym (ap (at of) (metadata.names number)) ∙ named)) [
             | inl was ↦ inl (sym (ap (at of) (made.names number)) ∙ was)
             | inr one ↦ inr one
           ];
         };
-        differs = another place is t3 shown.here;
+        differs = another place is t3 metadata.here;
         files = λ number off file. elim (cases_eq number place) [
           | inl one ↦ absurd (no_file tree place is (ap (λ n. is_file_node (at n tree)) (sym one) ∙ file))
           | inr away ↦ elim (cases_eq number stamp) [
             | inl one ↦ absurd (no_node (at stamp tree) unused (ap (λ n. is_file_node (at n tree)) (sym one) ∙ file))
-            | inr apart_from_new ↦ ap is_file_node (shown.elsewhere number away ∙ (put.elsewhere number away ∙ made.elsewhere number apart_from_new)) ∙ file
+            | inr apart_from_new ↦ ap is_file_node (metadata.elsewhere number away ∙ (put.elsewhere number away ∙ made.elsewhere number apart_from_new)) ∙ file
           ]
         ];
       }

@@ -7,7 +7,7 @@ use Rattle.std.proofs.lemmas.Option.{same_Some}
 use Rattle.model_tree.specs.declared.node.NodeKind.TheVariants as kind
 use Rattle.model_tree.specs.Rights.Acl.{is_list_for}
 use Rattle.model_tree.specs.Trees.Charge.{fits}
-use Rattle.model_tree.specs.Trees.Edit.{Shown, showing, name_put, name_dropped}
+use Rattle.model_tree.specs.Trees.Edit.{Metadata, showing, name_put, name_dropped}
 use Rattle.model_tree.specs.Trees.Keyed.{Keyed, at, is_key, with, without, total, IsAbove}
 use Rattle.model_tree.specs.Trees.Limits.{Limits}
 use Rattle.model_tree.specs.Refusals.Name.{name_refusals}
@@ -587,29 +587,29 @@ module _ (limits : Limits) (tree : Tree) (forest : IsForest limits tree None) (n
 -- A node gets other metadata
 
 module _ (limits : Limits) (tree : Tree) (head : Option ℕ) (forest : IsForest limits tree head) (place : ℕ) (old : Node)
-    (there : at place tree ≡ Some old) (shown : Shown)
-    (list_for : is_list_for limits.aces_set limits.aces (kind_of old.content) shown.acl ≡ true) where
+    (there : at place tree ≡ Some old) (metadata : Metadata)
+    (list_for : is_list_for limits.aces_set limits.aces (kind_of old.content) metadata.acl ≡ true) where
   abbrev pub shows : Node
-  shows = showing shown old
+  shows = showing metadata old
 
-  abbrev pub with_shown : Tree
-  with_shown = with tree place shows
+  abbrev pub with_metadata : Tree
+  with_metadata = with tree place shows
 
-  pub show_names : (number : ℕ) → names_at with_shown number ≡ names_at tree number
+  pub show_names : (number : ℕ) → names_at with_metadata number ≡ names_at tree number
   show_names number = elim (cases_eq number place) [
     | inl one ↦ rw one (names_here tree forest.numbered place old there shows ∙ sym (names_before tree forest.numbered place old there shows))
     | inr apart ↦ names_elsewhere tree forest.numbered place old there shows number apart
   ]
 
-  show_from : (start number : ℕ) → IsFrom tree start number → IsFrom with_shown start number
-  show_from = from_more tree with_shown (λ of stamp entry has. ap (at stamp) (show_names of) ∙ has)
+  show_from : (start number : ℕ) → IsFrom tree start number → IsFrom with_metadata start number
+  show_from = from_more tree with_metadata (λ of stamp entry has. ap (at stamp) (show_names of) ∙ has)
 
-  pub show_forest : IsForest limits with_shown head
+  pub show_forest : IsForest limits with_metadata head
   show_forest = record {
     numbered = numbered_after tree forest.numbered place old there shows;
     rooted = same_directories tree forest.numbered place old there shows refl root ∙ forest.rooted;
     linked = λ number.
-        let sum : links_to with_shown number + links_from number old ≡ links_to tree number + links_from number old
+        let sum : links_to with_metadata number + links_from number old ≡ links_to tree number + links_from number old
         = sum_after tree forest.numbered place old there shows (links_from number) in
         let before : links_to tree number + is_head head number ≡ links_owed tree number = forest.linked number in
         let owed = same_owed tree forest.numbered place old there shows number in
@@ -619,7 +619,7 @@ module _ (limits : Limits) (tree : Tree) (head : Option ℕ) (forest : IsForest 
       | inr is_from ↦ inr (is_from.0, is_from.1, show_from is_from.0 number is_from.2)
     ];
     stamped = λ of.
-        let sum : stamped_in with_shown of + is_stamped of old ≡ stamped_in tree of + is_stamped of old
+        let sum : stamped_in with_metadata of + is_stamped of old ≡ stamped_in tree of + is_stamped of old
         = sum_after tree forest.numbered place old there shows (is_stamped of) in
         let before : stamped_in tree of ≤ 1 = forest.stamped of in
         omega arith;

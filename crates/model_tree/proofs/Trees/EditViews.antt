@@ -5,7 +5,7 @@ use Rattle.std.proofs.lemmas.Bool.{cases_eq}
 use Rattle.model_tree.specs.declared.acl.Ace.{Ace}
 use Rattle.model_tree.specs.Rights.Acl.{is_list_for}
 use Rattle.model_tree.specs.Trees.Changes.{acl_of}
-use Rattle.model_tree.specs.Trees.Edit.{Shown, PutNode, DropNode, Show, PutName, DropName, showing, name_put, name_dropped, altered_at, done}
+use Rattle.model_tree.specs.Trees.Edit.{Metadata, PutNode, DropNode, Show, PutName, DropName, showing, name_put, name_dropped, altered_at, done}
 use Rattle.model_tree.specs.Trees.Keyed.{at, with, without}
 use Rattle.model_tree.specs.Trees.Limits.{Limits}
 use Rattle.model_tree.specs.Refusals.Name.{name_refusals}
@@ -175,30 +175,30 @@ node_is_put limits tree forest number node unused above is_node empty = record {
   };
 }
 
-pub record NodeShown (limits : Limits) (tree after : Tree) (head : Option ℕ) (place : ℕ) (shown : Shown) : Type 0 where
+pub record NodeShown (limits : Limits) (tree after : Tree) (head : Option ℕ) (place : ℕ) (metadata : Metadata) : Type 0 where
   pub forest : IsForest limits after head
   pub names : (number : ℕ) → names_at after number ≡ names_at tree number
   pub directories : (number : ℕ) → is_directory_at after number ≡ is_directory_at tree number
   pub lists : (number : ℕ) → acl_of (at number after) ≡ acl_of (at number tree)
   pub elsewhere : (number : ℕ) → number ≢ place → at number after ≡ at number tree
-  pub here : (node : Node) → at place after ≡ Some node → node.change ≡ shown.change
-  pub before : (bound : ℕ) → shown.change < bound → IsBefore bound tree → IsBefore bound after
+  pub here : (node : Node) → at place after ≡ Some node → node.change ≡ metadata.change
+  pub before : (bound : ℕ) → metadata.change < bound → IsBefore bound tree → IsBefore bound after
 
 -- a directory gets other metadata, and keeps its list
-pub node_is_shown : (limits : Limits) (tree : Tree) (head : Option ℕ) → IsForest limits tree head → (place : ℕ) (shown : Shown)
-    → is_directory_at tree place ≡ true → acl_of (at place tree) ≡ shown.acl
-    → NodeShown limits tree (done (Show place shown) tree) head place shown
-node_is_shown limits tree head forest place shown is list =
+pub node_is_shown : (limits : Limits) (tree : Tree) (head : Option ℕ) → IsForest limits tree head → (place : ℕ) (metadata : Metadata)
+    → is_directory_at tree place ≡ true → acl_of (at place tree) ≡ metadata.acl
+    → NodeShown limits tree (done (Show place metadata) tree) head place metadata
+node_is_shown limits tree head forest place metadata is list =
     let found = directory_at (at place tree) is in
     let old = found.0 in
     let there : at place tree ≡ Some old = found.1 in
-    let after = showing shown old in
-    let same_list : old.acl ≡ shown.acl = sym (ap acl_of there) ∙ list in
-    let list_for : is_list_for limits.aces_set limits.aces (kind_of old.content) shown.acl ≡ true
+    let after = showing metadata old in
+    let same_list : old.acl ≡ metadata.acl = sym (ap acl_of there) ∙ list in
+    let list_for : is_list_for limits.aces_set limits.aces (kind_of old.content) metadata.acl ≡ true
     = subst (λ (l : List Ace). is_list_for limits.aces_set limits.aces (kind_of old.content) l ≡ true) same_list (forest.nodes place old there).entries in
-    let names = show_names limits tree head forest place old there shown list_for in
-    subst (λ t. NodeShown limits tree t head place shown) (sym (ap (altered_at (showing shown) tree place) there)) (record {
-      forest = show_forest limits tree head forest place old there shown list_for;
+    let names = show_names limits tree head forest place old there metadata list_for in
+    subst (λ t. NodeShown limits tree t head place metadata) (sym (ap (altered_at (showing metadata) tree place) there)) (record {
+      forest = show_forest limits tree head forest place old there metadata list_for;
       names = names;
       directories = same_directories tree forest.numbered place old there after refl;
       lists = λ number. elim (cases_eq number place) [
@@ -215,8 +215,8 @@ node_is_shown limits tree head forest place shown is list =
       };
     })
   where
-    change_same : (old node : Node) → Some (showing shown old) ≡ Some node → node.change ≡ shown.change
-    change_same old node same = sym (ap (λ (n : Node). n.change) (value (showing shown old) node same))
+    change_same : (old node : Node) → Some (showing metadata old) ≡ Some node → node.change ≡ metadata.change
+    change_same old node same = sym (ap (λ (n : Node). n.change) (value (showing metadata old) node same))
       where
         value : (x y : Node) → Some x ≡ Some y → x ≡ y
         value x y equal = cc

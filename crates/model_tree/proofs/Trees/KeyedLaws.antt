@@ -132,9 +132,9 @@ module _ {A : Type 0} where
     ]
   ]
 
-  in_front : (entry : ℕ × A) (rest : Keyed A) (key other : ℕ) (value more : A) → key < other → key < entry.0
+  key_before : (entry : ℕ × A) (rest : Keyed A) (key other : ℕ) (value more : A) → key < other → key < entry.0
       → with (with (entry ∷ rest) other more) key value ≡ (key, value) ∷ with (entry ∷ rest) other more
-  in_front entry rest key other value more below low = elim (cases_order other entry.0) [
+  key_before entry rest key other value more below low = elim (cases_order other entry.0) [
     | inl one ↦
         let is = with-here entry rest other more one in
         ap (λ l. with l key value) is ∙ (with-before (other, more) rest key value below ∙ ap (λ l. (key, value) ∷ l) (sym is))
@@ -164,7 +164,7 @@ module _ {A : Type 0} where
     | inr apart ↦ elim apart [
       | inl low ↦ ap (λ l. with l other more) (with-before entry rest key value low)
           ∙ (with-behind (key, value) (entry ∷ rest) other more below
-          ∙ sym (in_front entry rest key other value more below low))
+          ∙ sym (key_before entry rest key other value more below low))
       | inr high ↦
           let further : entry.0 < other = omega arith in
           ap (λ l. with l other more) (with-behind entry rest key value high)

@@ -26,9 +26,9 @@ resized_bytes bytes size are =
 pub length-resized : (bytes : List ℕ) (size : ℕ) → length (resized bytes size) ≡ size
 length-resized bytes size =
     let whole = length-append (take size bytes) (replicate (size - length bytes) 0) in
-    let front = length-take size bytes in
+    let prefix = length-take size bytes in
     let zeros = length-replicate {A = ℕ} (size - length bytes) 0 in
-    omega (arith, whole, front, zeros)
+    omega (arith, whole, prefix, zeros)
 
 pub overwritten_bytes : (bytes : List ℕ) (offset : ℕ) (part : List ℕ) → All (λ byte. byte < 256) bytes → All (λ byte. byte < 256) part
     → All (λ byte. byte < 256) (overwritten bytes offset part)
@@ -43,7 +43,7 @@ overwritten_within bytes offset part most few within =
     let whole = length-append (resized bytes offset) (part ++ drop (offset + length part) bytes) in
     let rest = length-append part (drop (offset + length part) bytes) in
     let tail = length-drop (offset + length part) bytes in
-    let front = length-resized bytes offset in
+    let prefix = length-resized bytes offset in
     omega arith
 
 -- One node is another one

@@ -1,7 +1,7 @@
 -- The edits of each change of names: RFC 8881, sections 18.4 (CREATE), 18.25 (REMOVE) and 18.26
 -- (RENAME). Drops come before puts.
 use Rattle.std.specs.Prelude.{ℕ, List, [], ◌∷◌, ◌++◌, Option, Some, None, ◌≡◌, ◌⊎◌, IsTrue}
-use Rattle.model_tree.specs.Trees.Edit.{Shown, Edit, PutNode, DropNode, Show, PutName, DropName}
+use Rattle.model_tree.specs.Trees.Edit.{Metadata, Edit, PutNode, DropNode, Show, PutName, DropName}
 use Rattle.model_tree.specs.Trees.Keyed.{at, is_key}
 use Rattle.model_tree.specs.Trees.Tree.{Tree, Node, DirEntry, names_at, entry_of}
 use Rattle.model_tree.specs.declared.acl.Ace.{Ace}
@@ -19,7 +19,7 @@ group_of None = 0
 group_of (Some node) = node.group
 
 -- the metadata of a node whose content a change alters, and the edit that sets it
-abbrev pub touched : Option Node → (stamp now : ℕ) → Shown
+abbrev pub touched : Option Node → (stamp now : ℕ) → Metadata
 touched node stamp now = record {
   owner = owner_of node;
   group = group_of node;

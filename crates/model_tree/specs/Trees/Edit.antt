@@ -5,7 +5,7 @@ use Rattle.model_tree.specs.Trees.Keyed.{at, with, without}
 use Rattle.model_tree.specs.Trees.Tree.{Tree, Node, Content, File, Directory, DirEntry, names_of, bytes_of}
 
 -- a node's metadata: all of it except the content
-pub record Shown : Type 0 where
+pub record Metadata : Type 0 where
   pub owner : ℕ
   pub group : ℕ
   pub acl : List Ace
@@ -15,7 +15,7 @@ pub record Shown : Type 0 where
 pub data Edit : Type 0 where
   PutNode : (number : ℕ) → Node → Edit
   DropNode : (number : ℕ) → Edit
-  Show : (number : ℕ) → Shown → Edit
+  Show : (number : ℕ) → Metadata → Edit
   PutName : (directory stamp : ℕ) → DirEntry → Edit
   DropName : (directory stamp : ℕ) → Edit
   PutBytes : (file offset : ℕ) → List ℕ → Edit
@@ -29,13 +29,13 @@ abbrev pub overwritten : List ℕ → (offset : ℕ) → (part : List ℕ) → L
 overwritten bytes offset part = resized bytes offset ++ (part ++ drop (offset + length part) bytes)
 
 -- a node with other metadata, and one with other content
-abbrev pub showing : Shown → Node → Node
-showing shown node = record {
-  owner = shown.owner;
-  group = shown.group;
-  acl = shown.acl;
-  change = shown.change;
-  time_modify = shown.time_modify;
+abbrev pub showing : Metadata → Node → Node
+showing metadata node = record {
+  owner = metadata.owner;
+  group = metadata.group;
+  acl = metadata.acl;
+  change = metadata.change;
+  time_modify = metadata.time_modify;
   content = node.content;
 }
 
@@ -59,7 +59,7 @@ altered change tree number = altered_at change tree number (at number tree)
 abbrev pub done : Edit → Tree → Tree
 done (PutNode number node) tree = with tree number node
 done (DropNode number) tree = without tree number
-done (Show number shown) tree = altered (showing shown) tree number
+done (Show number metadata) tree = altered (showing metadata) tree number
 done (PutName directory stamp entry) tree = altered (name_put stamp entry) tree directory
 done (DropName directory stamp) tree = altered (name_dropped stamp) tree directory
 done (PutBytes file offset part) tree =

@@ -8,7 +8,7 @@ use super::text::Texts;
 pub struct Case<'a> {
     pub name: &'a str,
     /// What is in front of what each of its commands reads and writes.
-    pub front: Texts,
+    pub prefix: Texts,
     pub steps: Vec<Placed<'a>>,
 }
 

@@ -62,7 +62,7 @@ impl<'a> Sheet<'a> {
         }
         self.cases.push(Case {
             name,
-            front: Texts::new(alloc),
+            prefix: Texts::new(alloc),
             steps: Vec::new(alloc),
         })?;
         Ok(())
@@ -76,7 +76,7 @@ impl<'a> Sheet<'a> {
         };
         match case.steps.last_mut() {
             Some(placed) => placed.step.text(stream).ok_or(Fault::Place),
-            None => Ok(case.front.by(stream)),
+            None => Ok(case.prefix.by(stream)),
         }
     }
 
@@ -102,7 +102,7 @@ impl<'a> Sheet<'a> {
         let Some(case) = self.cases.last_mut() else {
             return Err(Fault::Place);
         };
-        let step = read_step(alloc, &case.front, verb, words)?;
+        let step = read_step(alloc, &case.prefix, verb, words)?;
         case.steps.push(Placed { line, step })?;
         Ok(())
     }

@@ -152,22 +152,22 @@ fn add_words(bytes: &mut Vec<u8>, words: &str) -> Result<(), Fault> {
 /// Reads a step. What each command of its case reads and writes begins so.
 pub fn read_step<'a>(
     alloc: Global,
-    front: &Texts,
+    prefix: &Texts,
     verb: &str,
     words: &'a str,
 ) -> Result<Step<'a>, Fault> {
     let words: Vec<&str> = words.split(' ').collect(alloc)?;
     match verb {
-        "runs" => runs(alloc, front, Way::Takes, &words),
-        "breaks" => runs(alloc, front, Way::Fails, &words),
-        "serves" => runs(alloc, front, Way::Serves(Vec::new(alloc)), &words),
+        "runs" => runs(alloc, prefix, Way::Takes, &words),
+        "breaks" => runs(alloc, prefix, Way::Fails, &words),
+        "serves" => runs(alloc, prefix, Way::Serves(Vec::new(alloc)), &words),
         "puts" => puts(alloc, &words),
         "writes" => writes(alloc, &words),
         _ => file_step(verb, &words),
     }
 }
 
-fn runs<'a>(alloc: Global, front: &Texts, way: Way, words: &[&'a str]) -> Result<Step<'a>, Fault> {
+fn runs<'a>(alloc: Global, prefix: &Texts, way: Way, words: &[&'a str]) -> Result<Step<'a>, Fault> {
     let [status, words @ ..] = words else {
         return Err(Fault::Step);
     };
@@ -181,7 +181,7 @@ fn runs<'a>(alloc: Global, front: &Texts, way: Way, words: &[&'a str]) -> Result
     Ok(Step::Runs {
         status,
         words: command,
-        texts: front.copy()?,
+        texts: prefix.copy()?,
         way,
     })
 }

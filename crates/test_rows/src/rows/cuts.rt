@@ -81,17 +81,17 @@ impl Cuts<'_> {
         };
         let record = records.spell(self.alloc, self.record, Some(filling))?;
         let end = HEADER.saturating_add(length);
-        let front = record.get(..end).ok_or(Fault::Short)?;
-        self.add_front(front, row)?;
+        let prefix = record.get(..end).ok_or(Fault::Short)?;
+        self.add_prefix(prefix, row)?;
         row.add(self.line, self.question.ask()?)
     }
 
-    fn add_front(&self, front: &[u8], row: &mut Row<'_>) -> Result<(), Fault> {
+    fn add_prefix(&self, prefix: &[u8], row: &mut Row<'_>) -> Result<(), Fault> {
         let connection = self.connection;
-        let mut record = Vec::from_slice(self.alloc, front)?;
+        let mut record = Vec::from_slice(self.alloc, prefix)?;
         set_header(&mut record);
         self.add_last(Step::Sends { connection, record }, row)?;
-        let record = Vec::from_slice(self.alloc, front)?;
+        let record = Vec::from_slice(self.alloc, prefix)?;
         self.add_last(Step::Feeds { connection, record }, row)
     }
 

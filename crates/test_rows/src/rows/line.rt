@@ -16,7 +16,7 @@ pub enum Line<'a> {
 /// Reads a line without its end; None if it has no form.
 pub fn read_line(text: &str) -> Option<Line<'_>> {
     let text = match text.split_once("#") {
-        Some((front, _)) => front,
+        Some((prefix, _)) => prefix,
         None => text,
     };
     let words = text.trim();

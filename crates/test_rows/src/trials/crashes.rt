@@ -117,20 +117,20 @@ impl<'a> Trial<'a> {
     }
 
     /// The steps of the row in front of those that crash.
-    fn front(&self) -> &'a [Placed] {
+    fn prefix(&self) -> &'a [Placed] {
         let begins = self
             .steps
             .iter()
             .position(|placed| matches!(placed.step, Step::Marks(Mark::Begins)));
         match self.steps.get(..begins.unwrap_or(0)) {
-            Some(front) => front,
+            Some(prefix) => prefix,
             None => &[],
         }
     }
 
     /// Crashes before and within each step of the device.
     fn crash_each<H: Host>(&mut self) -> Result<(), Differs> {
-        let first = self.steps_of::<H>(self.front())?;
+        let first = self.steps_of::<H>(self.prefix())?;
         for step in first..self.steps_of::<H>(self.steps)? {
             self.crash_at::<H>(Stop::Before(step))?;
             self.crash_at::<H>(Stop::Within(step))?;

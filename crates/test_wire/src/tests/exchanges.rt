@@ -217,10 +217,10 @@ fn a_request_is_exchanged(rt: HostRuntime) -> Result<(), Fail> {
 
 /// Whether a record is kept if the reader ends after this prefix of the reply, and if it then fails
 /// there.
-fn outlasts_readers(alloc: Global, front: &[u8], worked: &Dialogue) -> Result<bool, Fail> {
+fn outlasts_readers(alloc: Global, prefix: &[u8], worked: &Dialogue) -> Result<bool, Fail> {
     let record = worked.record.as_slice();
-    let ends = Turn::unanswered(Sends::New, front, Told::Io, record);
-    let fails = Turn::unanswered(Sends::Kept, front, Told::Io, record);
+    let ends = Turn::unanswered(Sends::New, prefix, Told::Io, record);
+    let fails = Turn::unanswered(Sends::Kept, prefix, Told::Io, record);
     let mut client = new_client(alloc)?;
     Ok(
         comes(alloc, &mut client, &ends)
@@ -241,11 +241,11 @@ fn a_reader_that_ends_or_fails_is_io(rt: HostRuntime) -> Result<(), Fail> {
 }
 
 /// Whether a record is kept if the writer fails after this prefix of it, before anything is read.
-fn outlasts_writer(alloc: Global, front: &[u8], worked: &Dialogue) -> Result<bool, Fail> {
-    let fails = Turn::unread(Sends::New, &worked.answer, Told::Io, front);
+fn outlasts_writer(alloc: Global, prefix: &[u8], worked: &Dialogue) -> Result<bool, Fail> {
+    let fails = Turn::unread(Sends::New, &worked.answer, Told::Io, prefix);
     let mut client = new_client(alloc)?;
     Ok(
-        comes_slowly(alloc, &mut client, &fails, front.len())
+        comes_slowly(alloc, &mut client, &fails, prefix.len())
             && comes(alloc, &mut client, &worked.whole()),
     )
 }

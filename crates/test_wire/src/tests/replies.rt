@@ -146,10 +146,10 @@ fn is_told(alloc: Global, client: &mut Client, step: &Step<'_>) -> Result<bool, 
 fn are_told(
     alloc: Global,
     client: &mut Client,
-    front: &[Step<'_>],
+    prefix: &[Step<'_>],
     rest: &[Step<'_>],
 ) -> Result<bool, Fail> {
-    for step in front.iter().chain(rest) {
+    for step in prefix.iter().chain(rest) {
         if !is_told(alloc, client, step)? {
             return Ok(false);
         }
@@ -158,9 +158,9 @@ fn are_told(
 }
 
 /// Whether a new client reports this.
-fn tells(alloc: Global, front: &[Step<'_>], rest: &[Step<'_>]) -> Result<bool, Fail> {
+fn tells(alloc: Global, prefix: &[Step<'_>], rest: &[Step<'_>]) -> Result<bool, Fail> {
     let mut client = new_client(alloc)?;
-    are_told(alloc, &mut client, front, rest)
+    are_told(alloc, &mut client, prefix, rest)
 }
 
 #[test]

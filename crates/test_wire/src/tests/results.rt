@@ -87,7 +87,7 @@ fn given_in(alloc: Global, bytes: &[u8]) -> Result<Vec<Value<'_>>, Refusal> {
 }
 
 /// The bytes of values.
-fn spelled(alloc: Global, values: &[Value<'_>]) -> Result<Vec<u8>, Refusal>
+fn encoded(alloc: Global, values: &[Value<'_>]) -> Result<Vec<u8>, Refusal>
     requires { All ValueFits values.now }
 {
     let mut w = Writer::new(alloc);
@@ -111,7 +111,7 @@ fn mode_and_owner_are_read(rt: HostRuntime) -> Result<(), Fail> {
 
 #[test]
 fn mode_and_owner_are_written(rt: HostRuntime) -> Result<(), Fail> {
-    let written = spelled(rt.alloc(), &[Value::Mode(0o755), Value::Owner(b"7")])?;
+    let written = encoded(rt.alloc(), &[Value::Mode(0o755), Value::Owner(b"7")])?;
     let expected = bytes_of(rt.alloc(), VALUES)?;
     assert!(rt; written.as_slice() == expected.as_slice());
     Ok(())

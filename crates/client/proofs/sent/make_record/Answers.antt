@@ -17,7 +17,7 @@ returns c =
     let numbers : c.in_ok-numbers.numbers.items ≡ map operation_of asked =
     c.in_ok-numbers.ensures ∙ behind_numbers c.args.session c.args.operations.now in
     let call : c.as_slice.result.now ≡ call_text c.args.xid c.args.credential.now c.args.tag.now asked =
-    c.as_slice.ensures ∙ c.in_ok-write_call.ensures ∙ ap (λ (front : List ℕ). front ++ call_text c.args.xid c.args.credential.now c.args.tag.now asked) c.new-call.ensures in
+    c.as_slice.ensures ∙ c.in_ok-write_call.ensures ∙ ap (λ (prefix : List ℕ). prefix ++ call_text c.args.xid c.args.credential.now c.args.tag.now asked) c.new-call.ensures in
     let bytes : c.in_ok-bytes.bytes.items ≡ record_text c.args.xid c.args.credential.now c.args.tag.now asked =
     c.in_ok-bytes.ensures.ok ∙ ap framed call in
     let sent : List ℕ → List ℕ → Sent =

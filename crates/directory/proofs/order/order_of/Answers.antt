@@ -1,7 +1,7 @@
 use Rattle.std.proofs.Common.{◌<◌, length, take, sym, subst, arith}
 use Rattle.std.proofs.lemmas.List.{take_all, length-take}
 use Rattle.directory.specs.Order.{IsOrder}
-use Rattle.directory.proofs.InOrder.{no_records, front_rising, one_more}
+use Rattle.directory.proofs.InOrder.{no_records, prefix_rising, one_more}
 use Rattle.directory.proofs.order.order_of.Goals as goal
 
 pub loop-place-init : goal.loop-place-init
@@ -11,7 +11,7 @@ pub insert-requires-clause-rising : goal.insert-requires-clause-rising
 insert-requires-clause-rising c =
     let records = c.args.records.now in
     let i = c.loop-place.place in
-    front_rising c.args.by c.reserve.new.self.items records i (subst (λ order. IsOrder c.args.by order (take i records)) (sym c.in_ok-reserve.ensures.items) c.loop-place.invariant)
+    prefix_rising c.args.by c.reserve.new.self.items records i (subst (λ order. IsOrder c.args.by order (take i records)) (sym c.in_ok-reserve.ensures.items) c.loop-place.invariant)
 
 pub insert-requires-clause-within : goal.insert-requires-clause-within
 insert-requires-clause-within c = λ other has.

@@ -3,7 +3,7 @@ use Rattle.std.proofs.lemmas.Result.{err_from_is_err_and}
 use Rattle.std.proofs.lemmas.List.{map_push}
 use Rattle.sector.specs.Written.{AreRead-more, AreRead-all, none_there}
 use Rattle.directory.specs.Records.{record_of, record_from, IsRecord}
-use Rattle.directory.specs.Spelling.{record_bytes}
+use Rattle.directory.specs.Encoding.{record_bytes}
 use Rattle.directory.proofs.Sector.{records_wide, records_there, err_is}
 use Rattle.directory.proofs.sectors.entries_in.Goals as goal
 

@@ -2,7 +2,7 @@ use Rattle.std.proofs.Common.{◌≡◌, ◌+◌, ◌*◌, ◌-◌, [], length, 
 use Rattle.std.proofs.lemmas.List.{length-take, length-drop, get_or-take, get_or-drop}
 use Rattle.sector.specs.Written.{AreWritten, AreWritten-more, AreWritten-zeros, each_at}
 use Rattle.directory.specs.Records.{record_of, record_from, IsRecord}
-use Rattle.directory.specs.Spelling.{record_bytes}
+use Rattle.directory.specs.Encoding.{record_bytes}
 use Rattle.directory.proofs.Sector.{sector_written}
 use Rattle.directory.proofs.sectors.write_part.Goals as goal
 
@@ -25,7 +25,7 @@ loop-i-preserved c =
     let many : length part ≡ c.args.count = omega (arith, length-take c.args.count (drop c.args.from records), length-drop c.args.from records, c.requires.within) in
     let is : one ≡ get_or part i one =
     sym (get_or-take c.args.count (drop c.args.from records) i one c.loop-i-test.true ∙ (get_or-drop c.args.from records i one ∙ c.get.ensures one)) in
-    AreWritten-more record_bytes 272 0 c.args.sector.now c.loop-i.sector c.put_record.new.sector part i (272 * i) one c.loop-i.invariant (omega (arith, many, c.loop-i-test.true)) is (omega arith) c.put_record.ensures.front c.put_record.ensures.len
+    AreWritten-more record_bytes 272 0 c.args.sector.now c.loop-i.sector c.put_record.new.sector part i (272 * i) one c.loop-i.invariant (omega (arith, many, c.loop-i-test.true)) is (omega arith) c.put_record.ensures.prefix c.put_record.ensures.len
 
 pub returns : goal.returns
 returns c =
@@ -36,4 +36,4 @@ returns c =
     let end : c.loop-i.i ≡ length part = omega (arith, many, c.loop-i-test.false, c.loop-i.auto.i-end) in
     let last = subst (AreWritten record_bytes 272 0 c.args.sector.now c.loop-i.sector part) end c.loop-i.invariant in
     sector_written part c.put_zeros.new.sector (272 * count) (4096 - 272 * count) (omega (arith, many)) (omega (arith, many, c.requires.few)) refl c.put_zeros.ensures.len
-    (AreWritten-zeros record_bytes 272 0 c.args.sector.now c.loop-i.sector c.put_zeros.new.sector part (272 * count) (4096 - 272 * count) last (omega (arith, many)) c.put_zeros.ensures.front)
+    (AreWritten-zeros record_bytes 272 0 c.args.sector.now c.loop-i.sector c.put_zeros.new.sector part (272 * count) (4096 - 272 * count) last (omega (arith, many)) c.put_zeros.ensures.prefix)

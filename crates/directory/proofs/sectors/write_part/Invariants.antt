@@ -1,6 +1,6 @@
 use Rattle.std.proofs.Common.{drop, take}
 use Rattle.sector.specs.Written.{AreWritten}
-use Rattle.directory.specs.Spelling.{record_bytes}
+use Rattle.directory.specs.Encoding.{record_bytes}
 use Rattle.directory.proofs.sectors.write_part.Given as goal
 
 abbrev pub invariant-loop-i : goal.invariant-loop-i

@@ -4,7 +4,7 @@ use Rattle.model_tree.specs.declared.acl.Ace.{Ace}
 use Rattle.model_tree.specs.declared.acl.AceKind.TheVariants.{Allow}
 use Rattle.model_tree.specs.declared.acl.Who.TheVariants.{Owner}
 use Rattle.inode.specs.Fields.{IsAce}
-use Rattle.inode.specs.Spelling.{ace_bytes}
+use Rattle.inode.specs.Encoding.{ace_bytes}
 use Rattle.inode.proofs.EntryLemmas.{aces_wide, some_is}
 use Rattle.inode.proofs.reading.acl_in.Goals as goal
 

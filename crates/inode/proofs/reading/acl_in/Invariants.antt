@@ -1,6 +1,6 @@
 use Rattle.sector.specs.Written.{AreRead}
 use Rattle.inode.specs.Fields.{IsAce}
-use Rattle.inode.specs.Spelling.{ace_bytes}
+use Rattle.inode.specs.Encoding.{ace_bytes}
 use Rattle.inode.proofs.reading.acl_in.Given as goal
 
 abbrev pub invariant-loop-i : goal.invariant-loop-i

@@ -1,7 +1,7 @@
 use Rattle.std.proofs.Common.{◌+◌, ◌*◌, refl}
 use Rattle.sector.specs.Written.{AreRead-more, none_there}
 use Rattle.inode.specs.Fields.{IsRunSector}
-use Rattle.inode.specs.Spelling.{number_bytes}
+use Rattle.inode.specs.Encoding.{number_bytes}
 use Rattle.inode.proofs.EntryLemmas.{numbers_wide, some_is}
 use Rattle.inode.proofs.reading.run_sectors_in.Goals as goal
 

@@ -1,5 +1,5 @@
 use Rattle.sector.specs.Written.{AreWritten}
-use Rattle.inode.specs.Spelling.{ace_bytes}
+use Rattle.inode.specs.Encoding.{ace_bytes}
 use Rattle.inode.proofs.writing.put_entries.Given as goal
 
 abbrev pub invariant-loop-i : goal.invariant-loop-i

@@ -1,5 +1,5 @@
 use Rattle.sector.specs.Written.{AreWritten}
-use Rattle.inode.specs.Spelling.{number_bytes}
+use Rattle.inode.specs.Encoding.{number_bytes}
 use Rattle.inode.proofs.writing.put_run_sectors.Given as goal
 
 abbrev pub invariant-loop-i : goal.invariant-loop-i

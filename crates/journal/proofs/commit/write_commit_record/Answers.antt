@@ -2,7 +2,7 @@ use Rattle.std.proofs.Common.{◌≡◌, ◌∙◌, ◌+◌, ◌≤◌, ◌++◌
 use Rattle.std.proofs.lemmas.List.{length-append}
 use Rattle.journal.specs.Layout.{AreNamed, gate, targets, placed}
 use Rattle.journal.specs.Phase.{AddsUpdates, IsFixedAs}
-use Rattle.journal.proofs.Behinds.{front_fits}
+use Rattle.journal.proofs.Behinds.{prefix_fits}
 use Rattle.journal.proofs.Images.{length-targets}
 use Rattle.journal.proofs.Commits.{payload_moments, gate_moments, recorded, AddsUpdates-gate, IsFixedAs-gate, IsRecorded-at, payload_moments_at, payload_fixed_at}
 use Rattle.journal.proofs.commit.write_commit_record.Goals as goal
@@ -53,7 +53,7 @@ returns-in_err-write_payload-clause-moments g c = λ k gated.
 
 pub returns-in_err-write_payload-clause-kept : goal.returns-in_err-write_payload-clause-kept
 returns-in_err-write_payload-clause-kept g c = record {
-  fits = front_fits c.args.area c.args.shown.now.items c.args.to.now c.requires.fits;
+  fits = prefix_fits c.args.area c.args.shown.now.items c.args.to.now c.requires.fits;
   capacity = refl;
 }
 

@@ -1,14 +1,14 @@
-use Rattle.layout.proofs.CachedNodeLaws.{cached-back, cards-back, only_card, only_cards}
+use Rattle.layout.proofs.CachedNodeLaws.{cached-back, cached_nodes-back, only_cached, only_cached_nodes}
 use Rattle.layout.proofs.cached_nodes.read_back.Goals as goal
 
 pub returns-clause-cached : goal.returns-clause-cached
 returns-clause-cached c = cached-back
 
-pub returns-clause-cards : goal.returns-clause-cards
-returns-clause-cards c = cards-back
+pub returns-clause-cached_nodes : goal.returns-clause-cached_nodes
+returns-clause-cached_nodes c = cached_nodes-back
 
-pub returns-clause-only_card : goal.returns-clause-only_card
-returns-clause-only_card c = only_card
+pub returns-clause-only_cached : goal.returns-clause-only_cached
+returns-clause-only_cached c = only_cached
 
-pub returns-clause-only_cards : goal.returns-clause-only_cards
-returns-clause-only_cards c = only_cards
+pub returns-clause-only_cached_nodes : goal.returns-clause-only_cached_nodes
+returns-clause-only_cached_nodes c = only_cached_nodes

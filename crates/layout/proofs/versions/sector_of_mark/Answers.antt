@@ -1,10 +1,10 @@
 use Rattle.std.proofs.Common.{refl}
 use Rattle.layout.specs.Stands.{mark_fields, mark_sector}
-use Rattle.layout.proofs.FrontBytes.{behind_front}
+use Rattle.layout.proofs.PrefixBytes.{behind_prefix}
 use Rattle.layout.proofs.versions.sector_of_mark.Goals as goal
 
 pub returns : goal.returns
 unfolding mark_sector
 returns c =
-    behind_front 8 4088 c.put_mark.new.sector c.put_zeros.new.sector (mark_fields c.args.moved) refl
-    c.put_zeros.ensures.len c.put_mark.ensures.front c.put_zeros.ensures.front
+    behind_prefix 8 4088 c.put_mark.new.sector c.put_zeros.new.sector (mark_fields c.args.moved) refl
+    c.put_zeros.ensures.len c.put_mark.ensures.prefix c.put_zeros.ensures.prefix

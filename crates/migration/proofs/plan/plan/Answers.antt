@@ -8,13 +8,13 @@ use Rattle.migration.proofs.plan.plan.Goals as goal
 
 pub loop-i-preserved : goal.loop-i-preserved
 loop-i-preserved c =
-    let cards = c.args.table.now in
+    let cached_nodes = c.args.table.now in
     let i = c.loop-i.i in
     let from = c.args.moved + 47 * i in
     let items = λ (v : Vec Update Global). v.items in
-    let counted : c.min-to.result - from ≡ min 47 (length cards - from) = omega (arith, c.min-to.ensures, c.places-places.ensures.places) in
+    let counted : c.min-to.result - from ≡ min 47 (length cached_nodes - from) = omega (arith, c.min-to.ensures, c.places-places.ensures.places) in
     ap (map items) c.in_ok-push.ensures.items
     ∙ map-append items c.loop-i.transactions.items (c.in_ok-transaction.field-0 ∷ [])
     ∙ ap (λ (l : List (List Update)). l ++ items c.in_ok-transaction.field-0 ∷ []) c.loop-i.invariant
-    ∙ ap (λ (us : List Update). map (step_at cards c.args.moved) (range_with_len 0 i) ++ us ∷ []) (c.in_ok-transaction.ensures ∙ ap (step cards from) counted)
-    ∙ sym (map-range_with_len_more (step_at cards c.args.moved) 0 i i (omega arith))
+    ∙ ap (λ (us : List Update). map (step_at cached_nodes c.args.moved) (range_with_len 0 i) ++ us ∷ []) (c.in_ok-transaction.ensures ∙ ap (step cached_nodes from) counted)
+    ∙ sym (map-range_with_len_more (step_at cached_nodes c.args.moved) 0 i i (omega arith))

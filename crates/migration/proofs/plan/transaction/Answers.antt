@@ -11,14 +11,14 @@ pub moved_node-requires-clause-fit : goal.moved_node-requires-clause-fit
 moved_node-requires-clause-fit c = c.requires.fit c.loop-place.place c.in-Some.cached.now c.in-Some.ensures.some
 
 -- one more place, which holds this
-more : (cards : List (Option CachedNode)) (from place : ℕ) (card : Option CachedNode) (updates : List Update) → from ≤ place → get_or cards place None ≡ card
-    → updates ≡ nodes_of cards from (place - from) ++ moved_node place card → updates ≡ nodes_of cards from (place + 1 - from)
-more cards from place card updates low there are =
+more : (cached_nodes : List (Option CachedNode)) (from place : ℕ) (cached_node : Option CachedNode) (updates : List Update) → from ≤ place → get_or cached_nodes place None ≡ cached_node
+    → updates ≡ nodes_of cached_nodes from (place - from) ++ moved_node place cached_node → updates ≡ nodes_of cached_nodes from (place + 1 - from)
+more cached_nodes from place cached_node updates low there are =
     are
-    ∙ ap (λ (one : Option CachedNode). nodes_of cards from (place - from) ++ moved_node place one) (sym there)
-    ∙ ap (λ (p : ℕ). nodes_of cards from (place - from) ++ moved_node p (get_or cards p None)) (let q : place ≡ from + (place - from) = omega arith in q)
-    ∙ sym (nodes_more cards from (place - from))
-    ∙ ap (nodes_of cards from) (let q : suc (place - from) ≡ place + 1 - from = omega arith in q)
+    ∙ ap (λ (one : Option CachedNode). nodes_of cached_nodes from (place - from) ++ moved_node place one) (sym there)
+    ∙ ap (λ (p : ℕ). nodes_of cached_nodes from (place - from) ++ moved_node p (get_or cached_nodes p None)) (let q : place ≡ from + (place - from) = omega arith in q)
+    ∙ sym (nodes_more cached_nodes from (place - from))
+    ∙ ap (nodes_of cached_nodes from) (let q : suc (place - from) ≡ place + 1 - from = omega arith in q)
 
 pub loop-place-preserved : goal.loop-place-preserved
 loop-place-preserved c =

@@ -1,4 +1,4 @@
-use Rattle.model.proofs.Wire.ResultLaws.{result_exact, one_result, spells_results}
+use Rattle.model.proofs.Wire.ResultLaws.{result_exact, one_result, encodes_results}
 use Rattle.model.proofs.Server.ResultRuns.{every_request_has_results}
 use Rattle.model.proofs.rpc.results_are_exact.Goals as goal
 
@@ -8,8 +8,8 @@ returns-clause-exact c = result_exact
 pub returns-clause-one : goal.returns-clause-one
 returns-clause-one c = one_result
 
-pub returns-clause-spelled : goal.returns-clause-spelled
-returns-clause-spelled c = spells_results
+pub returns-clause-encoded : goal.returns-clause-encoded
+returns-clause-encoded c = encodes_results
 
 pub returns-clause-each : goal.returns-clause-each
 returns-clause-each c = every_request_has_results

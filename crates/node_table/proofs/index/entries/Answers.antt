@@ -12,11 +12,11 @@ push_reserved-requires c = omega (arith, c.loop-place.invariant.few, c.loop-plac
 pub loop-place-preserved : goal.loop-place-preserved
 loop-place-preserved c =
     let inv = c.loop-place.invariant in
-    let step = entries-step c.args.cards.now c.loop-place.place c.index-cards-place.result c.loop-place-test.true c.index-cards-place.is c.loop-place.index.items inv.entries in
+    let step = entries-step c.args.cached_nodes.now c.loop-place.place c.index-cached_nodes-place.result c.loop-place-test.true c.index-cached_nodes-place.is c.loop-place.index.items inv.entries in
     elim c.match-cached.branch [
       | in-Some w ↦
-          let added : (w.cached.inside.inode.number, c.loop-place.place) ∷ [] ≡ entry_from c.loop-place.place c.index-cards-place.result =
-          ap (λ (card : CachedNode). (card.fields.number, c.loop-place.place) ∷ []) w.cached.view_is ∙ ap (entry_from c.loop-place.place) (sym w.in-Some.is) in
+          let added : (w.cached.inside.inode.number, c.loop-place.place) ∷ [] ≡ entry_from c.loop-place.place c.index-cached_nodes-place.result =
+          ap (λ (cached_node : CachedNode). (cached_node.fields.number, c.loop-place.place) ∷ []) w.cached.view_is ∙ ap (entry_from c.loop-place.place) (sym w.in-Some.is) in
           rw w.index-is (record {
             entries = w.push_reserved.ensures.items ∙ ap (λ (l : Keyed ℕ). c.loop-place.index.items ++ l) added ∙ step;
             few = omega (arith, w.push_reserved.ensures.len, inv.few);
@@ -24,7 +24,7 @@ loop-place-preserved c =
           })
       | in_default w ↦
           rw w.index-is (record {
-            entries = sym (append-nil c.loop-place.index.items) ∙ ap (λ (card : Option CachedNode). c.loop-place.index.items ++ entry_from c.loop-place.place card) (sym w.in_default.is) ∙ step;
+            entries = sym (append-nil c.loop-place.index.items) ∙ ap (λ (cached_node : Option CachedNode). c.loop-place.index.items ++ entry_from c.loop-place.place cached_node) (sym w.in_default.is) ∙ step;
             few = omega (arith, inv.few);
             room = inv.room;
           })

@@ -6,7 +6,7 @@ use Rattle.node_table.proofs.index.entries.Given as goal
 -- this many places have been looked at
 abbrev pub invariant-loop-place : goal.invariant-loop-place
 invariant-loop-place l = record {
-  entries : l.index.items ≡ entries_from 0 (take l.place l.cards);
+  entries : l.index.items ≡ entries_from 0 (take l.place l.cached_nodes);
   few : vec_len l.index ≤ l.place;
-  room : vec_capacity l.index ≡ length l.cards;
+  room : vec_capacity l.index ≡ length l.cached_nodes;
 }

@@ -2,7 +2,7 @@ use Rattle.std.proofs.Common.{◌≡◌, ◌-◌, ◌++◌, true, List, ℕ, dro
 use Rattle.model.specs.Wire.Record.{Whole}
 use Rattle.model.specs.Wire.Rpc.{read_call, is_call_read, NoCall}
 use Rattle.rpc.proofs.Ends.{taken_by, partial_by, whole_there, same_request, is_call, no_call, from_place}
-use Rattle.rpc.proofs.Rooms.{room_for_piece, room_for_front}
+use Rattle.rpc.proofs.Rooms.{room_for_piece, room_for_prefix}
 use Rattle.rpc.proofs.receive.receive_piece.Goals as goal
 
 pub overflow_sub-taken : goal.overflow_sub-taken
@@ -28,7 +28,7 @@ extend_reserved-requires-in-Whole c =
     let t = taken_by old c.deref.result.now c.args.piece.now c.in-Whole.end c.deref.ensures c.scan_record.ensures.old_bytes c.scan_record.ensures.piece_bytes c.requires.partial c.in-Whole.ensures.end in
     let count = t.count in
     let len = c.len.ensures.value in
-    room_for_front old c.args.piece.now t.rest t.request (c.in-Whole.end - c.len.result) c.args.bytes.now.spare t.is c.requires.room (omega arith)
+    room_for_prefix old c.args.piece.now t.rest t.request (c.in-Whole.end - c.len.result) c.args.bytes.now.spare t.is c.requires.room (omega arith)
 
 pub returns-in-Ok-clause-received : goal.returns-in-Ok-clause-received
 returns-in-Ok-clause-received c =

@@ -1,6 +1,6 @@
 use Rattle.std.proofs.Common.{◌≡◌, ℕ, ◌<◌}
 use Rattle.model_tree.specs.Seats.SeatViews.{place_view}
-use Rattle.seats.specs.Spelling.{sector_of, seat_sector}
+use Rattle.seats.specs.Encoding.{sector_of, seat_sector}
 use Rattle.seats.proofs.reading.are_sectors_of.Given as goal
 
 abbrev pub invariant-loop-k : goal.invariant-loop-k

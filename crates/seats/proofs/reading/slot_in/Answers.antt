@@ -1,7 +1,7 @@
 use Rattle.std.proofs.Common.{◌≡◌, ◌+◌, ◌-◌, ℕ, List, Some, length, take, drop, sym, ap, ap₂, ◌∙◌, arith}
 use Rattle.std.specs.Int.{w32, from_be_bytes}
 use Rattle.model_tree.specs.Seats.Seats.{HeldReply}
-use Rattle.seats.specs.Spelling.{sector_of, slot_text}
+use Rattle.seats.specs.Encoding.{sector_of, slot_text}
 use Rattle.seats.specs.Reading.{held_in, text_from}
 use Rattle.seats.proofs.Sectors.{text_numbers, flattened}
 use Rattle.seats.proofs.ReadBack.{slot_none, slot_some, same_held, length_fits}

@@ -7,5 +7,5 @@ use Rattle.seats.proofs.writing.first_part.Goals as goal
 pub returns : goal.returns
 returns c =
     c.fill.ensures
-    ∙ ap₂ (λ (a b : List ℕ). a ++ padded 4072 b) c.put_held_front.ensures.front c.deref.ensures.value
+    ∙ ap₂ (λ (a b : List ℕ). a ++ padded 4072 b) c.put_held_prefix.ensures.prefix c.deref.ensures.value
     ∙ sym (first_part_is (held_view c.args.held.now) c.args.held.now.short)

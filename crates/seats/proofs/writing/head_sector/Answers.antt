@@ -7,5 +7,5 @@ use Rattle.seats.proofs.writing.head_sector.Goals as goal
 pub returns : goal.returns
 returns c =
     c.fill.ensures
-    ∙ ap₂ (λ (a b : List ℕ). a ++ padded 4064 b) c.put_head_front.ensures.front c.deref.ensures.value
+    ∙ ap₂ (λ (a b : List ℕ). a ++ padded 4064 b) c.put_head_prefix.ensures.prefix c.deref.ensures.value
     ∙ head_is (seat_view c.args.seat.now) c.args.seat.now.owned

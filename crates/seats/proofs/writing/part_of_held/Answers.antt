@@ -2,7 +2,7 @@ use Rattle.std.proofs.Common.{Option, ap, sym, ◌∙◌}
 use Rattle.std.specs.Option.{option_map}
 use Rattle.model_tree.specs.declared.seats.HeldReply.{HeldReply}
 use Rattle.model_tree.specs.Seats.SeatViews.{held_view}
-use Rattle.seats.specs.Spelling.{part_of, slot_text}
+use Rattle.seats.specs.Encoding.{part_of, slot_text}
 use Rattle.seats.proofs.Parts.{part_of_none}
 use Rattle.seats.proofs.writing.part_of_held.Goals as goal
 

@@ -3,7 +3,7 @@ use Rattle.std.proofs.lemmas.List.{get_or_past, length-map}
 use Rattle.std.specs.Option.{option_map}
 use Rattle.model_tree.specs.Seats.Seats.{HeldReply}
 use Rattle.model_tree.specs.Seats.SeatViews.{held_view}
-use Rattle.seats.specs.Spelling.{part_of, slot_text}
+use Rattle.seats.specs.Encoding.{part_of, slot_text}
 use Rattle.seats.proofs.Parts.{part_of_none}
 use Rattle.seats.proofs.writing.part_of_slot.Goals as goal
 

@@ -1,7 +1,7 @@
 use Rattle.std.proofs.Common.{Option, ap, sym, ◌∙◌}
 use Rattle.model_tree.specs.declared.seats.Seat.{Seat}
 use Rattle.model_tree.specs.Seats.SeatViews.{place_view}
-use Rattle.seats.specs.Spelling.{seat_sector}
+use Rattle.seats.specs.Encoding.{seat_sector}
 use Rattle.seats.proofs.Parts.{free_sector}
 use Rattle.seats.proofs.writing.seat_sector.Goals as goal
 

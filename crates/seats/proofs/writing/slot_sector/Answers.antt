@@ -1,7 +1,7 @@
 use Rattle.std.proofs.Common.{ap, sym, ℕ, ◌∙◌}
 use Rattle.model_tree.specs.Seats.SeatViews.{held_view}
 use Rattle.std.specs.Prelude.{Some}
-use Rattle.seats.specs.Spelling.{part_of, slot_text}
+use Rattle.seats.specs.Encoding.{part_of, slot_text}
 use Rattle.seats.proofs.writing.slot_sector.Goals as goal
 
 pub returns-then-part-eq0 : goal.returns-then-part-eq0

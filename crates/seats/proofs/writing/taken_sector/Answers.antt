@@ -1,6 +1,6 @@
 use Rattle.std.proofs.Common.{ℕ, Some, ap, sym, ◌∙◌, arith}
 use Rattle.model_tree.specs.Seats.SeatViews.{seat_view}
-use Rattle.seats.specs.Spelling.{seat_sector}
+use Rattle.seats.specs.Encoding.{seat_sector}
 use Rattle.seats.proofs.Parts.{first_sector, slot_sector_at}
 use Rattle.seats.proofs.writing.taken_sector.Goals as goal
 

@@ -5,7 +5,7 @@ use Rattle.compound.specs.Volumes.{fault_ending}
 use Rattle.compound.specs.declared.fault.Fault.TheVariants as fault
 use Rattle.volume.specs.Changes.{Done}
 use Rattle.fs.specs.Views.{fs_of, fs_failures}
-use Rattle.volume.proofs.ServeLaws.{told_err}
+use Rattle.volume.proofs.ServeLaws.{is_err_of}
 use Rattle.compound.proofs.QuietLaws.{leaves_all}
 use Rattle.model.specs.Wire.Rpc.{read_call}
 use Rattle.model.specs.Server.World.{Turned, called}
@@ -16,7 +16,7 @@ use Rattle.server.proofs.request.first_turn.Goals as goal
 pub returns-in_err-reply-clause-volume : goal.returns-in_err-reply-clause-volume
 returns-in_err-reply-clause-volume g c =
     let reason = c.in_err-reply.field-0.0 in
-    let told = told_err c.from_residual.result reason c.from_residual.ensures.1 in
+    let told = is_err_of c.from_residual.result reason c.from_residual.ensures.1 in
     let memory : reason ≡ fault.Memory = rw c.in_err-reply.was at c.open.ensures.err in
     rw (told, memory) (leaves_all g.D.Device.keeps_word _ _ _ _ _ refl (omega arith))
 
@@ -52,4 +52,4 @@ returns-in-Err-clause-volume g c =
     let opens = rw c.in-Begins.is at c.in_ok-reply.ensures.ok in
     same_changes g.D.Device.keeps_word (shared_of c.args.engine.now.fs.now c.args.engine.now.table.now c.args.engine.now.opens.now) (fs_of c.args.engine.now.fs.now) (fs_of c.step.new.engine.fs.now) _ _
     (λ world number. stepped_on world number c.args.engine.now.moment (in_progress_at c.args.request.now c.in-Begins.begun)) (λ world number. called world number c.args.engine.now.moment (read_call c.args.request.now))
-    (λ world number served. opens.1 world number c.args.engine.now.moment (served.run ∙ sym c.restart_count.ensures)) (fault_ending c.in-Err.undone.fault) c.in-Err.ensures.volume
+    (λ world number served. opens.1 world number c.args.engine.now.moment (served.run ∙ sym c.restart_count.ensures)) (fault_ending c.in-Err.failed.fault) c.in-Err.ensures.volume

@@ -9,4 +9,4 @@ write_reply-requires c = omega (arith, ap length c.requires)
 
 pub returns-in-Ok-write_reply-clause-ok : goal.returns-in-Ok-write_reply-clause-ok
 returns-in-Ok-write_reply-clause-ok c =
-    c.in-Ok-write_reply.ensures.ok ∙ ap (λ (front : List ℕ). front ++ framed (reply_text c.args.xid (reply_view c.args.reply.now))) c.in-Ok.ensures.bytes
+    c.in-Ok-write_reply.ensures.ok ∙ ap (λ (prefix : List ℕ). prefix ++ framed (reply_text c.args.xid (reply_view c.args.reply.now))) c.in-Ok.ensures.bytes

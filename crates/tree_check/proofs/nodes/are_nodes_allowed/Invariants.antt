@@ -4,4 +4,4 @@ use Rattle.tree_check.specs.Nodes.{IsNodeAllowed}
 use Rattle.tree_check.proofs.nodes.are_nodes_allowed.Given as goal
 
 abbrev pub invariant-loop-place : goal.invariant-loop-place
-invariant-loop-place l = (place : ℕ) (card : CachedNode) → place < l.place → get_or l.table place None ≡ Some card → IsNodeAllowed l.limits card
+invariant-loop-place l = (place : ℕ) (cached : CachedNode) → place < l.place → get_or l.table place None ≡ Some cached → IsNodeAllowed l.limits cached

@@ -4,4 +4,4 @@ use Rattle.tree_check.specs.Nodes.{IsRootDirectory}
 use Rattle.tree_check.proofs.nodes.has_root_directory.Given as goal
 
 abbrev pub invariant-loop-place : goal.invariant-loop-place
-invariant-loop-place l = (place : ℕ) (card : CachedNode) → place < l.place → get_or l.table place None ≡ Some card → IsRootDirectory card → ⊥
+invariant-loop-place l = (place : ℕ) (cached : CachedNode) → place < l.place → get_or l.table place None ≡ Some cached → IsRootDirectory cached → ⊥

@@ -19,11 +19,11 @@ loop-place-preserved c =
           ∙ (w.in_ok-push_stamps.ensures
           ∙ (ap (λ l. l ++ stamps_of w.cached-in-Some.inside.names) c.loop-place.invariant
           ∙ (ap (λ l. entry_stamps (take place table) ++ l)
-          (ap (λ (card : CachedNode). stamps_of card.names) w.cached-in-Some.view_is ∙ sym (ap stamped_by w.in-Some.ensures.some))
+          (ap (λ (cached_node : CachedNode). stamps_of cached_node.names) w.cached-in-Some.view_is ∙ sym (ap stamped_by w.in-Some.ensures.some))
           ∙ sym more)))
       | in_default w ↦
           ap (λ (v : Vec ℕ Global). v.items) w.stamps-is
           ∙ (c.loop-place.invariant
           ∙ (sym (append-nil (entry_stamps (take place table)))
-          ∙ (ap (λ card. entry_stamps (take place table) ++ stamped_by card) (sym w.in_default.ensures.none) ∙ sym more)))
+          ∙ (ap (λ cached_node. entry_stamps (take place table) ++ stamped_by cached_node) (sym w.in_default.ensures.none) ∙ sym more)))
     ]

@@ -1,5 +1,5 @@
 use Rattle.std.proofs.Common.{List, [], Option, sym, subst, arith}
-use Rattle.tree_transaction.specs.Transactions.{cards_of}
+use Rattle.tree_transaction.specs.Transactions.{cached_nodes_of}
 use Rattle.tree_edits.specs.Doing.{AreMade}
 use Rattle.layout.specs.CachedNodes.{CachedNode}
 use Rattle.layout.specs.Stands.{HaveCurrentForms}
@@ -10,7 +10,7 @@ use Rattle.tree_edits.proofs.doing.drop_node.Goals as goal
 
 pub free-requires-clause-node : goal.free-requires-clause-node
 free-requires-clause-node c =
-    let it = there_at (cards_of c.args.transaction.now) c.place_of-place.result c.args.number c.place_of-place.ensures in
+    let it = there_at (cached_nodes_of c.args.transaction.now) c.place_of-place.result c.args.number c.place_of-place.ensures in
     record { cached = it.cached; there = it.there }
 
 pub returns-clause-done : goal.returns-clause-done
@@ -18,13 +18,13 @@ returns-clause-done c =
     let old = c.args.transaction.now in
     let new = c.free.new.self in
     let place = c.place_of-place.result in
-    let it : IsThere (cards_of old) place c.args.number = there_at (cards_of old) place c.args.number c.place_of-place.ensures in
-    all_ok c.free.result c.free.ensures.known c.free.ensures.cards c.free.ensures.freed
-    (λ known cards freed base size. record {
+    let it : IsThere (cached_nodes_of old) place c.args.number = there_at (cached_nodes_of old) place c.args.number c.place_of-place.ensures in
+    all_ok c.free.result c.free.ensures.known c.free.ensures.cached_nodes c.free.ensures.freed
+    (λ known cached_nodes freed base size. record {
       known = known;
-      outline = dropped old new c.requires.known place c.args.number it cards;
-      forms = λ forms. subst HaveCurrentForms (sym cards) (none_forms (cards_of old) place forms);
-      made = subst (λ (now : List (Option CachedNode)). AreMade (cards_of old) now []) (sym cards) (made_none (cards_of old) place []);
-      tree = λ word is. over_number old new c.requires.known place c.args.number it base size DropNode (λ card there. freed card there base size) is;
+      outline = dropped old new c.requires.known place c.args.number it cached_nodes;
+      forms = λ forms. subst HaveCurrentForms (sym cached_nodes) (none_forms (cached_nodes_of old) place forms);
+      made = subst (λ (now : List (Option CachedNode)). AreMade (cached_nodes_of old) now []) (sym cached_nodes) (made_none (cached_nodes_of old) place []);
+      tree = λ word is. over_number old new c.requires.known place c.args.number it base size DropNode (λ cached_node there. freed cached_node there base size) is;
       count = omega (arith, c.free.ensures.count);
     })

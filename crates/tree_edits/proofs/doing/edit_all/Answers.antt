@@ -2,7 +2,7 @@ use Rattle.std.proofs.Common.{◌≡◌, ◌+◌, List, [], ◌∷◌, drop, sym
 use Rattle.std.specs.Prelude.{Err}
 use Rattle.std.proofs.Math.ListN.{drop_of_length-le}
 use Rattle.tree_transaction.specs.declared.transaction.Transaction.{Transaction}
-use Rattle.tree_transaction.specs.Transactions.{cards_of}
+use Rattle.tree_transaction.specs.Transactions.{cached_nodes_of}
 use Rattle.tree_transaction.proofs.FaultLaws.{told}
 use Rattle.tree_transaction.specs.declared.fault.TransactionFault.{TransactionFault}
 use Rattle.tree_transaction.specs.declared.fault.TransactionFault.TheVariants as fault
@@ -30,8 +30,8 @@ loop-edit-preserved g c =
       known = first.known.known;
       within = omega (arith, first.known.nodes, first.known.places, so_far.within);
       forms = first.forms so_far.forms;
-      can = still_doable S.keeps_word (S.image kept) (S.size kept) old mid edit first rest (subst (AreDoable (tree_without_data (cards_of old))) next so_far.can);
-      few = still_few S.keeps_word (S.image kept) (S.size kept) old mid edit first rest (subst (StayFew (tree_without_data (cards_of old))) next so_far.few);
+      can = still_doable S.keeps_word (S.image kept) (S.size kept) old mid edit first rest (subst (AreDoable (tree_without_data (cached_nodes_of old))) next so_far.can);
+      few = still_few S.keeps_word (S.image kept) (S.size kept) old mid edit first rest (subst (StayFew (tree_without_data (cached_nodes_of old))) next so_far.few);
       does = λ new does. so_far.does new (subst (λ (l : List Edit). DoesEdits S.keeps_word (S.image kept) (S.size kept) old new l) (sym next)
           (goes_on S.keeps_word (S.image kept) (S.size kept) old mid edit first new rest does));
       full = λ over. so_far.full (subst (Overfills old) (sym next) (overfills_later S.keeps_word (S.image kept) (S.size kept) old mid edit first rest over));

@@ -8,7 +8,7 @@ use Rattle.tree_edits.proofs.doing.edit_one.Goals as goal
 pub returns-in_ok-put_node-in-PutNode-clause-done : goal.returns-in_ok-put_node-in-PutNode-clause-done
 returns-in_ok-put_node-in-PutNode-clause-done g c = subst (λ (edit : Edit). DoesEdits g.S.Sectors.keeps_word (g.S.Sectors.image (g.S.Sectors.kept c.args.base.now)) (g.S.Sectors.size (g.S.Sectors.kept c.args.base.now)) c.args.transaction.now c.put_node.new.transaction (edit ∷ []))
     (sym c.in-PutNode.is)
-    (anywhere g.S.Sectors.keeps_word (g.S.Sectors.image (g.S.Sectors.kept c.args.base.now)) (g.S.Sectors.size (g.S.Sectors.kept c.args.base.now)) c.args.transaction.now c.put_node.new.transaction (edit.PutNode c.in-PutNode.number c.in-PutNode.kind c.in-PutNode.shown) c.in_ok-put_node-in-PutNode.ensures.done)
+    (anywhere g.S.Sectors.keeps_word (g.S.Sectors.image (g.S.Sectors.kept c.args.base.now)) (g.S.Sectors.size (g.S.Sectors.kept c.args.base.now)) c.args.transaction.now c.put_node.new.transaction (edit.PutNode c.in-PutNode.number c.in-PutNode.kind c.in-PutNode.metadata) c.in_ok-put_node-in-PutNode.ensures.done)
 
 pub returns-in_ok-drop_node-in-DropNode-clause-done : goal.returns-in_ok-drop_node-in-DropNode-clause-done
 returns-in_ok-drop_node-in-DropNode-clause-done g c = subst (λ (edit : Edit). DoesEdits g.S.Sectors.keeps_word (g.S.Sectors.image (g.S.Sectors.kept c.args.base.now)) (g.S.Sectors.size (g.S.Sectors.kept c.args.base.now)) c.args.transaction.now c.drop_node.new.transaction (edit ∷ []))
@@ -18,7 +18,7 @@ returns-in_ok-drop_node-in-DropNode-clause-done g c = subst (λ (edit : Edit). D
 pub returns-in_ok-show-in-Show-clause-done : goal.returns-in_ok-show-in-Show-clause-done
 returns-in_ok-show-in-Show-clause-done g c = subst (λ (edit : Edit). DoesEdits g.S.Sectors.keeps_word (g.S.Sectors.image (g.S.Sectors.kept c.args.base.now)) (g.S.Sectors.size (g.S.Sectors.kept c.args.base.now)) c.args.transaction.now c.show.new.transaction (edit ∷ []))
     (sym c.in-Show.is)
-    (anywhere g.S.Sectors.keeps_word (g.S.Sectors.image (g.S.Sectors.kept c.args.base.now)) (g.S.Sectors.size (g.S.Sectors.kept c.args.base.now)) c.args.transaction.now c.show.new.transaction (edit.Show c.in-Show.number c.in-Show.shown) c.in_ok-show-in-Show.ensures.done)
+    (anywhere g.S.Sectors.keeps_word (g.S.Sectors.image (g.S.Sectors.kept c.args.base.now)) (g.S.Sectors.size (g.S.Sectors.kept c.args.base.now)) c.args.transaction.now c.show.new.transaction (edit.Show c.in-Show.number c.in-Show.metadata) c.in_ok-show-in-Show.ensures.done)
 
 pub returns-in_ok-put_name-in-PutName-clause-done : goal.returns-in_ok-put_name-in-PutName-clause-done
 returns-in_ok-put_name-in-PutName-clause-done g c = subst (λ (edit : Edit). DoesEdits g.S.Sectors.keeps_word (g.S.Sectors.image (g.S.Sectors.kept c.args.base.now)) (g.S.Sectors.size (g.S.Sectors.kept c.args.base.now)) c.args.transaction.now c.put_name.new.transaction (edit ∷ []))

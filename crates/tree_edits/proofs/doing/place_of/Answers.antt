@@ -11,4 +11,4 @@ some_or (Some it) none never = refl
 
 pub unwrap-requires : goal.unwrap-requires
 unwrap-requires c = some_or c.find.result c.find.ensures.none
-    (λ lacks. none_key (at c.args.number (tree_without_data c.args.transaction.now.cards.cards)) (no_number c.args.transaction.now.cards.cards c.args.number lacks) c.requires)
+    (λ lacks. none_key (at c.args.number (tree_without_data c.args.transaction.now.cached_nodes.cached_nodes)) (no_number c.args.transaction.now.cached_nodes.cached_nodes c.args.number lacks) c.requires)

@@ -1,5 +1,5 @@
 use Rattle.std.proofs.Common.{◌+◌, [], refl, arith, length}
-use Rattle.tree_transaction.specs.Transactions.{cards_of}
+use Rattle.tree_transaction.specs.Transactions.{cached_nodes_of}
 use Rattle.tree_transaction.specs.Grown.{reaching, blocks_to}
 use Rattle.layout.specs.Marks.{mark_by}
 use Rattle.model_tree.specs.Trees.Edit.{PutBytes, with_content, overwritten}
@@ -16,8 +16,8 @@ place_of-place-requires g c = c.requires.can.there
 pub write-requires-clause-file : goal.write-requires-clause-file
 write-requires-clause-file g c =
     let old = c.args.transaction.now in
-    let it : IsThere (cards_of old) c.place_of-place.result c.args.file = there_at (cards_of old) c.place_of-place.result c.args.file c.place_of-place.ensures in
-    can_write (cards_of old) old.nodes (mark_by (148 + old.nodes) old.places) c.requires.known.0.cards c.place_of-place.result c.args.file (c.args.offset + length c.args.bytes.now) it c.requires.can
+    let it : IsThere (cached_nodes_of old) c.place_of-place.result c.args.file = there_at (cached_nodes_of old) c.place_of-place.result c.args.file c.place_of-place.ensures in
+    can_write (cached_nodes_of old) old.nodes (mark_by (148 + old.nodes) old.places) c.requires.known.0.cached_nodes c.place_of-place.result c.args.file (c.args.offset + length c.args.bytes.now) it c.requires.can
 
 pub returns-clause-done : goal.returns-clause-done
 returns-clause-done g c =
@@ -27,9 +27,9 @@ returns-clause-done g c =
     let bytes = c.args.bytes.now in
     let end = c.args.offset + length bytes in
     let known = c.requires.known.0 in
-    let it : IsThere (cards_of old) place c.args.file = there_at (cards_of old) place c.args.file c.place_of-place.ensures in
-    let is = is_file (cards_of old) old.nodes (mark_by (148 + old.nodes) old.places) known.cards place c.args.file end it c.requires.can in
-    all_four c.write.result c.write.ensures.known c.write.ensures.cards c.write.ensures.count (under _ c.write.result c.write.ensures.tree)
+    let it : IsThere (cached_nodes_of old) place c.args.file = there_at (cached_nodes_of old) place c.args.file c.place_of-place.ensures in
+    let is = is_file (cached_nodes_of old) old.nodes (mark_by (148 + old.nodes) old.places) known.cached_nodes place c.args.file end it c.requires.can in
+    all_four c.write.result c.write.ensures.known c.write.ensures.cached_nodes c.write.ensures.count (under _ c.write.result c.write.ensures.tree)
     (λ stays turns count writes. record {
       known = stays;
       outline = turned old new known place c.args.file it (reaching end) (turns it.cached it.there) refl (λ (node : Node). with_content node (File (overwritten (bytes_of node.content) c.args.offset bytes))) (node_written c.args.offset bytes it.cached is);
@@ -45,8 +45,8 @@ returns-clause-full g c = λ full.
     let place = c.place_of-place.result in
     let bytes = c.args.bytes.now in
     let end = c.args.offset + length bytes in
-    let it : IsThere (cards_of old) place c.args.file = there_at (cards_of old) place c.args.file c.place_of-place.ensures in
-    let is = is_file (cards_of old) old.nodes (mark_by (148 + old.nodes) old.places) c.requires.known.0.cards place c.args.file end it c.requires.can in
+    let it : IsThere (cached_nodes_of old) place c.args.file = there_at (cached_nodes_of old) place c.args.file c.place_of-place.ensures in
+    let is = is_file (cached_nodes_of old) old.nodes (mark_by (148 + old.nodes) old.places) c.requires.known.0.cached_nodes place c.args.file end it c.requires.can in
     record {
       count = 1;
       within = omega arith;

@@ -1,5 +1,5 @@
 use Rattle.std.proofs.Common.{◌+◌, [], refl, arith}
-use Rattle.tree_transaction.specs.Transactions.{cards_of}
+use Rattle.tree_transaction.specs.Transactions.{cached_nodes_of}
 use Rattle.tree_transaction.specs.Grown.{sized}
 use Rattle.layout.specs.CachedNodes.{CachedNode}
 use Rattle.layout.specs.Marks.{mark_by}
@@ -16,15 +16,15 @@ place_of-place-requires g c = c.requires.can.there
 pub cut-requires-clause-file : goal.cut-requires-clause-file
 cut-requires-clause-file g c =
     let old = c.args.transaction.now in
-    let it : IsThere (cards_of old) c.place_of-place.result c.args.file = there_at (cards_of old) c.place_of-place.result c.args.file c.place_of-place.ensures in
-    can_cut (cards_of old) old.nodes (mark_by (148 + old.nodes) old.places) c.requires.known.0.cards c.place_of-place.result c.args.file c.args.size it c.requires.can
+    let it : IsThere (cached_nodes_of old) c.place_of-place.result c.args.file = there_at (cached_nodes_of old) c.place_of-place.result c.args.file c.place_of-place.ensures in
+    can_cut (cached_nodes_of old) old.nodes (mark_by (148 + old.nodes) old.places) c.requires.known.0.cached_nodes c.place_of-place.result c.args.file c.args.size it c.requires.can
     (let same = c.size_at.ensures it.cached it.there in omega (arith, same))
 
 pub grow-requires-clause-file : goal.grow-requires-clause-file
 grow-requires-clause-file g c =
     let old = c.args.transaction.now in
-    let it : IsThere (cards_of old) c.place_of-place.result c.args.file = there_at (cards_of old) c.place_of-place.result c.args.file c.place_of-place.ensures in
-    can_grow (cards_of old) old.nodes (mark_by (148 + old.nodes) old.places) c.requires.known.0.cards c.place_of-place.result c.args.file c.args.size it c.requires.can
+    let it : IsThere (cached_nodes_of old) c.place_of-place.result c.args.file = there_at (cached_nodes_of old) c.place_of-place.result c.args.file c.place_of-place.ensures in
+    can_grow (cached_nodes_of old) old.nodes (mark_by (148 + old.nodes) old.places) c.requires.known.0.cached_nodes c.place_of-place.result c.args.file c.args.size it c.requires.can
     (let same = c.size_at.ensures it.cached it.there in omega (arith, same))
 
 pub returns-then-size-size_at-clause-done : goal.returns-then-size-size_at-clause-done
@@ -34,10 +34,10 @@ returns-then-size-size_at-clause-done g c =
     let place = c.place_of-place.result in
     let size = c.args.size in
     let known = c.requires.known.0 in
-    let it : IsThere (cards_of old) place c.args.file = there_at (cards_of old) place c.args.file c.place_of-place.ensures in
-    let is = is_file (cards_of old) old.nodes (mark_by (148 + old.nodes) old.places) known.cards place c.args.file size it c.requires.can in
-    let turn : CachedNode → CachedNode = λ card. sized card size in
-    all_four c.cut.result c.cut.ensures.known c.cut.ensures.cards c.cut.ensures.count (under _ c.cut.result c.cut.ensures.tree)
+    let it : IsThere (cached_nodes_of old) place c.args.file = there_at (cached_nodes_of old) place c.args.file c.place_of-place.ensures in
+    let is = is_file (cached_nodes_of old) old.nodes (mark_by (148 + old.nodes) old.places) known.cached_nodes place c.args.file size it c.requires.can in
+    let turn : CachedNode → CachedNode = λ cached_node. sized cached_node size in
+    all_four c.cut.result c.cut.ensures.known c.cut.ensures.cached_nodes c.cut.ensures.count (under _ c.cut.result c.cut.ensures.tree)
     (λ stays turns count cuts. record {
       known = stays;
       outline = turned old new known place c.args.file it turn (turns it.cached it.there) refl (λ (node : Node). with_content node (File (resized (bytes_of node.content) size))) (node_sized size it.cached is);
@@ -54,14 +54,14 @@ returns-clause-done g c =
     let place = c.place_of-place.result in
     let size = c.args.size in
     let known = c.requires.known.0 in
-    let it : IsThere (cards_of old) place c.args.file = there_at (cards_of old) place c.args.file c.place_of-place.ensures in
-    let is = is_file (cards_of old) old.nodes (mark_by (148 + old.nodes) old.places) known.cards place c.args.file size it c.requires.can in
-    let turn : CachedNode → CachedNode = λ card. sized card size in
+    let it : IsThere (cached_nodes_of old) place c.args.file = there_at (cached_nodes_of old) place c.args.file c.place_of-place.ensures in
+    let is = is_file (cached_nodes_of old) old.nodes (mark_by (148 + old.nodes) old.places) known.cached_nodes place c.args.file size it c.requires.can in
+    let turn : CachedNode → CachedNode = λ cached_node. sized cached_node size in
     record {
       known = c.in_ok-grow.ensures.known;
-      outline = turned old new known place c.args.file it turn (c.in_ok-grow.ensures.cards it.cached it.there) refl (λ (node : Node). with_content node (File (resized (bytes_of node.content) size))) (node_sized size it.cached is);
-      forms = turned_forms old new known place c.args.file it turn (c.in_ok-grow.ensures.cards it.cached it.there) refl refl;
-      made = turned_made old new known place c.args.file it turn (c.in_ok-grow.ensures.cards it.cached it.there) refl [];
-      tree = λ word. over_number old new known place c.args.file it _ _ (λ number. SetSize number size) (λ card there. c.in_ok-grow.ensures.grown card there _ _);
+      outline = turned old new known place c.args.file it turn (c.in_ok-grow.ensures.cached_nodes it.cached it.there) refl (λ (node : Node). with_content node (File (resized (bytes_of node.content) size))) (node_sized size it.cached is);
+      forms = turned_forms old new known place c.args.file it turn (c.in_ok-grow.ensures.cached_nodes it.cached it.there) refl refl;
+      made = turned_made old new known place c.args.file it turn (c.in_ok-grow.ensures.cached_nodes it.cached it.there) refl [];
+      tree = λ word. over_number old new known place c.args.file it _ _ (λ number. SetSize number size) (λ cached_node there. c.in_ok-grow.ensures.grown cached_node there _ _);
       count = omega (arith, c.grow.ensures.count);
     }

@@ -17,11 +17,11 @@ returns-clause-done g c =
       no_updates = c.in_ok-transaction.ensures.updates;
       nodes_are = c.in_ok-transaction.ensures.nodes;
       places_are = c.in_ok-transaction.ensures.places;
-      cards_are = c.in_ok-transaction.ensures.cards;
+      cached_nodes_are = c.in_ok-transaction.ensures.cached_nodes;
     } in
-    let table_is = ap (λ (over : Overlaid). over.table) c.finish.ensures.cards ∙ c.edit_all.ensures.kept.1 ∙ c.in_ok-transaction.ensures.table in
+    let table_is = ap (λ (over : Overlaid). over.table) c.finish.ensures.cached_nodes ∙ c.edit_all.ensures.kept.1 ∙ c.in_ok-transaction.ensures.table in
     comes_to c.args.marking (S.size kept) table c.args.places.now c.requires.whole transaction begun S.keeps_word (S.image kept) c.args.edits.now mid last outcome
-    c.in_ok-edit_all.ensures.done.does c.in_ok-finish.ensures.laid (ap (λ (over : Overlaid). over.cards) c.finish.ensures.cards)
-    (ap (λ (cards : List (Option CachedNode)). overlaid cards outcome.changes) (sym table_is) ∙ c.into_prepared.ensures.changes)
+    c.in_ok-edit_all.ensures.done.does c.in_ok-finish.ensures.laid (ap (λ (over : Overlaid). over.cached_nodes) c.finish.ensures.cached_nodes)
+    (ap (λ (cached_nodes : List (Option CachedNode)). overlaid cached_nodes outcome.changes) (sym table_is) ∙ c.into_prepared.ensures.changes)
     c.into_prepared.ensures.updates (c.into_prepared.ensures.places ∙ c.finish.ensures.places)
     c.in_ok-finish.ensures.targets c.in_ok-finish.ensures.count c.in_ok-edit_all.ensures.done.parts

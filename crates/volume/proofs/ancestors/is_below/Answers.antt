@@ -6,7 +6,7 @@ use Rattle.volume.proofs.ancestors.is_below.Goals as goal
 
 pub loop-step-init : goal.loop-step-init
 loop-step-init c image =
-    let known = c.requires.cards in
+    let known = c.requires.cached_nodes in
     ap (λ n. is_met n (tree_of image c.args.table.now) c.args.upper c.args.number)
     (omega (arith, c.count-step-end.ensures.count, known-count known.0 known.1 c.args.table.now known.2 image))
 

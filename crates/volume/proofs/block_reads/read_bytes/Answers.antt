@@ -6,7 +6,7 @@ use Rattle.volume.proofs.block_reads.read_bytes.Goals as goal
 
 pub read_blocks-read-requires-clause-within : goal.read_blocks-read-requires-clause-within
 read_blocks-read-requires-clause-within g c =
-    subst (λ (card : CachedNode). FileWithin (g.S.Sectors.size (g.S.Sectors.kept c.args.base.now)) card.blocks) (sym c.cached.view_is) c.requires.within
+    subst (λ (cached_node : CachedNode). FileWithin (g.S.Sectors.size (g.S.Sectors.kept c.args.base.now)) cached_node.blocks) (sym c.cached.view_is) c.requires.within
 
 pub returns-else-is_err-clause-bytes : goal.returns-else-is_err-clause-bytes
 returns-else-is_err-clause-bytes g c w =

@@ -1,6 +1,6 @@
 use Rattle.std.proofs.Common.{◌∙◌, ℕ, Err, refl, sym, ap, subst, arith, rules}
 use Rattle.disk.specs.Moments.{History}
-use Rattle.journal.specs.Layout.{in_front}
+use Rattle.journal.specs.Layout.{log_at_start}
 use Rattle.journal.specs.Log.{Log}
 use Rattle.journal.specs.Viewed.{HasNoForm, HasViewed}
 use Rattle.journal.specs.Views.{view_of, view_failures, name_of}
@@ -29,8 +29,8 @@ returns-in-Err-view g c =
     check_refused D.keeps_word D.size D.failed D.history _ _ c.into.result
     (λ k. subst (FailsCheck size old) (sym c.into.ensures)
     (gate_fails size old c.in-Err-view.refused.fault (c.in-Ok.ensures.seen k).0
-    (λ is. subst (λ (n : ℕ). HasNoForm (in_front n) old) c.read_superblock.ensures.same_size
-    (subst (λ (h : History). HasNoForm (in_front (D.size c.read_superblock.new.device)) h) c.read_superblock.ensures.history (c.in-Err-view.ensures.damaged k is)))))
+    (λ is. subst (λ (n : ℕ). HasNoForm (log_at_start n) old) c.read_superblock.ensures.same_size
+    (subst (λ (h : History). HasNoForm (log_at_start (D.size c.read_superblock.new.device)) h) c.read_superblock.ensures.history (c.in-Err-view.ensures.damaged k is)))))
     (λ is. search rules)
     (λ is. search rules)
     (λ other. search rules)
@@ -44,8 +44,8 @@ read_nodes-requires-clause-base g c = λ k.
     let log : Log = view_of c.in-Ok-view.view in
     let enough = large c.in-Ok.found.sectors c.in-Ok.found.nodes c.in-Ok.ensures.volume.sized in
     view_holds size old log c.in-Ok.found (omega (arith, enough, c.in-Ok.ensures.volume.size))
-    (subst (λ (n : ℕ). HasViewed (in_front n) old log) c.read_superblock.ensures.same_size
-    (subst (λ (h : History). HasViewed (in_front (D.size c.read_superblock.new.device)) h log) c.read_superblock.ensures.history (c.in-Ok-view.ensures.viewed k)))
+    (subst (λ (n : ℕ). HasViewed (log_at_start n) old log) c.read_superblock.ensures.same_size
+    (subst (λ (h : History). HasViewed (log_at_start (D.size c.read_superblock.new.device)) h log) c.read_superblock.ensures.history (c.in-Ok-view.ensures.viewed k)))
     (c.in-Ok-view.ensures.new.size ∙ c.read_superblock.ensures.same_size) (c.in-Ok.ensures.seen k).1
 
 pub returns-in-Err-read_nodes : goal.returns-in-Err-read_nodes
@@ -57,8 +57,8 @@ returns-in-Err-read_nodes g c =
     let found = c.in-Ok.found in
     let log : Log = view_of c.in-Ok-view.view in
     let parts = sized found.sectors found.nodes c.in-Ok.ensures.volume.sized in
-    let viewed : D.keeps_word → HasViewed (in_front size) old log = λ k. subst (λ (n : ℕ). HasViewed (in_front n) old log) c.read_superblock.ensures.same_size
-    (subst (λ (h : History). HasViewed (in_front (D.size c.read_superblock.new.device)) h log) c.read_superblock.ensures.history (c.in-Ok-view.ensures.viewed k)) in
+    let viewed : D.keeps_word → HasViewed (log_at_start size) old log = λ k. subst (λ (n : ℕ). HasViewed (log_at_start n) old log) c.read_superblock.ensures.same_size
+    (subst (λ (h : History). HasViewed (log_at_start (D.size c.read_superblock.new.device)) h log) c.read_superblock.ensures.history (c.in-Ok-view.ensures.viewed k)) in
     check_refused D.keeps_word D.size D.failed D.history _ _ c.in-Err-read_nodes.fault
     (λ k. nodes_fail size old found log.base c.in-Ok.ensures.volume.size (omega (arith, parts.few)) c.in-Ok.ensures.volume.counted
     (c.in-Ok.ensures.seen k).0 (c.in-Ok.ensures.seen k).1 (viewed k).base c.in-Err-read_nodes.fault
@@ -77,8 +77,8 @@ returns g c =
     let found = c.in-Ok.found in
     let log : Log = view_of c.in-Ok-view.view in
     let parts = sized found.sectors found.nodes c.in-Ok.ensures.volume.sized in
-    let viewed : D.keeps_word → HasViewed (in_front size) old log = λ k. subst (λ (n : ℕ). HasViewed (in_front n) old log) c.read_superblock.ensures.same_size
-    (subst (λ (h : History). HasViewed (in_front (D.size c.read_superblock.new.device)) h log) c.read_superblock.ensures.history (c.in-Ok-view.ensures.viewed k)) in
+    let viewed : D.keeps_word → HasViewed (log_at_start size) old log = λ k. subst (λ (n : ℕ). HasViewed (log_at_start n) old log) c.read_superblock.ensures.same_size
+    (subst (λ (h : History). HasViewed (log_at_start (D.size c.read_superblock.new.device)) h log) c.read_superblock.ensures.history (c.in-Ok-view.ensures.viewed k)) in
     record {
       ok = λ k.
           has_checked size old found log.base c.in-Ok.ensures.volume.size (omega (arith, parts.few)) c.in-Ok.ensures.volume.counted

@@ -1,7 +1,7 @@
 use Rattle.std.proofs.Common.{ℕ, List, [], ◌∷◌, ◌+◌, ◌∙◌, ap, subst, sym}
 use Rattle.disk.specs.declared.update.Update.{Update}
 use Rattle.disk.specs.Moments.{put}
-use Rattle.journal.specs.Layout.{in_front}
+use Rattle.journal.specs.Layout.{log_at_start}
 use Rattle.journal.specs.declared.layout.LogArea.{LogArea}
 use Rattle.journal.specs.Commit.{AddsEither}
 use Rattle.journal.specs.Journal.{log_of}
@@ -17,7 +17,7 @@ returns-in_err-superblock-clause-moments g c = λ k.
     let history = (log_of c.superblock.new.self).history in
     record {
       moments = λ mark kept moved stands. raise_moments found old.base c.requires.volume.counted mark kept moved stands old.history history
-          (subst (λ (a : LogArea). AddsEither a (first_update found.sectors found.nodes (found.run + 1) ∷ []) old.base old.history history) (c.requires.rests.placed ∙ ap in_front (sym c.requires.volume.size))
+          (subst (λ (a : LogArea). AddsEither a (first_update found.sectors found.nodes (found.run + 1) ∷ []) old.base old.history history) (c.requires.rests.placed ∙ ap log_at_start (sym c.requires.volume.size))
           (subst (λ (content : List ℕ). AddsEither old.area ((let u : Update = record { target = 0; content = content } in u) ∷ []) old.base old.history history) c.superblock_of-sector.ensures
           (c.in_err-superblock.ensures.moments k)));
       brief = c.in_err-superblock.ensures.brief k;
@@ -30,7 +30,7 @@ returns-clause-moments g c = λ k.
     let history = (log_of c.superblock.new.self).history in
     record {
       moments = λ mark kept moved stands. raise_moments found old.base c.requires.volume.counted mark kept moved stands old.history history
-          (subst (λ (a : LogArea). AddsEither a (first_update found.sectors found.nodes (found.run + 1) ∷ []) old.base old.history history) (c.requires.rests.placed ∙ ap in_front (sym c.requires.volume.size))
+          (subst (λ (a : LogArea). AddsEither a (first_update found.sectors found.nodes (found.run + 1) ∷ []) old.base old.history history) (c.requires.rests.placed ∙ ap log_at_start (sym c.requires.volume.size))
           (subst (λ (content : List ℕ). AddsEither old.area ((let u : Update = record { target = 0; content = content } in u) ∷ []) old.base old.history history) c.superblock_of-sector.ensures
           (c.in_ok-superblock.ensures.moments k)));
       brief = c.in_ok-superblock.ensures.brief k;
@@ -42,7 +42,7 @@ returns-clause-raised g c =
     let old : Log = log_of c.args.journal.now in
     let after = (log_of c.superblock.new.self).base in
     let same : g.D.Device.keeps_word → AreSame found.sectors (put old.base (first_update found.sectors found.nodes (found.run + 1))) after =
-    λ k. subst (λ (a : LogArea). AreSame a.end (put old.base (first_update found.sectors found.nodes (found.run + 1))) after) (c.requires.rests.placed ∙ ap in_front (sym c.requires.volume.size))
+    λ k. subst (λ (a : LogArea). AreSame a.end (put old.base (first_update found.sectors found.nodes (found.run + 1))) after) (c.requires.rests.placed ∙ ap log_at_start (sym c.requires.volume.size))
     (subst (λ (content : List ℕ). AreSame old.area.end (put old.base (let u : Update = record { target = 0; content = content } in u)) after) c.superblock_of-sector.ensures
     (c.in_ok-superblock.ensures.ok.ok k)) in
     record {

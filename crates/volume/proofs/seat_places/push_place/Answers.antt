@@ -1,7 +1,7 @@
 use Rattle.std.proofs.Common.{◌+◌, refl}
 use Rattle.std.specs.Option.{option_map}
 use Rattle.model_tree.specs.Seats.SeatViews.{seat_view}
-use Rattle.seats.specs.Spelling.{seat_sector}
+use Rattle.seats.specs.Encoding.{seat_sector}
 use Rattle.volume.proofs.SeatRows.{pushed_none, pushed_more}
 use Rattle.volume.proofs.seat_places.push_place.Goals as goal
 

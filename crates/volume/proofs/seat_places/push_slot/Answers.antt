@@ -1,6 +1,6 @@
 use Rattle.std.proofs.Common.{◌+◌, ◌*◌, ℕ, Some, refl}
 use Rattle.model_tree.specs.Seats.SeatViews.{held_view}
-use Rattle.seats.specs.Spelling.{part_of, slot_text}
+use Rattle.seats.specs.Encoding.{part_of, slot_text}
 use Rattle.volume.proofs.SeatRows.{pushed_none, pushed_more}
 use Rattle.volume.proofs.seat_places.push_slot.Goals as goal
 

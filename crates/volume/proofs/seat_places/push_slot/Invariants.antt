@@ -1,6 +1,6 @@
 use Rattle.std.proofs.Common.{◌≡◌, ◌++◌, Some}
 use Rattle.model_tree.specs.Seats.SeatViews.{held_view}
-use Rattle.seats.specs.Spelling.{part_of, slot_text}
+use Rattle.seats.specs.Encoding.{part_of, slot_text}
 use Rattle.volume.specs.SeatUpdates.{row}
 use Rattle.volume.proofs.seat_places.push_slot.Given as goal
 

@@ -24,7 +24,7 @@ returns-in-One-clause-moves g c =
       size = c.migrate.ensures.place.size;
       rests = ends_at_rest old new c.migrate.result c.requires.rests.placed c.migrate.ensures.place c.migrate.ensures.rests;
       steps = c.migrate.ensures.steps;
-      brief = λ k. moved_few found.version found.nodes (length loaded.table) c.unwrap_or.result old new c.in-One.is c.requires.loaded.known.are_cards.count c.requires.rests.placed
+      brief = λ k. moved_few found.version found.nodes (length loaded.table) c.unwrap_or.result old new c.in-One.is c.requires.loaded.known.are_cached_nodes.count c.requires.rests.placed
           (c.migrate.ensures.moments k).brief;
       moments = λ k kept stands.
           moves_safely word found loaded.mark loaded.table (seats_view loaded.seats) loaded.places old new c.requires.volume.size c.requires.rests.placed c.in-One.is c.requires.loaded kept stands

@@ -28,6 +28,6 @@ returns-clause-clears g c =
       stands = λ k. so_moves c.clear.result _ _
           (λ cleared mark nodes run kept some stands.
           let it = cleared mark nodes run kept.tree stands.marked (bare_second mark old.size nodes run old.base kept (some ∙ marked) stands) in
-          record { stands = bare_now mark old.size nodes run old.base kept (some ∙ marked) stands new.base it.stands; cards = it.cards })
+          record { stands = bare_now mark old.size nodes run old.base kept (some ∙ marked) stands new.base it.stands; cached_nodes = it.cached_nodes })
           (c.clear.ensures.ok k);
     }

@@ -2,7 +2,7 @@ use Rattle.std.proofs.Common.{◌≡◌, ◌<◌, ◌+◌, ◌∙◌, ℕ, List,
 use Rattle.std.proofs.lemmas.List.{take_all}
 use Rattle.freemap.specs.declared.bitmap.Bitmap.{Bitmap}
 use Rattle.layout.specs.Marks.{once_if, times_set}
-use Rattle.layout.proofs.NumberLaws.{times_set-front}
+use Rattle.layout.proofs.NumberLaws.{times_set-prefix}
 use Rattle.volume_load.specs.Marking.{AreMarked}
 use Rattle.volume_load.proofs.MarkingLaws.{marked_none, marked_more, can_more, times_set-take, times_set-one}
 use Rattle.volume_load.proofs.marks.mark_blocks.Goals as goal
@@ -19,7 +19,7 @@ returns-then-not-mark_sector-clause-refused c = λ is can.
     let one : get_or blocks i None ≡ Some c.in-Some.sector = sym c.at.ensures ∙ c.in-Some.is in
     c.mark_sector.ensures.refused c.if-not-mark_sector.true
     (can_more c.args.first c.args.places.now c.loop-block.places (λ n. times_set n (take i blocks)) (λ n. once_if (eqb n c.in-Some.sector)) (λ n. times_set n blocks)
-    (λ n. omega (arith, times_set-take n blocks i within, times_set-one n (get_or blocks i None) c.in-Some.sector one, times_set-front n blocks (i + 1))) c.loop-block.invariant can)
+    (λ n. omega (arith, times_set-take n blocks i within, times_set-one n (get_or blocks i None) c.in-Some.sector one, times_set-prefix n blocks (i + 1))) c.loop-block.invariant can)
 
 pub loop-block-preserved : goal.loop-block-preserved
 loop-block-preserved c =

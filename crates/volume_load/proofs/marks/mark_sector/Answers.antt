@@ -2,12 +2,12 @@ use Rattle.std.proofs.Common.{◌∙◌, ℕ, false, Some, sym, ap, subst, arith
 use Rattle.std.proofs.lemmas.Option.{slice_get-get_or}
 use Rattle.layout.specs.Marks.{once_if}
 use Rattle.volume_load.specs.Marking.{AreMarked}
-use Rattle.volume_load.proofs.MarkingLaws.{cannot_front, cannot_behind, cannot_used, marks_one}
+use Rattle.volume_load.proofs.MarkingLaws.{cannot_prefix, cannot_behind, cannot_used, marks_one}
 use Rattle.volume_load.proofs.marks.mark_sector.Goals as goal
 use Rattle.volume_load.proofs.marks.mark_sector.Goals.{then-place-count-via-then-place-count, then-place-count-via-else-place-count+then-is_used}
 
 pub returns-in_default-clause-refused : goal.returns-in_default-clause-refused
-returns-in_default-clause-refused c = λ is. cannot_front c.args.first c.args.places.now c.args.sector (let no = c.in_default.ensures in omega arith)
+returns-in_default-clause-refused c = λ is. cannot_prefix c.args.first c.args.places.now c.args.sector (let no = c.in_default.ensures in omega arith)
 
 pub returns-then-place-count-clause-refused : goal.returns-then-place-count-clause-refused
 returns-then-place-count-clause-refused c = λ is. elim c.then-place-count.branch [

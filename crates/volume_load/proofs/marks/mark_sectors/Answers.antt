@@ -2,7 +2,7 @@ use Rattle.std.proofs.Common.{◌≡◌, ◌+◌, take, get_or, refl, ap, arith,
 use Rattle.std.proofs.lemmas.List.{take_all}
 use Rattle.layout.specs.Marks.{once_if, times}
 use Rattle.volume_load.proofs.MarkingLaws.{marked_none, marked_more, can_more, times-take}
-use Rattle.volume_load.proofs.MarkingLaws.{times-front}
+use Rattle.volume_load.proofs.MarkingLaws.{times-prefix}
 use Rattle.volume_load.proofs.marks.mark_sectors.Goals as goal
 
 pub loop-sector-init : goal.loop-sector-init
@@ -14,7 +14,7 @@ returns-then-not-mark_sector-clause-refused c = λ is can.
     let sectors = c.args.sectors.now in
     c.mark_sector.ensures.refused c.if-not-mark_sector.true
     (can_more c.args.first c.args.places.now c.loop-sector.places (λ n. times n (take i sectors)) (λ n. once_if (eqb n (get_or sectors i 0))) (λ n. times n sectors)
-    (λ n. omega (arith, times-take n sectors i 0 c.loop-sector-test.true, times-front n sectors (i + 1))) c.loop-sector.invariant can)
+    (λ n. omega (arith, times-take n sectors i 0 c.loop-sector-test.true, times-prefix n sectors (i + 1))) c.loop-sector.invariant can)
 
 pub loop-sector-preserved : goal.loop-sector-preserved
 loop-sector-preserved c =

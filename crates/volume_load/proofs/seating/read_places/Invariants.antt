@@ -2,7 +2,7 @@ use Rattle.std.proofs.Common.{◌≡◌, ◌<◌, ℕ, None, length, get_or, map
 use Rattle.std.specs.List.{AllByRecursion}
 use Rattle.model_tree.specs.Seats.SeatViews.{place_view}
 use Rattle.volume_load.specs.Seating.{HoldPlace}
-use Rattle.seats.specs.Spelling.{IsSeatPlace}
+use Rattle.seats.specs.Encoding.{IsSeatPlace}
 use Rattle.volume_load.proofs.seating.read_places.Given as goal
 
 abbrev pub invariant-loop-place : goal.invariant-loop-place

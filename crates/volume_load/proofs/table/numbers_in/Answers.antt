@@ -8,18 +8,18 @@ use Rattle.volume_load.proofs.table.numbers_in.Goals.{in-Some+in_ok-push, in_def
 
 pub loop-cached-preserved : goal.loop-cached-preserved
 loop-cached-preserved c =
-    let cards : List (Option CachedNode) = c.args.cards.now in
+    let cached_nodes : List (Option CachedNode) = c.args.cached_nodes.now in
     let i = c.loop-cached.cached-index in
-    let more = numbers-take cards i c.loop-cached-test.true in
-    let there : c.cached-item.result ≡ get_or cards i None = c.cached-item.is ∙ get_or_default cards i c.cached-item.result None c.loop-cached-test.true in
-    let grown : (card : Option CachedNode) → c.cached-item.result ≡ card → numbers_of (take i cards) ++ numbers_of (card ∷ []) ≡ numbers_of (take (i + 1) cards) =
-    (λ card is. ap (λ (one : Option CachedNode). numbers_of (take i cards) ++ numbers_of (one ∷ [])) (sym is ∙ there) ∙ sym more) in
+    let more = numbers-take cached_nodes i c.loop-cached-test.true in
+    let there : c.cached-item.result ≡ get_or cached_nodes i None = c.cached-item.is ∙ get_or_default cached_nodes i c.cached-item.result None c.loop-cached-test.true in
+    let grown : (cached_node : Option CachedNode) → c.cached-item.result ≡ cached_node → numbers_of (take i cached_nodes) ++ numbers_of (cached_node ∷ []) ≡ numbers_of (take (i + 1) cached_nodes) =
+    (λ cached_node is. ap (λ (one : Option CachedNode). numbers_of (take i cached_nodes) ++ numbers_of (one ∷ [])) (sym is ∙ there) ∙ sym more) in
     elim c.match-cached.branch [
       | in-Some+in_ok-push w ↦
           ap (λ (v : Vec ℕ Global). v.items) w.numbers-is ∙ w.in_ok-push.ensures.items
           ∙ ap (λ (l : List ℕ). l ++ w.cached.inside.inode.number ∷ []) c.loop-cached.invariant
-          ∙ ap (λ (number : ℕ). numbers_of (take i cards) ++ number ∷ []) (ap (λ (card : CachedNode). card.fields.number) w.cached.view_is)
+          ∙ ap (λ (number : ℕ). numbers_of (take i cached_nodes) ++ number ∷ []) (ap (λ (cached_node : CachedNode). cached_node.fields.number) w.cached.view_is)
           ∙ grown (Some w.in-Some.cached) w.in-Some.is
       | in_default w ↦
-          ap (λ (v : Vec ℕ Global). v.items) w.numbers-is ∙ c.loop-cached.invariant ∙ sym (append-nil (numbers_of (take i cards))) ∙ grown None w.in_default.is
+          ap (λ (v : Vec ℕ Global). v.items) w.numbers-is ∙ c.loop-cached.invariant ∙ sym (append-nil (numbers_of (take i cached_nodes))) ∙ grown None w.in_default.is
     ]

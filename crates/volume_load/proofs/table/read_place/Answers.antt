@@ -6,28 +6,28 @@ use Rattle.layout.specs.CachedNodes.{node_sector}
 use Rattle.volume_load.specs.Places.{FindsFields}
 use Rattle.volume_load.specs.CachedNodes.{FindsRest}
 use Rattle.volume_load.specs.declared.fault.ScanFault.{ScanFault}
-use Rattle.volume_load.proofs.CachedNodeLaws.{fields_there, found_there, none_there, marked_card}
+use Rattle.volume_load.proofs.CachedNodeLaws.{fields_there, found_there, none_there, marked_cached}
 use Rattle.volume_load.proofs.CachedNodeLaws.{marked_free}
 use Rattle.volume_load.proofs.SectorLaws.{same_fault}
 use Rattle.volume_load.proofs.table.read_place.Goals as goal
 
 pub returns-in_err-inode-clause-damaged : goal.returns-in_err-inode-clause-damaged
-returns-in_err-inode-clause-damaged g c = λ word is card found can.
+returns-in_err-inode-clause-damaged g c = λ word is cached_node found can.
     let image = g.S.Sectors.image (g.S.Sectors.kept c.args.sectors.now) in
-    c.in_err-inode.ensures.damaged word (ap (λ (e : ScanFault). Err e) (same_fault c.from_residual.result c.in_err-inode.field-0.0 c.from_residual.ensures.1 is)) (fields_there card)
-    (found_there g.S.Sectors.keeps_word c.args.form image c.args.place card found)
+    c.in_err-inode.ensures.damaged word (ap (λ (e : ScanFault). Err e) (same_fault c.from_residual.result c.in_err-inode.field-0.0 c.from_residual.ensures.1 is)) (fields_there cached_node)
+    (found_there g.S.Sectors.keeps_word c.args.form image c.args.place cached_node found)
 
 pub returns-in_default-clause-marked : goal.returns-in_default-clause-marked
 returns-in_default-clause-marked g c = marked_free c.args.first c.args.places.now
 
 pub returns-in_err-cached-clause-damaged : goal.returns-in_err-cached-clause-damaged
-returns-in_err-cached-clause-damaged g c = λ word is card found can.
+returns-in_err-cached-clause-damaged g c = λ word is cached_node found can.
     let image = g.S.Sectors.image (g.S.Sectors.kept c.args.sectors.now) in
     let inode = c.in-Some.inode in
     let node = subst (λ (o : Option Inode). FindsFields g.S.Sectors.keeps_word c.args.form (image (node_sector c.args.place)) (option_map fields_of o)) c.in-Some.is c.in_ok-inode.ensures.found in
     none_there g.S.Sectors.keeps_word c.args.form image c.args.place c.args.first c.args.places.now (fields_of inode) word node (λ one same rest marks.
     c.in_err-cached.ensures.damaged word (ap (λ (e : ScanFault). Err e) (same_fault c.from_residual-in_err-cached.result c.in_err-cached.field-0.0 c.from_residual-in_err-cached.ensures.1 is)) one same
-    (subst (λ kept. FindsRest g.S.Sectors.keeps_word (g.S.Sectors.image kept) one) (sym c.in_ok-inode.ensures.kept) rest) marks) card found can
+    (subst (λ kept. FindsRest g.S.Sectors.keeps_word (g.S.Sectors.image kept) one) (sym c.in_ok-inode.ensures.kept) rest) marks) cached_node found can
 
 pub returns-clause-marked : goal.returns-clause-marked
-returns-clause-marked g c = marked_card c.args.first c.args.places.now c.read_card.new.places c.in_ok-cached.cached c.in_ok-cached.ensures.marked
+returns-clause-marked g c = marked_cached c.args.first c.args.places.now c.read_cached.new.places c.in_ok-cached.cached c.in_ok-cached.ensures.marked

@@ -8,9 +8,9 @@ use Rattle.volume_load.proofs.table.read_table.Given as goal
 
 abbrev pub invariant-loop-place : goal.invariant-loop-place
 invariant-loop-place g l = record {
-  marked : AreMarked (148 + l.nodes) l.fn.places l.places (λ n. named n l.cards.items);
-  long : length l.cards.items ≡ l.place;
-  each : (p : ℕ) → p < l.place → FindsPlace g.S.Sectors.keeps_word ((version_by l.number l.mark no_seats).form p) (g.S.Sectors.image (g.S.Sectors.kept l.fn.sectors)) p (get_or l.cards.items p None);
+  marked : AreMarked (148 + l.nodes) l.fn.places l.places (λ n. named n l.cached_nodes.items);
+  long : length l.cached_nodes.items ≡ l.place;
+  each : (p : ℕ) → p < l.place → FindsPlace g.S.Sectors.keeps_word ((version_by l.number l.mark no_seats).form p) (g.S.Sectors.image (g.S.Sectors.kept l.fn.sectors)) p (get_or l.cached_nodes.items p None);
   kept : g.S.Sectors.kept l.sectors ≡ g.S.Sectors.kept l.fn.sectors;
   health : g.S.Sectors.health l.sectors ≡ g.S.Sectors.health l.fn.sectors;
 }

@@ -1,5 +1,5 @@
 use Rattle.xdr.specs.Forms.{boolean}
-use Rattle.xdr.proofs.Sequences.{one_spelling}
+use Rattle.xdr.proofs.Sequences.{one_encoding}
 use Rattle.xdr.proofs.Passing.{boolean_exact}
 use Rattle.xdr.proofs.laws.booleans_are_exact.Goals as goal
 
@@ -7,4 +7,4 @@ pub returns-clause-exact : goal.returns-clause-exact
 returns-clause-exact c = boolean_exact
 
 pub returns-clause-one : goal.returns-clause-one
-returns-clause-one c = one_spelling boolean boolean_exact
+returns-clause-one c = one_encoding boolean boolean_exact

@@ -50,13 +50,13 @@ refuse-requires-in-Err-attributes g c =
 pub returns-in_ok-values-in-Ok-attributes : goal.returns-in_ok-values-in-Ok-attributes
 unfolding in_progress_of
 returns-in_ok-values-in-Ok-attributes g c = record {
-  answered = c.settle_spelled.ensures.answered;
+  answered = c.settle_encoded.ensures.answered;
   gives = λ now table opens.
       let fs = fs_of c.args.self.now.fs.now in
       let request = in_progress_of c.args.self.now.running.now in
       let kind = Argument.GetAttr c.args.asked.now in
       let answer = Answer.GetAttr (answer_view c.in-Ok-attributes.answer) in
-      c.settle_spelled.ensures.gives now (shared fs table opens) kind answer
+      c.settle_encoded.ensures.gives now (shared fs table opens) kind answer
       (record { number_is = refl; values_are = sym c.in_ok-values-in-Ok-attributes.ensures }) refl
       (tells_ok now fs table opens request kind (attributes_on_tree c.args.asked.now) answer
       (λ state there. subst (λ (bitmap : List ℕ). GetsAttributes fs state now bitmap (Ok c.in-Ok-attributes.answer)) c.as_slice.ensures.numbers

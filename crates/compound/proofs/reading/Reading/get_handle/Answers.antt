@@ -42,11 +42,11 @@ refuse-requires-in-Err-handle g c =
 
 pub returns-in_ok-values-in-Ok-handle : goal.returns-in_ok-values-in-Ok-handle
 returns-in_ok-values-in-Ok-handle g c = record {
-  answered = c.settle_spelled.ensures.answered;
+  answered = c.settle_encoded.ensures.answered;
   gives = λ now table opens.
       let fs = fs_of c.args.self.now.fs.now in
       let request = in_progress_of c.args.self.now.running.now in
-      c.settle_spelled.ensures.gives now (shared fs table opens) Argument.GetFh (Answer.GetFh c.in-Ok-handle.handle)
+      c.settle_encoded.ensures.gives now (shared fs table opens) Argument.GetFh (Answer.GetFh c.in-Ok-handle.handle)
       (record { number_is = refl; values_are = sym c.in_ok-values-in-Ok-handle.ensures }) refl
       (got_ok now fs table opens request c.in-Ok-handle.handle
       (λ state there. c.in-Ok-handle.ensures.step request.context.cred state now (is_on fs request _ _ c.args.self.now.ready.run c.in-Ok.ensures.ok.0 c.in-Ok.ensures.ok.1 there)));

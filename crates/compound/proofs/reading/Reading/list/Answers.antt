@@ -11,9 +11,9 @@ use Rattle.compound.specs.Operates.{GivesIn, Reads}
 use Rattle.compound.specs.States.{shared}
 use Rattle.compound.specs.Views.{in_progress_of}
 use Rattle.compound.specs.declared.fault.Fault.{Fault}
-use Rattle.compound.specs.Trees.{IsHere, fault_told}
+use Rattle.compound.specs.Trees.{IsHere, fault_result}
 use Rattle.compound.specs.declared.executed.Executed.{Executed}
-use Rattle.compound.proofs.Changing.{told_spelled}
+use Rattle.compound.proofs.Changing.{fault_is_encoded}
 use Rattle.compound.proofs.ListLaws.{list_on_tree, lists_up, told_lists, told_memory}
 use Rattle.compound.proofs.Outcomes.{read_or}
 use Rattle.compound.proofs.Rooms.{gives_refusal}
@@ -37,14 +37,14 @@ returns-in-Err g c = record {
 pub returns-in_ok-values-in-Ok-list : goal.returns-in_ok-values-in-Ok-list
 unfolding in_progress_of
 returns-in_ok-values-in-Ok-list g c = record {
-  answered = c.settle_spelled.ensures.answered;
+  answered = c.settle_encoded.ensures.answered;
   gives = λ now table opens.
       let fs = fs_of c.args.self.now.fs.now in
       let request = in_progress_of c.args.self.now.running.now in
       let arguments = read_dir_view c.args.arguments.now in
       let kind = Argument.ReadDir arguments in
       let answer = Answer.ReadDir (page_view c.in-Ok-list.page) in
-      c.settle_spelled.ensures.gives now (shared fs table opens) kind answer
+      c.settle_encoded.ensures.gives now (shared fs table opens) kind answer
       (record { number_is = refl; values_are = sym c.in_ok-values-in-Ok-list.ensures }) refl
       (tells_ok now fs table opens request kind (list_on_tree arguments) answer
       (λ state there. subst (λ (asked : ReadDirArguments). Lists fs state now asked (Ok c.in-Ok-list.page)) c.listing.ensures.arguments
@@ -77,5 +77,5 @@ returns-in-Err-list g c =
     (c.in-Err-list.ensures.step state now c.args.arguments.now.dir_count (on state there)) in
     let first = step state 0 (is_there fs request) in
     subst (λ (r : Result Executed Fault). OrMemory r (Reads fs request (Argument.ReadDir arguments))) (sym c.tell_fault.ensures)
-    (read_or fs request (Argument.ReadDir arguments) (fault_told 26 fault) (told_lists fs request arguments fault step)
-    (told_spelled request 26 fault (omega arith) (lists_up fs state 0 arguments fault up first)) (told_memory fs state 0 arguments fault up first))
+    (read_or fs request (Argument.ReadDir arguments) (fault_result 26 fault) (told_lists fs request arguments fault step)
+    (fault_is_encoded request 26 fault (omega arith) (lists_up fs state 0 arguments fault up first)) (told_memory fs state 0 arguments fault up first))

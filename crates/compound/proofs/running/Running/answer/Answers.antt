@@ -6,7 +6,7 @@ use Rattle.model.specs.Wire.Rpc.{Success, reply_text}
 use Rattle.model.specs.Server.World.{InProgress, is_last, is_to_hold, kept_by, result_of}
 use Rattle.model_tree.specs.declared.status.Status.{Status}
 use Rattle.session.specs.Views.{table_of}
-use Rattle.compound.specs.EncodedResult.{is_ok, told_text, told_status}
+use Rattle.compound.specs.EncodedResult.{is_ok, text_of_result, status_of_result}
 use Rattle.compound.specs.Views.{Asked, in_progress_of, asked_of, resumed, fits_operations}
 use Rattle.compound.proofs.Resuming.{fits_by, fits_ended}
 use Rattle.compound.proofs.Tellings.{ends_told, holds_told, goes_on_told, ok_room}
@@ -38,7 +38,7 @@ unfolding in_progress_of
 returns-then-not-is_last-clause-goes_on c =
     let old = c.args.self.progress in
     let new = c.with_result.result in
-    let text = told_text c.args.encoded in
+    let text = text_of_result c.args.encoded in
     let room = ok_room (in_progress_of c.args.self) c.args.encoded c.requires.encoded (sym c.is_ok.ensures ∙ c.if-is_ok.true) in
     let pushed = c.with_result.ensures.request (asked_of c.args.self) in
     let count : new.answered ≡ old.answered + 1 = ap (λ (r : InProgress). r.answered) pushed in
@@ -79,12 +79,12 @@ unfolding in_progress_of
 returns-then-is_to_hold-clause-goes_on c =
     let after = c.with_last-running.result in
     let pushed = c.with_last-running.ensures.request in
-    let ended : after.progress.ended ≡ Some (told_status c.args.encoded) = ap (λ (r : InProgress). r.ended) pushed in
+    let ended : after.progress.ended ≡ Some (status_of_result c.args.encoded) = ap (λ (r : InProgress). r.ended) pushed in
     record {
       stays = ap (λ (r : InProgress). r.context.run) pushed;
       further = (c.requires.more, ap (λ (r : InProgress). r.answered) pushed);
       fits = subst (λ (one : Asked). fits_operations one after.progress ≡ true) c.with_last-running.ensures.asked
-          (fits_ended (asked_of after) after.progress (told_status c.args.encoded) ended after.within after.brief);
+          (fits_ended (asked_of after) after.progress (status_of_result c.args.encoded) ended after.within after.brief);
     }
 
 pub returns-clause-stands : goal.returns-clause-stands

@@ -15,7 +15,7 @@ use Rattle.compound.specs.Volumes.{OperationGives, ending}
 use Rattle.compound.specs.Views.{in_progress_of}
 use Rattle.compound.specs.declared.fault.Fault.{Fault}
 use Rattle.compound.specs.declared.executed.Executed.{Executed}
-use Rattle.compound.proofs.Changing.{done_runs, told_gives, told_changes, told_spelled, is_short}
+use Rattle.compound.proofs.Changing.{done_runs, told_gives, told_changes, fault_is_encoded, is_short}
 use Rattle.compound.proofs.Rooms.{gives_in_room, gives_refusal}
 use Rattle.compound.proofs.Trees.{is_on, wants}
 use Rattle.compound.proofs.VolumeLaws.{refusal_changes}
@@ -133,7 +133,7 @@ returns-in-Err-commit g c = λ arguments. record {
         let request = in_progress_of c.args.self.now in
         let none : CommitArguments = record { offset = 0; count = 0 } in
         subst (λ (r : Result Executed Fault). IfOk r (HasResult request)) (sym c.tell_fault.ensures)
-        (told_spelled request 5 c.in-Err-commit.fault (omega arith) (commit_up 0 fs request none no_opens c.in-Err-commit.fault c.requires.up
+        (fault_is_encoded request 5 c.in-Err-commit.fault (omega arith) (commit_up 0 fs request none no_opens c.in-Err-commit.fault c.requires.up
         (λ state there known. commit_not_done g.D.Device.keeps_word fs (fs_of c.commit.new.self) state 0 none c.in-Err-commit.fault (c.in-Err-commit.ensures.step state 0 none (is_on fs request _ state c.requires.run c.in-Ok.ensures.ok.0 c.in-Ok.ensures.ok.1 there)))));
     table = refl;
     opens = on_err _ refl;

@@ -10,7 +10,7 @@ use Rattle.opens.specs.Views.{opens_of}
 use Rattle.session.specs.Limits.{served}
 use Rattle.session.specs.Plans.{IsPlanned}
 use Rattle.session.specs.Views.{table_of}
-use Rattle.volume.proofs.ServeLaws.{told_err}
+use Rattle.volume.proofs.ServeLaws.{is_err_of}
 use Rattle.volume.specs.Changes as ends
 use Rattle.wire.specs.AnswerViews as answers
 use Rattle.wire.specs.ArgumentViews.{create_session_view}
@@ -102,7 +102,7 @@ returns-in_err-put_seats-in-Ok-New g c = record {
         subst (Operates now (shared fs old before) (shared fs wanted.table opens) request (Argument.CreateSession arguments)) c.answer_first-done.ensures.is
         (c.answer_first-done.ensures.gives now (shared fs old before) (shared fs wanted.table opens) (Argument.CreateSession arguments)
         (create_runs now fs fs old wanted.table before request arguments known plan.ended.items planned.answer planned.ended refl (same_tree fs))) in
-        rw (told_err c.from_residual.result c.in_err-put_seats-in-Ok-New.field-0.0 c.from_residual.ensures.1)
+        rw (is_err_of c.from_residual.result c.in_err-put_seats-in-Ok-New.field-0.0 c.from_residual.ensures.1)
         (seats_change g.D.Device.keeps_word (shared fs old before) wanted.table opens request request now (Argument.CreateSession arguments) (Done (Answer.CreateSession known)) refl gives _ _ _ _
         (seated_as g.D.Device.keeps_word fs _ _ _ _ (edited_all (edits_view plan.edits) fs.volume.seats) wanted.table.seats
         (λ keeps. planned.seats ∙ ap (edited_all (edits_view plan.edits)) (c.requires.ready.agrees keeps).seats) (rw c.in_err-put_seats-in-Ok-New.was at c.put_seats.ensures.volume)));

@@ -5,7 +5,7 @@ use Rattle.model.specs.Operations.Operation.{Argument}
 use Rattle.model_tree.specs.Seats.SeatEdits.{edited_all, edits_view}
 use Rattle.model.specs.Sessions.Session.{destroy_session}
 use Rattle.session.specs.Views.{table_of}
-use Rattle.volume.proofs.ServeLaws.{told_err}
+use Rattle.volume.proofs.ServeLaws.{is_err_of}
 use Rattle.volume.specs.Changes as ends
 use Rattle.compound.specs.Operates.{GivesIn, Operates}
 use Rattle.compound.specs.States.{shared}
@@ -81,7 +81,7 @@ returns-in_err-put_seats-in-Ok g c = record {
         subst (Operates now (shared fs old opens) (shared fs table opens) request (Argument.DestroySession id)) c.answer_first-done.ensures.is
         (c.answer_first-done.ensures.gives now (shared fs old opens) (shared fs table opens) (Argument.DestroySession id)
         (destroy_runs now fs fs old table opens request id (destroy_done id old table planned.done refl) (same_tree fs))) in
-        rw (told_err c.from_residual.result c.in_err-put_seats-in-Ok.field-0.0 c.from_residual.ensures.1)
+        rw (is_err_of c.from_residual.result c.in_err-put_seats-in-Ok.field-0.0 c.from_residual.ensures.1)
         (seats_change g.D.Device.keeps_word (shared fs old opens) table opens request request now (Argument.DestroySession id) (Done Answer.DestroySession) refl gives _ _ _ _
         (seated_as g.D.Device.keeps_word fs _ _ _ _ (edited_all (edits_view c.in-Ok.edits) fs.volume.seats) table.seats
         (λ keeps. planned.left ∙ ap (edited_all (edits_view c.in-Ok.edits)) (c.requires.ready.agrees keeps).seats) (rw c.in_err-put_seats-in-Ok.was at c.put_seats.ensures.volume)));

@@ -41,7 +41,7 @@ invariant_of-kept c =
     let text : result_text c.result_of-compound.result ≡ result_of (in_progress_of c.args.self) c.args.last.status =
     c.result_of-compound.ensures.text ∙ ap (compound_text c.args.last.status c.args.self.compound.tag.bytes.now c.args.self.progress.answered) c.as_slice.ensures in
     let whole : c.deref.result.now ≡ framed (reply_text c.args.self.xid (Success (result_text c.result_of-compound.result))) =
-    c.deref.ensures.value ∙ (c.in-Ok.ensures.ok ∙ ap (λ (front : List ℕ). front ++ framed (reply_text c.args.self.xid (Success (result_text c.result_of-compound.result)))) c.args.self.progress.reply_fresh) in
+    c.deref.ensures.value ∙ (c.in-Ok.ensures.ok ∙ ap (λ (prefix : List ℕ). prefix ++ framed (reply_text c.args.self.xid (Success (result_text c.result_of-compound.result)))) c.args.self.progress.reply_fresh) in
     let within : take (length c.deref.result.now - 28) (drop 28 c.deref.result.now) ≡ result_of (in_progress_of c.args.self) c.args.last.status =
     result_within c.args.self.xid (result_text c.result_of-compound.result) c.deref.result.now whole ∙ text in
     record { short = omega (arith, c.args.self.brief, result_length (in_progress_of c.args.self) c.args.last.status, ap length within) }
@@ -52,7 +52,7 @@ keep_by-left-requires-clause-edits c =
     let text : result_text c.result_of-compound.result ≡ result_of (in_progress_of c.args.self) c.args.last.status =
     c.result_of-compound.ensures.text ∙ ap (compound_text c.args.last.status c.args.self.compound.tag.bytes.now c.args.self.progress.answered) c.as_slice.ensures in
     let whole : c.deref.result.now ≡ framed (reply_text c.args.self.xid (Success (result_text c.result_of-compound.result))) =
-    c.deref.ensures.value ∙ (c.in-Ok.ensures.ok ∙ ap (λ (front : List ℕ). front ++ framed (reply_text c.args.self.xid (Success (result_text c.result_of-compound.result)))) c.args.self.progress.reply_fresh) in
+    c.deref.ensures.value ∙ (c.in-Ok.ensures.ok ∙ ap (λ (prefix : List ℕ). prefix ++ framed (reply_text c.args.self.xid (Success (result_text c.result_of-compound.result)))) c.args.self.progress.reply_fresh) in
     let within : take (length c.deref.result.now - 28) (drop 28 c.deref.result.now) ≡ result_of (in_progress_of c.args.self) c.args.last.status =
     result_within c.args.self.xid (result_text c.result_of-compound.result) c.deref.result.now whole ∙ text in
     subst (λ (bytes : List ℕ). AreOfReply (option_map slot_of c.args.self.progress.slot) bytes (table_of c.args.table.now) c.args.last.edits) (sym within) c.requires
@@ -63,7 +63,7 @@ returns-clause-kept c =
     let text : result_text c.result_of-compound.result ≡ result_of (in_progress_of c.args.self) c.args.last.status =
     c.result_of-compound.ensures.text ∙ ap (compound_text c.args.last.status c.args.self.compound.tag.bytes.now c.args.self.progress.answered) c.as_slice.ensures in
     let whole : c.deref.result.now ≡ framed (reply_text c.args.self.xid (Success (result_text c.result_of-compound.result))) =
-    c.deref.ensures.value ∙ (c.in-Ok.ensures.ok ∙ ap (λ (front : List ℕ). front ++ framed (reply_text c.args.self.xid (Success (result_text c.result_of-compound.result)))) c.args.self.progress.reply_fresh) in
+    c.deref.ensures.value ∙ (c.in-Ok.ensures.ok ∙ ap (λ (prefix : List ℕ). prefix ++ framed (reply_text c.args.self.xid (Success (result_text c.result_of-compound.result)))) c.args.self.progress.reply_fresh) in
     let within : take (length c.deref.result.now - 28) (drop 28 c.deref.result.now) ≡ result_of (in_progress_of c.args.self) c.args.last.status =
     result_within c.args.self.xid (result_text c.result_of-compound.result) c.deref.result.now whole ∙ text in
     c.keep_by-left.ensures ∙ ap (λ (bytes : List ℕ). kept_by (option_map slot_of c.args.self.progress.slot) (is_some c.args.last.edits) bytes (table_of c.args.table.now)) within

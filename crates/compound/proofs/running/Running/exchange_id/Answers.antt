@@ -15,15 +15,15 @@ use Rattle.compound.proofs.running.Running.exchange_id.Goals as goal
 pub returns-in-Ok : goal.returns-in-Ok
 unfolding in_progress_of
 returns-in-Ok c = (
-  c.answer_first_spelled.ensures.answered,
+  c.answer_first_encoded.ensures.answered,
   λ now fs.
       let opens = opens_of c.args.opens.now in
       let request = in_progress_of c.args.self.now in
       let kind = Argument.ExchangeId (exchange_id_view c.args.arguments.now) in
       let answer = answers.exchange_id_view c.identity_answer.result in
       let wanted = c.in-Ok.ensures.answered ∙ ap (λ (a : ExchangeIdAnswer). (Ok a, table_of c.exchange_id.new.self)) (sym c.identity_answer.ensures.answer) in
-      c.answer_first_spelled.ensures.gives now (shared fs (table_of c.args.table.now) opens) (shared fs (table_of c.exchange_id.new.self) opens) kind (Answer.ExchangeId answer)
-      (record { number_is = refl; values_are = sym c.spelled-values.ensures.values })
+      c.answer_first_encoded.ensures.gives now (shared fs (table_of c.args.table.now) opens) (shared fs (table_of c.exchange_id.new.self) opens) kind (Answer.ExchangeId answer)
+      (record { number_is = refl; values_are = sym c.encode-values.ensures.values })
       (table_runs now fs opens (table_of c.args.table.now) (table_of c.exchange_id.new.self) request request kind (Done (Answer.ExchangeId answer))
       (λ world rest on. ran_exchange world (with_rest request rest) now _ _ _ on (c.deref.ensures.value ∙ c.in_ok-with_opens.ensures) wanted)),
 )

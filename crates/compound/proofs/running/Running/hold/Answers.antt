@@ -4,7 +4,7 @@ use Rattle.fs.specs.Views.{fs_of, fs_failures}
 use Rattle.model_tree.specs.Seats.SeatEdits.{edited_all, edits_view}
 use Rattle.model.specs.Server.World.{kept_by, result_of}
 use Rattle.session.specs.Views.{table_of}
-use Rattle.volume.proofs.ServeLaws.{told_err}
+use Rattle.volume.proofs.ServeLaws.{is_err_of}
 use Rattle.volume.specs.Changes.{Done}
 use Rattle.compound.specs.Views.{in_progress_of, slot_of}
 use Rattle.compound.specs.declared.progress.SlotId.{SlotId}
@@ -45,7 +45,7 @@ returns-in_err-put_seats-clause-volume g c =
     let edits = edits_view c.in_ok-edits.edits in
     let held = kept_held request.slot c.in-Some.id.session c.in-Some.id.slot c.as_slice.result.now result table edits (ap (option_map slot_of) c.in-Some.is)
     (c.as_slice.ensures.value ∙ c.in_ok-result.ensures) c.in_ok-edits.ensures.seats in
-    let told = told_err c.from_residual-in_err-put_seats.result c.in_err-put_seats.field-0.0 c.from_residual-in_err-put_seats.ensures.1 in
+    let told = is_err_of c.from_residual-in_err-put_seats.result c.in_err-put_seats.field-0.0 c.from_residual-in_err-put_seats.ensures.1 in
     rw told (seated_as g.D.Device.keeps_word fs _ _ _ _ (edited_all edits fs.volume.seats) (kept_by request.slot true result table).seats
     (λ keeps. sym held ∙ ap (edited_all edits) (c.requires.agrees keeps).seats) (rw c.in_err-put_seats.was at c.put_seats.ensures.volume))
 

@@ -22,7 +22,7 @@ use Rattle.compound.specs.Views.{in_progress_of}
 use Rattle.compound.specs.declared.fault.Fault.{Fault}
 use Rattle.compound.specs.declared.fault.Fault.TheVariants as fault
 use Rattle.compound.specs.declared.executed.Executed.{Executed}
-use Rattle.compound.proofs.Changing.{told_gives, told_changes, told_spelled}
+use Rattle.compound.proofs.Changing.{told_gives, told_changes, fault_is_encoded}
 use Rattle.compound.proofs.OpenLaws.{on_tree}
 use Rattle.compound.proofs.OpenNamedLaws.{named_opening, open_makes, open_up, opened_short, opens_to, sized}
 use Rattle.compound.proofs.Rooms.{gives_refusal}
@@ -229,7 +229,7 @@ returns-in-Err-open_file g c = record {
         let arguments = open_view c.args.named.arguments.now in
         let kind = Argument.Open arguments in
         subst (λ (r : Result Executed Fault). IfOk r (HasResult request)) (sym c.tell_fault.ensures)
-        (told_spelled request 18 c.in-Err-open_file.fault (omega arith) (open_up c.args.engine.now.moment fs request arguments opens c.in-Err-open_file.fault c.requires.up
+        (fault_is_encoded request 18 c.in-Err-open_file.fault (omega arith) (open_up c.args.engine.now.moment fs request arguments opens c.in-Err-open_file.fault c.requires.up
         (λ state there known. c.in-Err-open_file.ensures.step state arguments (is_on fs request c.in-Ok.number state c.requires.run c.in-Ok.ensures.ok.0 c.in-Ok.ensures.ok.1 there)
         ((named_opening c.args.engine.now.moment fs request arguments opens _ c.requires.run c.in-Ok.ensures.ok.0 c.file_to_open-number.ensures.0 c.file_to_open-number.result c.limits.result.now.opens c.is_full-is_full.result (open_of c.in_ok-asked.asked)
         (ap (λ (limits : Limits). limits.opens) c.limits.ensures) c.in_ok-asked.ensures c.in_ok-reserve.ensures.same c.file_to_open-number.ensures.2 c.is_full-is_full.ensures.is c.is_full-is_full.ensures.high

@@ -16,13 +16,13 @@ use Rattle.compound.specs.Views.{in_progress_of}
 use Rattle.compound.specs.Volumes.{OperationGives, ending}
 use Rattle.compound.specs.declared.fault.Fault.{Fault}
 use Rattle.compound.specs.declared.executed.Executed.{Executed}
-use Rattle.compound.proofs.Changing.{told_spelled}
+use Rattle.compound.proofs.Changing.{fault_is_encoded}
 use Rattle.compound.proofs.QuietLaws.{left_all}
 use Rattle.compound.proofs.ReadLaws.{read_wants, read_ok, read_up, read_nothing, read_quietly, told_reads, told_changes}
 use Rattle.compound.proofs.Rooms.{gives_refusal}
 use Rattle.compound.proofs.Trees.{is_on}
 use Rattle.compound.proofs.VolumeLaws.{memory_changes, quiet_changes}
-use Rattle.volume.proofs.ServeLaws.{told_err}
+use Rattle.volume.proofs.ServeLaws.{is_err_of}
 use Rattle.compound.specs.declared.fault.Fault.TheVariants as fault
 use Rattle.session.specs.Views.{table_of}
 use Rattle.compound.proofs.Outcomes.{changed_if, on_err, if_not}
@@ -91,14 +91,14 @@ returns-in_ok-finish-in-Ok-read g c = record {
         let few : length part < 2 ^ 32 =
         omega (arith, c.in_ok-values.ensures.count, length-take (min arguments.count fs.volume.limits.transfer_bytes) (drop arguments.offset (bytes_at fs.volume.tree c.in-Ok.number))) in
         let answer = Answer.Read (record { is_end = c.in-Ok-read.is_end; data_bytes = part }) in
-        subst (λ (one : FileSystem). Operates now (shared fs table opens) (shared one table opens) request kind c.settle_spelled.result)
+        subst (λ (one : FileSystem). Operates now (shared fs table opens) (shared one table opens) request kind c.settle_encoded.result)
         (sym (left_all g.D.Device.keeps_word (IsTree fs.volume fs.volume.tree) fs new (fs_failures c.args.engine.now.fs.now) (fs_failures c.read.new.self) c.in-Ok-read.ensures.volume))
-        (c.settle_spelled.ensures.gives now (shared fs table opens) kind answer
+        (c.settle_encoded.ensures.gives now (shared fs table opens) kind answer
         (record { number_is = refl; values_are = sym (c.in_ok-finish-in-Ok-read.ensures c.in_ok-values.values.items part (c.in-Ok-read.ensures.bytes keeps) c.in_ok-values.ensures.values few) }) refl
         (read_ok now fs opens request arguments table answer
         (λ state there known. c.in-Ok-read.ensures.step state now arguments.state (is_on fs request c.in-Ok.number state c.requires.run c.in-Ok.ensures.ok.0 c.in-Ok.ensures.ok.1 there)
         (c.verdict-verdict.ensures.is state known there.context_is))));
-    answered = c.settle_spelled.ensures.answered;
+    answered = c.settle_encoded.ensures.answered;
     table = refl;
     opens = tt;
     volume =
@@ -121,7 +121,7 @@ returns-in_err-finish-in-Ok-read g c = record {
         let now = c.args.engine.now.moment in
         let table = table_of c.args.engine.now.table.now in
         let reason = c.in_err-finish-in-Ok-read.field-0.0 in
-        let told = told_err c.from_residual-in_err-finish-in-Ok-read.result reason c.from_residual-in_err-finish-in-Ok-read.ensures.1 in
+        let told = is_err_of c.from_residual-in_err-finish-in-Ok-read.result reason c.from_residual-in_err-finish-in-Ok-read.ensures.1 in
         let memory : reason ≡ fault.Memory = rw c.in_err-finish-in-Ok-read.was at c.finish.ensures in
         rw (told, memory) (read_nothing now (fs_of c.args.engine.now.fs.now) (opens_of c.args.engine.now.opens.now) (in_progress_of c.args.self.now) (read_view c.args.arguments.now) g.D.Device.keeps_word
         (fs_of c.read.new.self) _ _ table c.in-Ok-read.ensures.volume);
@@ -162,7 +162,7 @@ returns-in-Err-read g c = record {
         let request = in_progress_of c.args.self.now in
         let arguments = read_view c.args.arguments.now in
         subst (λ (r : Result Executed Fault). IfOk r (HasResult request)) (sym c.tell_fault.ensures)
-        (told_spelled request 25 c.in-Err-read.fault (omega arith)
+        (fault_is_encoded request 25 c.in-Err-read.fault (omega arith)
         (read_up 0 fs (opens_of c.args.engine.now.opens.now) request arguments c.in-Err-read.fault c.requires.up
         (λ state there known. c.in-Err-read.ensures.step state 0 arguments.state (is_on fs request c.in-Ok.number state c.requires.run c.in-Ok.ensures.ok.0 c.in-Ok.ensures.ok.1 there)
         (c.verdict-verdict.ensures.is state known there.context_is))));

@@ -15,7 +15,7 @@ use Rattle.compound.specs.Views.{in_progress_of}
 use Rattle.compound.specs.declared.fault.Fault.{Fault}
 use Rattle.compound.specs.declared.executed.Executed.{Executed}
 use Rattle.fs.specs.Changes.{FsChanges}
-use Rattle.compound.proofs.Changing.{done_runs, told_gives, told_changes, told_spelled, is_short}
+use Rattle.compound.proofs.Changing.{done_runs, told_gives, told_changes, fault_is_encoded, is_short}
 use Rattle.compound.proofs.Rooms.{gives_in_room, gives_refusal}
 use Rattle.compound.specs.Trees.{removed_answer}
 use Rattle.compound.proofs.RemoveLaws.{on_tree, sized, does_remove, removed_room, remove_makes, remove_up}
@@ -128,7 +128,7 @@ returns-in-Err-remove g c = record {
         let fs = fs_of c.args.engine.now.fs.now in
         let request = in_progress_of c.args.self.now in
         subst (λ (r : Result Executed Fault). IfOk r (HasResult request)) (sym c.tell_fault.ensures)
-        (told_spelled request 28 c.in-Err-remove.fault (omega arith) (remove_up c.args.engine.now.moment fs request c.args.name.now _ c.in-Err-remove.fault c.requires.up c.requires.run c.in-Ok.ensures.ok.0 c.in-Ok.ensures.ok.1 c.in-Err-remove.ensures.step));
+        (fault_is_encoded request 28 c.in-Err-remove.fault (omega arith) (remove_up c.args.engine.now.moment fs request c.args.name.now _ c.in-Err-remove.fault c.requires.up c.requires.run c.in-Ok.ensures.ok.0 c.in-Ok.ensures.ok.1 c.in-Err-remove.ensures.step));
     table = refl;
     opens = on_err _ refl;
     volume =

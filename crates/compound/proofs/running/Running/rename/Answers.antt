@@ -11,7 +11,7 @@ use Rattle.compound.specs.Views.{in_progress_of}
 use Rattle.compound.specs.declared.fault.Fault.{Fault}
 use Rattle.compound.specs.declared.executed.Executed.{Executed}
 use Rattle.fs.specs.Changes.{FsChanges}
-use Rattle.compound.proofs.Changing.{done_runs, told_gives, told_changes, told_spelled, is_short, refused_gives}
+use Rattle.compound.proofs.Changing.{done_runs, told_gives, told_changes, fault_is_encoded, is_short, refused_gives}
 use Rattle.compound.proofs.Rooms.{gives_in_room}
 use Rattle.wire.specs.ArgumentViews.{rename_view}
 use Rattle.compound.specs.Trees.{no_change, renamed_answer}
@@ -128,7 +128,7 @@ returns-in-Err-rename g c = record {
         let fs = fs_of c.args.engine.now.fs.now in
         let request = in_progress_of c.args.self.now in
         subst (λ (r : Result Executed Fault). IfOk r (HasResult request)) (sym c.tell_fault.ensures)
-        (told_spelled request 29 c.in-Err-rename.fault (omega arith) (rename_up c.args.engine.now.moment fs request (rename_view c.args.arguments.now) c.in-Ok.numbers c.in-Err-rename.fault c.requires.up c.requires.run c.in-Ok.ensures.ok c.in-Err-rename.ensures.step));
+        (fault_is_encoded request 29 c.in-Err-rename.fault (omega arith) (rename_up c.args.engine.now.moment fs request (rename_view c.args.arguments.now) c.in-Ok.numbers c.in-Err-rename.fault c.requires.up c.requires.run c.in-Ok.ensures.ok c.in-Err-rename.ensures.step));
     table = refl;
     opens = on_err _ refl;
     volume =

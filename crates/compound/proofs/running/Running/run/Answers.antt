@@ -7,7 +7,7 @@ use Rattle.model.specs.Server.World.{InProgress}
 use Rattle.session.specs.Views.{table_of, reply_kept}
 use Rattle.wire.specs.Numbers.{number_of}
 use Rattle.wire.specs.OutcomeView.{outcome_view}
-use Rattle.compound.specs.Operates.{Spells, left_by_effect}
+use Rattle.compound.specs.Operates.{EncodesAnswer, left_by_effect}
 use Rattle.compound.specs.Runs.{noted, with_rest}
 use Rattle.compound.specs.States.{SharedState, shared_of}
 use Rattle.compound.specs.Views.{asked_of, in_progress_of}
@@ -41,17 +41,17 @@ returns-in-Gives-clause-turn g c = steps_agree _ _ _ _ c.requires.agrees (record
   volume = c.in-Ok.ensures.volume;
 })
 
-pub returns-in-GivesSpelled-clause-turn : goal.returns-in-GivesSpelled-clause-turn
-returns-in-GivesSpelled-clause-turn g c = steps_agree _ _ _ _ c.requires.agrees (record {
+pub returns-in-GivesValues-clause-turn : goal.returns-in-GivesValues-clause-turn
+returns-in-GivesValues-clause-turn g c = steps_agree _ _ _ _ c.requires.agrees (record {
   step = λ keeps.
       let request = in_progress_of c.args.self in
       let rest = drop c.in-Ok.ran.position c.args.self.compound.operations.now in
       let altered = c.in-Ok.ran.altered in
-      let turns = rw c.in-GivesSpelled.is at c.in-Ok.ensures.turns keeps in
-      let spells = subst (λ (values : List ℕ). Spells (number_of c.in-GivesSpelled.operation) values turns.0) (sym c.as_slice.ensures.value) turns.1 in
+      let turns = rw c.in-GivesValues.is at c.in-Ok.ensures.turns keeps in
+      let encodes = subst (λ (values : List ℕ). EncodesAnswer (number_of c.in-GivesValues.operation) values turns.0) (sym c.as_slice.ensures.value) turns.1 in
       steps_to c.args.engine.now.moment (shared_of c.args.engine.now.fs.now c.args.engine.now.table.now c.args.engine.now.opens.now) (shared_of c.run_next.new.engine.fs.now c.run_next.new.engine.table.now c.run_next.new.engine.opens.now) (table_of c.answer.new.table)
       (asked_of c.args.self) (asked_of c.advance.new.self) request (noted altered (with_rest request rest)) (in_progress_of c.advance.new.self)
-      (model.Done turns.0) c.answer.result turns.2 c.advance.ensures.asked c.advance.ensures.request (c.answer.ensures.stands (model.Done turns.0) (turns.0, refl, spells));
+      (model.Done turns.0) c.answer.result turns.2 c.advance.ensures.asked c.advance.ensures.request (c.answer.ensures.stands (model.Done turns.0) (turns.0, refl, encodes));
   goes_on =
       let request = in_progress_of c.args.self in
       let rest = drop c.in-Ok.ran.position c.args.self.compound.operations.now in

@@ -7,12 +7,12 @@ use Rattle.compound.specs.States.{shared_of}
 use Rattle.compound.specs.Turns.{TurnsExecuted}
 use Rattle.compound.specs.Views.{in_progress_of}
 use Rattle.compound.proofs.Firsts.{first_alone}
-use Rattle.compound.proofs.Refusals.{refused_spelled}
+use Rattle.compound.proofs.Refusals.{refused_encoded}
 use Rattle.compound.proofs.Turning.{turns_read, turns_refused, refused_keeps}
 use Rattle.compound.proofs.VolumeLaws.{read_gives, refused_turn, turn_stays}
 use Rattle.compound.specs.declared.fault.Fault.TheVariants as fault
 use Rattle.fs.proofs.ChangeLaws.{changes_by}
-use Rattle.volume.proofs.ServeLaws.{told_err}
+use Rattle.volume.proofs.ServeLaws.{is_err_of}
 use Rattle.compound.proofs.QuietLaws.{leaves_all, answers_still}
 use Rattle.compound.proofs.Outcomes.{if_not, on_err}
 use Rattle.compound.proofs.running.Running.run_next.Goals as goal
@@ -64,7 +64,7 @@ returns-in_err-done-in-Reads g c =
     let runs = rw c.in_err-done-in-Reads.was at c.operate.ensures.state in
     let reason = c.in_err-done-in-Reads.field-0.0 in
     let residual = c.from_residual-in_err-done-in-Reads in
-    let told = told_err residual.result reason residual.ensures.1 in
+    let told = is_err_of residual.result reason residual.ensures.1 in
     record {
       same = c.operate.ensures.same;
       turns = λ keeps. if_not _ _ _ residual.ensures.1;
@@ -81,7 +81,7 @@ returns-in_err-done-in-Reads g c =
 pub returns-in_err-operation : goal.returns-in_err-operation
 returns-in_err-operation g c =
     let reason = c.in_err-operation.field-0.0 in
-    let told = told_err c.from_residual.result reason c.from_residual.ensures.1 in
+    let told = is_err_of c.from_residual.result reason c.from_residual.ensures.1 in
     let memory : reason ≡ fault.Memory = rw c.in_err-operation.was at c.next_operation.ensures.ok in
     record {
       same = record { fs = refl; table = refl; opens = refl };
@@ -109,7 +109,7 @@ returns-in-Refuses g c =
       turns = λ keeps. subst (TurnsExecuted moment state state request rest false) (sym c.refused.ensures.gives)
           (turns_refused moment state request rest c.in-Refuses.operation c.in-Refuses.status c.requires.more next refl);
       within = c.args.self.now.within;
-      answered = subst (IsAnswered request) (sym c.refused.ensures.gives) (refused_spelled request c.in-Refuses.operation c.in-Refuses.status next c.refused.ensures.number);
+      answered = subst (IsAnswered request) (sym c.refused.ensures.gives) (refused_encoded request c.in-Refuses.operation c.in-Refuses.status next c.refused.ensures.number);
       kept = subst (IsReplyKept state.table) (sym c.refused.ensures.gives) tt;
       table = tt;
       opens = tt;

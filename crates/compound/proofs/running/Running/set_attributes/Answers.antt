@@ -17,7 +17,7 @@ use Rattle.compound.specs.Volumes.{OperationGives, ending}
 use Rattle.compound.specs.Views.{in_progress_of}
 use Rattle.compound.specs.declared.fault.Fault.{Fault}
 use Rattle.compound.specs.declared.executed.Executed.{Executed}
-use Rattle.compound.proofs.Changing.{done_runs, told_gives, told_changes, told_spelled, is_short}
+use Rattle.compound.proofs.Changing.{done_runs, told_gives, told_changes, fault_is_encoded, is_short}
 use Rattle.compound.proofs.Rooms.{gives_in_room, gives_refusal}
 use Rattle.compound.proofs.SettingLaws.{on_tree, sized, does_set, set_makes, set_up}
 use Rattle.compound.proofs.Trees.{is_on, wants}
@@ -141,7 +141,7 @@ returns-in-Err-set_attributes g c = record {
         let request = in_progress_of c.args.self.now in
         let arguments = set_attr_view c.args.arguments.now in
         subst (λ (r : Result Executed Fault). IfOk r (HasResult request)) (sym c.tell_fault.ensures)
-        (told_spelled request 34 c.in-Err-set_attributes.fault (omega arith) (set_up c.args.engine.now.moment fs request arguments opens c.in-Err-set_attributes.fault c.requires.up
+        (fault_is_encoded request 34 c.in-Err-set_attributes.fault (omega arith) (set_up c.args.engine.now.moment fs request arguments opens c.in-Err-set_attributes.fault c.requires.up
         (λ state there known. c.in-Err-set_attributes.ensures.step state arguments (is_on fs request _ state c.requires.run c.in-Ok.ensures.ok.0 c.in-Ok.ensures.ok.1 there)
         (record { verdict_is = c.verdict-verdict.ensures.is state known there.context_is; attributes_are = given_is _ _ (sym c.as_slice.ensures.numbers) }))));
     table = refl;

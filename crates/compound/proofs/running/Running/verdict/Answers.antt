@@ -14,5 +14,5 @@ returns-in-Some-clause-possible c =
     let context = (in_progress_of c.args.self.now).context in
     let stateid = state_view c.args.stateid.now in
     let told : first_refusal (access_refusals c.args.access.0 (found opens context stateid)) ≡ Some c.in-Some.status =
-    ap (λ (it : Found). first_refusal (access_refusals c.args.access.0 it)) (sym (c.find.ensures context c.standing.ensures)) ∙ sym c.refuse_access.ensures ∙ c.in-Some.is in
+    ap (λ (it : Found). first_refusal (access_refusals c.args.access.0 it)) (sym (c.find.ensures context c.id_context.ensures)) ∙ sym c.refuse_access.ensures ∙ c.in-Some.is in
     only_possible (record { tree = []; changes = 0; opens = opens; context = context }) c.args.access.0 stateid (Err c.in-Some.status) told

@@ -17,7 +17,7 @@ use Rattle.compound.specs.Volumes.{OperationGives, ending}
 use Rattle.compound.specs.Views.{in_progress_of}
 use Rattle.compound.specs.declared.fault.Fault.{Fault}
 use Rattle.compound.specs.declared.executed.Executed.{Executed}
-use Rattle.compound.proofs.Changing.{done_runs, told_gives, told_changes, told_spelled, is_short}
+use Rattle.compound.proofs.Changing.{done_runs, told_gives, told_changes, fault_is_encoded, is_short}
 use Rattle.compound.proofs.Rooms.{gives_in_room, gives_refusal}
 use Rattle.compound.proofs.Trees.{is_on}
 use Rattle.compound.proofs.VolumeLaws.{refusal_changes}
@@ -143,7 +143,7 @@ returns-in-Err-write g c = record {
         let request = in_progress_of c.args.self.now in
         let arguments = write_view c.args.arguments.now in
         subst (λ (r : Result Executed Fault). IfOk r (HasResult request)) (sym c.tell_fault.ensures)
-        (told_spelled request 38 c.in-Err-write.fault (omega arith) (write_up c.args.engine.now.moment fs request arguments opens c.in-Err-write.fault c.requires.up
+        (fault_is_encoded request 38 c.in-Err-write.fault (omega arith) (write_up c.args.engine.now.moment fs request arguments opens c.in-Err-write.fault c.requires.up
         (λ state there known. c.in-Err-write.ensures.step state arguments (is_on fs request _ state c.requires.run c.in-Ok.ensures.ok.0 c.in-Ok.ensures.ok.1 there)
         (record { verdict_is = c.verdict-verdict.ensures.is state known there.context_is; offset_is = refl; bytes_are = refl; stable_is = c.is_to_be_stable.ensures }))));
     table = refl;

@@ -33,7 +33,7 @@ pub returns-clause-attributes : goal.returns-clause-attributes
 unfolding fs_of
 returns-clause-attributes g c state now is =
     let held = (fs_of c.args.self.now).volume in
-    let card = c.in-Some.cached.now in
+    let cached_node = c.in-Some.cached.now in
     let node = c.in-Some.ensures.some in
     let bitmap = c.args.asked.now in
     let listed : c.is_asked.result ≡ asks_lists bitmap = c.is_asked.ensures ∙ ap (is_among (attributes_of bitmap)) c.number.ensures in
@@ -41,10 +41,10 @@ returns-clause-attributes g c state now is =
     elim c.else-is_asked.branch [
       | else-is_asked-via-then-is_asked+else-not-grants w ↦
           attributes_granted held.limits held.tree c.args.cred.now c.args.number state now is bitmap node.node node.there (sym listed ∙ w.if-is_asked.true)
-          (sym (granted_by held.tree c.args.number card node c.args.cred.now read_acl) ∙ (sym w.grants.ensures ∙ w.if-not-grants.false))
+          (sym (granted_by held.tree c.args.number cached_node node c.args.cred.now read_acl) ∙ (sym w.grants.ensures ∙ w.if-not-grants.false))
       | else-is_asked-via-else-is_asked w ↦
           attributes_unlisted held.limits held.tree c.args.cred.now c.args.number state now is bitmap node.node node.there (sym listed ∙ w.if-is_asked.false)
     ] in
     told
-    ∙ ap (λ (shown : Attributes). answered state (Answer.GetAttr shown))
-    (attributes_are card c.in-Some.ensures.fit held.limits held.tree c.args.number node bitmap ∙ sym (c.shown.ensures.shows bitmap))
+    ∙ ap (λ (metadata : Attributes). answered state (Answer.GetAttr metadata))
+    (attributes_are cached_node c.in-Some.ensures.fit held.limits held.tree c.args.number node bitmap ∙ sym (c.metadata.ensures.shows bitmap))

@@ -7,18 +7,18 @@ use Rattle.fs.proofs.ChangeLaws.{full_room, done_room, at_once, told_so, waiting
 use Rattle.volume.specs.Changes.{Done, IsTree}
 use Rattle.fs.proofs.ReadLaws.{commit_early, commit_goes_on, committed, commit_fails}
 use Rattle.volume.specs.VolumeState.{with_tree}
-use Rattle.volume.proofs.ServeLaws.{told_err}
+use Rattle.volume.proofs.ServeLaws.{is_err_of}
 use Rattle.fs.proofs.fs.Fs.commit.Goals as goal
 
 pub returns-in_err-file-clause-step : goal.returns-in_err-file-clause-step
 returns-in_err-file-clause-step g c state now arguments on =
-    let told = told_err c.from_residual.result (fault.Status c.in_err-file.field-0.0) c.from_residual.ensures.1 in
+    let told = is_err_of c.from_residual.result (fault.Status c.in_err-file.field-0.0) c.from_residual.ensures.1 in
     rw told (commit_early (fs_of c.args.self.now) c.args.cred.now c.args.number state now on arguments c.in_err-file.field-0.0 c.in_err-file.ensures.tests)
 
 pub returns-in_err-flush-clause-step : goal.returns-in_err-flush-clause-step
 unfolding fs_of
 returns-in_err-flush-clause-step g c state now arguments on =
-    let told = told_err c.from_residual-in_err-flush.result (volume_fault c.in_err-flush.field-0.0) c.from_residual-in_err-flush.ensures.1 in
+    let told = is_err_of c.from_residual-in_err-flush.result (volume_fault c.in_err-flush.field-0.0) c.from_residual-in_err-flush.ensures.1 in
     rw told (commit_fails g.D.Device.keeps_word (fs_of c.args.self.now) (fs_of c.args.self.now) state now arguments c.in_err-flush.field-0.0 c.in_err-flush.ensures.refuses
     (λ down. c.in_err-flush.ensures.down.0 (ap Err down))
     (commit_goes_on (fs_of c.args.self.now) c.args.cred.now c.args.number state now on arguments c.in_ok-file.ensures.tests))
@@ -43,14 +43,14 @@ unfolding fs_of fs_failures
 returns-in_err-flush-clause-volume g c =
     let fs = fs_of c.args.self.now in
     let fault = c.in_err-flush.field-0.0 in
-    rw (told_err c.from_residual-in_err-flush.result (volume_fault fault) c.from_residual-in_err-flush.ensures.1)
+    rw (is_err_of c.from_residual-in_err-flush.result (volume_fault fault) c.from_residual-in_err-flush.ensures.1)
     (told_so g.D.Device.keeps_word (IsTree fs.volume fs.volume.tree) _ _ _ _ fault
-    (at_once g.D.Device.keeps_word _ _ _ _ _ (with_tree fs.volume fs.volume.tree) (λ undone. refl) refl c.if-self.false refl c.in_err-flush.ensures.volume))
+    (at_once g.D.Device.keeps_word _ _ _ _ _ (with_tree fs.volume fs.volume.tree) (λ failed. refl) refl c.if-self.false refl c.in_err-flush.ensures.volume))
 
 pub returns-clause-volume : goal.returns-clause-volume
 unfolding fs_of fs_failures
 returns-clause-volume g c =
-    at_once g.D.Device.keeps_word _ _ _ _ Done (with_tree (fs_of c.args.self.now).volume (fs_of c.args.self.now).volume.tree) (λ undone. refl) refl c.if-self.false refl c.in_ok-flush.ensures.volume
+    at_once g.D.Device.keeps_word _ _ _ _ Done (with_tree (fs_of c.args.self.now).volume (fs_of c.args.self.now).volume.tree) (λ failed. refl) refl c.if-self.false refl c.in_ok-flush.ensures.volume
 
 pub returns-then-self-clause-volume : goal.returns-then-self-clause-volume
 unfolding fs_of fs_failures

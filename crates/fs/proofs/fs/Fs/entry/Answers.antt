@@ -53,25 +53,25 @@ unfolding fs_of
 returns-in_default-get g c state now is =
     let held = (fs_of c.args.self.now).volume in
     let node = c.in-Some.ensures.some in
-    let card = c.in-Some.cached.now in
+    let cached_node = c.in-Some.cached.now in
     let directory = c.is_directory.ensures.0 c.if-not-is_directory.false in
     stages.no_entry held.limits held.tree c.args.cred.now c.args.directory c.args.name.now state now is node.node node.there
-    (ap is_directory (names_are held.tree c.args.directory card node directory))
+    (ap is_directory (names_are held.tree c.args.directory cached_node node directory))
     (ap (λ (l : Limits). first_refusal (name_refusals l c.args.name.now)) (sym c.limits.ensures.limits) ∙ c.in_ok-check_name.ensures.allowed)
-    (sym (granted_by held.tree c.args.directory card node c.args.cred.now execute) ∙ (sym c.grants.ensures ∙ c.if-not-grants.false))
-    (entry_is held.tree c.args.directory card node c.in-Some.ensures.fit directory c.args.name.now c.cached.inside.names (ap (λ (it : CachedNode). it.names) c.cached.view_is) None c.in_default-get.ensures.by_stamp)
+    (sym (granted_by held.tree c.args.directory cached_node node c.args.cred.now execute) ∙ (sym c.grants.ensures ∙ c.if-not-grants.false))
+    (entry_is held.tree c.args.directory cached_node node c.in-Some.ensures.fit directory c.args.name.now c.cached.inside.names (ap (λ (it : CachedNode). it.names) c.cached.view_is) None c.in_default-get.ensures.by_stamp)
 
 pub returns : goal.returns
 unfolding fs_of
 returns g c state now is =
     let held = (fs_of c.args.self.now).volume in
     let node = c.in-Some.ensures.some in
-    let card = c.in-Some.cached.now in
+    let cached_node = c.in-Some.cached.now in
     let directory = c.is_directory.ensures.0 c.if-not-is_directory.false in
     let found = record_from c.in-Some-get.field-0-0 c.args.name.now c.in-Some-get.number in
     stages.found held.limits held.tree c.args.cred.now c.args.directory c.args.name.now state now is node.node node.there
-    (ap is_directory (names_are held.tree c.args.directory card node directory))
+    (ap is_directory (names_are held.tree c.args.directory cached_node node directory))
     (ap (λ (l : Limits). first_refusal (name_refusals l c.args.name.now)) (sym c.limits.ensures.limits) ∙ c.in_ok-check_name.ensures.allowed)
-    (sym (granted_by held.tree c.args.directory card node c.args.cred.now execute) ∙ (sym c.grants.ensures ∙ c.if-not-grants.false))
+    (sym (granted_by held.tree c.args.directory cached_node node c.args.cred.now execute) ∙ (sym c.grants.ensures ∙ c.if-not-grants.false))
     found
-    (entry_is held.tree c.args.directory card node c.in-Some.ensures.fit directory c.args.name.now c.cached.inside.names (ap (λ (it : CachedNode). it.names) c.cached.view_is) (Some found) c.in-Some-get.ensures.by_stamp)
+    (entry_is held.tree c.args.directory cached_node node c.in-Some.ensures.fit directory c.args.name.now c.cached.inside.names (ap (λ (it : CachedNode). it.names) c.cached.view_is) (Some found) c.in-Some-get.ensures.by_stamp)

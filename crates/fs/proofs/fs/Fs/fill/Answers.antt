@@ -14,14 +14,14 @@ loop-name-preserved g c =
     let listed = shown_entry held.limits held.tree c.args.cred.now c.args.hides_unreadable c.args.asked.now in
     let all = map listed (rest_of c.args.names) in
     let rest = map listed (rest_of c.next.new.self) in
-    let shown = c.loop-name.entries.items in
-    let filled : laws.IsFilled c.args.room c.loop-name.room all (entry_view c.listed-entry.result ∷ rest) shown =
-    rw c.listed-entry.ensures.view (subst (λ (l : List Record). laws.IsFilled c.args.room c.loop-name.room all (map listed l) shown) c.in-Some.ensures.steps c.loop-name.invariant.3) in
+    let metadata = c.loop-name.entries.items in
+    let filled : laws.IsFilled c.args.room c.loop-name.room all (entry_view c.listed-entry.result ∷ rest) metadata =
+    rw c.listed-entry.ensures.view (subst (λ (l : List Record). laws.IsFilled c.args.room c.loop-name.room all (map listed l) metadata) c.in-Some.ensures.steps c.loop-name.invariant.3) in
     let each = subst (AllByRecursion IsRecord) c.in-Some.ensures.steps c.loop-name.invariant.2 in (
       tt,
       tt,
       each.1,
-      rw c.in_ok-push.ensures.items (laws.one_more c.args.room c.loop-name.room all rest shown c.listed-entry.result (4 + c.size-size.result) filled c.listed-entry.ensures.fits
+      rw c.in_ok-push.ensures.items (laws.one_more c.args.room c.loop-name.room all rest metadata c.listed-entry.result (4 + c.size-size.result) filled c.listed-entry.ensures.fits
           (ap (λ (n : ℕ). 4 + n) c.size-size.ensures.value) (omega (arith, c.if-room-size.false))),
     )
 
@@ -39,7 +39,7 @@ returns-then-room-size-clause-page g c =
     let listed = shown_entry held.limits held.tree c.args.cred.now c.args.hides_unreadable c.args.asked.now in
     let all = map listed (rest_of c.args.names) in
     let rest = map listed (rest_of c.next.new.self) in
-    let shown = c.loop-name.entries.items in
-    let filled : laws.IsFilled c.args.room c.loop-name.room all (entry_view c.listed-entry.result ∷ rest) shown =
-    rw c.listed-entry.ensures.view (subst (λ (l : List Record). laws.IsFilled c.args.room c.loop-name.room all (map listed l) shown) c.in-Some.ensures.steps c.loop-name.invariant.3) in
-    laws.full c.args.room c.loop-name.room all rest shown (entry_view c.listed-entry.result) filled (omega (arith, c.size-size.ensures.value, c.if-room-size.true))
+    let metadata = c.loop-name.entries.items in
+    let filled : laws.IsFilled c.args.room c.loop-name.room all (entry_view c.listed-entry.result ∷ rest) metadata =
+    rw c.listed-entry.ensures.view (subst (λ (l : List Record). laws.IsFilled c.args.room c.loop-name.room all (map listed l) metadata) c.in-Some.ensures.steps c.loop-name.invariant.3) in
+    laws.full c.args.room c.loop-name.room all rest metadata (entry_view c.listed-entry.result) filled (omega (arith, c.size-size.ensures.value, c.if-room-size.true))

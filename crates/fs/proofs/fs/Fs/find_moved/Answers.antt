@@ -11,17 +11,17 @@ use Rattle.fs.specs.Views.{fs_of}
 use Rattle.fs.specs.Renaming.{arguments_of}
 use Rattle.fs.proofs.CachedNodeViews.{entry_at}
 use Rattle.fs.proofs.RenameSteps as steps
-use Rattle.volume.proofs.ServeLaws.{told_err}
+use Rattle.volume.proofs.ServeLaws.{is_err_of}
 use Rattle.fs.proofs.fs.Fs.find_moved.Goals as goal
 
 pub returns-in_err-from-clause-moved : goal.returns-in_err-from-clause-moved
-returns-in_err-from-clause-moved g c = rw (told_err c.from_residual.result c.in_err-from.field-0.0 c.from_residual.ensures.1) (tt)
+returns-in_err-from-clause-moved g c = rw (is_err_of c.from_residual.result c.in_err-from.field-0.0 c.from_residual.ensures.1) (tt)
 
 pub returns-in_err-check_name-clause-moved : goal.returns-in_err-check_name-clause-moved
-returns-in_err-check_name-clause-moved g c = rw (told_err c.from_residual-in_err-check_name.result c.in_err-check_name.field-0.0 c.from_residual-in_err-check_name.ensures.1) (tt)
+returns-in_err-check_name-clause-moved g c = rw (is_err_of c.from_residual-in_err-check_name.result c.in_err-check_name.field-0.0 c.from_residual-in_err-check_name.ensures.1) (tt)
 
 pub returns-in_err-check_name-2-clause-moved : goal.returns-in_err-check_name-2-clause-moved
-returns-in_err-check_name-2-clause-moved g c = rw (told_err c.from_residual-in_err-check_name-2.result c.in_err-check_name-2.field-0.0 c.from_residual-in_err-check_name-2.ensures.1) (tt)
+returns-in_err-check_name-2-clause-moved g c = rw (is_err_of c.from_residual-in_err-check_name-2.result c.in_err-check_name-2.field-0.0 c.from_residual-in_err-check_name-2.ensures.1) (tt)
 
 pub returns-in_err-from-clause-tests : goal.returns-in_err-from-clause-tests
 returns-in_err-from-clause-tests g c =

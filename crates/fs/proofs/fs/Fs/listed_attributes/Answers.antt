@@ -20,7 +20,7 @@ returns-in-Some-clause-view g c =
       | else-hides_unreadable-via-then-hides_unreadable+else-not-may_read_list w ↦ inr (sym w.may_read_list.ensures ∙ w.if-not-may_read_list.false)
       | else-hides_unreadable-via-else-hides_unreadable w ↦ inl w.if-hides_unreadable.false
     ] in
-    c.shown.ensures.shows bitmap
+    c.metadata.ensures.shows bitmap
     ∙ sym (attributes_are c.in-Some.cached.now c.in-Some.ensures.fit held.limits held.tree number is bitmap)
     ∙ sym (ap (attributes_at held.limits bitmap number) is.there)
     ∙ sym (attributes_shown held.limits c.args.cred.now c.args.hides_unreadable bitmap number (at number held.tree) may)

@@ -2,7 +2,7 @@ use Rattle.std.proofs.Common.{ap, ◌∙◌, refl, sym}
 use Rattle.model.specs.Operations.Step.{Stepped}
 use Rattle.fs.specs.Views.{fs_of, fs_failures}
 use Rattle.fs.proofs.ChangeLaws.{changes_by, left, left_by, not_known, down_room, planned_room, kept_room, full_room, done_room}
-use Rattle.volume.proofs.ServeLaws.{told_err}
+use Rattle.volume.proofs.ServeLaws.{is_err_of}
 use Rattle.volume.specs.Changes.{IsTree}
 use Rattle.volume.specs.Edits.{edited_by}
 use Rattle.volume.specs.VolumeState.{with_tree}
@@ -10,10 +10,10 @@ use Rattle.fs.specs.Refusals.{fault_of}
 use Rattle.fs.proofs.fs.Fs.make_dir.Goals as goal
 
 pub returns-in_err-change_stable-clause-step : goal.returns-in_err-change_stable-clause-step
-returns-in_err-change_stable-clause-step g c = rw (told_err c.from_residual-in_err-change_stable.result c.in_err-change_stable.field-0.0 c.from_residual-in_err-change_stable.ensures.1) (λ state on. not_known (fs_of c.args.self.now) state c.args.now _ c.in_err-change_stable.field-0.0 c.in_err-change_stable.ensures.only)
+returns-in_err-change_stable-clause-step g c = rw (is_err_of c.from_residual-in_err-change_stable.result c.in_err-change_stable.field-0.0 c.from_residual-in_err-change_stable.ensures.1) (λ state on. not_known (fs_of c.args.self.now) state c.args.now _ c.in_err-change_stable.field-0.0 c.in_err-change_stable.ensures.only)
 
 pub returns-in_err-change_stable-clause-room : goal.returns-in_err-change_stable-clause-room
-returns-in_err-change_stable-clause-room g c = rw (told_err c.from_residual-in_err-change_stable.result c.in_err-change_stable.field-0.0 c.from_residual-in_err-change_stable.ensures.1) (kept_room _ _ c.is_down.result c.is_down.ensures c.if-is_down.false c.in_err-change_stable.field-0.0 c.in_err-change_stable.ensures.only c.if-not-has_room.false)
+returns-in_err-change_stable-clause-room g c = rw (is_err_of c.from_residual-in_err-change_stable.result c.in_err-change_stable.field-0.0 c.from_residual-in_err-change_stable.ensures.1) (kept_room _ _ c.is_down.result c.is_down.ensures c.if-is_down.false c.in_err-change_stable.field-0.0 c.in_err-change_stable.ensures.only c.if-not-has_room.false)
 
 pub returns-then-is_down : goal.returns-then-is_down
 returns-then-is_down g c = record {
@@ -25,7 +25,7 @@ returns-then-is_down g c = record {
 pub returns-in_err-planned : goal.returns-in_err-planned
 returns-in_err-planned g c =
     let refused = c.in_err-planned.field-0.0 in
-    let told = told_err c.from_residual.result (fault_of refused) c.from_residual.ensures.1 in
+    let told = is_err_of c.from_residual.result (fault_of refused) c.from_residual.ensures.1 in
     rw told (record {
       step = λ state on. c.in_err-planned.ensures.refused state on;
       volume = left_by g.D.Device.keeps_word _ (fs_of c.args.self.now) (fs_failures c.args.self.now) refused;
@@ -37,7 +37,7 @@ returns-then-not-has_room-clause-volume g c = left g.D.Device.keeps_word _ (fs_o
 
 pub returns-in_err-change_stable-clause-volume : goal.returns-in_err-change_stable-clause-volume
 returns-in_err-change_stable-clause-volume g c =
-    let told = told_err c.from_residual-in_err-change_stable.result c.in_err-change_stable.field-0.0 c.from_residual-in_err-change_stable.ensures.1 in
+    let told = is_err_of c.from_residual-in_err-change_stable.result c.in_err-change_stable.field-0.0 c.from_residual-in_err-change_stable.ensures.1 in
     let held = (fs_of c.args.self.now).volume in
     rw told (changes_by g.D.Device.keeps_word (IsTree held (edited_by held c.in_ok-planned.planned.edits.items)) _
     (λ after lasts made. made.kept ∙ ap (λ (s : Stepped). with_tree held s.state.tree) (c.in_ok-planned.ensures.step made.state made.on))

@@ -18,6 +18,6 @@ returns-clause-entries g c =
     let most : held.limits.aces ≡ 72 = ap (λ (l : Limits). l.aces) c.args.self.now.volume.limited in
     record { few = omega (arith, few, most); each = small.each }
 
-pub returns-clause-shown : goal.returns-clause-shown
+pub returns-clause-metadata : goal.returns-clause-metadata
 unfolding fs_of
-returns-clause-shown g c = search rules
+returns-clause-metadata g c = search rules

@@ -1,4 +1,4 @@
-use Rattle.volume.proofs.ServeLaws.{told_err}
+use Rattle.volume.proofs.ServeLaws.{is_err_of}
 use Rattle.fs.specs.declared.fault.FsFault.TheVariants as fault
 use Rattle.fs.specs.Views.{fs_of}
 use Rattle.fs.proofs.CurrentOpens as laws
@@ -6,7 +6,7 @@ use Rattle.fs.proofs.fs.Fs.open_current.Goals as goal
 
 pub returns-in_err-permit_current-clause-step : goal.returns-in_err-permit_current-clause-step
 returns-in_err-permit_current-clause-step g c state now arguments on is =
-    let told = told_err c.from_residual.result (fault.Status c.in_err-permit_current.field-0.0) c.from_residual.ensures.1 in
+    let told = is_err_of c.from_residual.result (fault.Status c.in_err-permit_current.field-0.0) c.from_residual.ensures.1 in
     rw told (laws.refused_by (fs_of c.args.self.now) c.args.cred.now now c.args.number c.args.share c.args.is_create c.args.is_full state arguments on is
     c.in_err-permit_current.field-0.0 (c.in_err-permit_current.ensures.tests state arguments is.how on.is_state is.access_is is.deny_is is.creates_is))
 

@@ -8,7 +8,7 @@ use Rattle.fs.proofs.OpenTests as tests
 use Rattle.fs.proofs.RefusedLaws.{carried}
 use Rattle.volume.specs.Nodes.{IsNodeOf}
 use Rattle.volume.proofs.ViewLaws.{volume_formed}
-use Rattle.volume.proofs.ServeLaws.{told_err}
+use Rattle.volume.proofs.ServeLaws.{is_err_of}
 use Rattle.fs.proofs.fs.Fs.permit_known.Goals as goal
 
 -- a name leads to a node
@@ -21,16 +21,16 @@ unreachable-requires g c =
     true≢false (sym there ∙ ap is_some c.in_default.ensures.none)
 
 pub returns-in_err-is_cut-clause-node : goal.returns-in_err-is_cut-clause-node
-returns-in_err-is_cut-clause-node g c = rw (told_err c.from_residual.result c.in_err-is_cut.field-0.0 c.from_residual.ensures.1) (tt)
+returns-in_err-is_cut-clause-node g c = rw (is_err_of c.from_residual.result c.in_err-is_cut.field-0.0 c.from_residual.ensures.1) (tt)
 
 pub returns-in_err-is_cut-clause-file : goal.returns-in_err-is_cut-clause-file
-returns-in_err-is_cut-clause-file g c = rw (told_err c.from_residual.result c.in_err-is_cut.field-0.0 c.from_residual.ensures.1) (tt)
+returns-in_err-is_cut-clause-file g c = rw (is_err_of c.from_residual.result c.in_err-is_cut.field-0.0 c.from_residual.ensures.1) (tt)
 
 pub returns-in_err-is_cut-clause-fit : goal.returns-in_err-is_cut-clause-fit
-returns-in_err-is_cut-clause-fit g c = rw (told_err c.from_residual.result c.in_err-is_cut.field-0.0 c.from_residual.ensures.1) (tt)
+returns-in_err-is_cut-clause-fit g c = rw (is_err_of c.from_residual.result c.in_err-is_cut.field-0.0 c.from_residual.ensures.1) (tt)
 
 pub returns-in_err-is_cut-clause-cut : goal.returns-in_err-is_cut-clause-cut
-returns-in_err-is_cut-clause-cut g c = rw (told_err c.from_residual.result c.in_err-is_cut.field-0.0 c.from_residual.ensures.1) (tt)
+returns-in_err-is_cut-clause-cut g c = rw (is_err_of c.from_residual.result c.in_err-is_cut.field-0.0 c.from_residual.ensures.1) (tt)
 
 pub returns-in_err-is_cut-clause-tests : goal.returns-in_err-is_cut-clause-tests
 unfolding fs_of
@@ -48,19 +48,19 @@ unfolding fs_of
 returns-then-not-may_open-clause-tests g c state is =
     let held = (fs_of c.args.self.now).volume in
     let asked = c.args.asked in
-    let card = c.in-Some.cached.now in
-    let there = subst (λ (t : Tree). IsNodeOf t c.args.number card) (sym is.tree_is) c.in-Some.ensures.some in
+    let cached_node = c.in-Some.cached.now in
+    let there = subst (λ (t : Tree). IsNodeOf t c.args.number cached_node) (sym is.tree_is) c.in-Some.ensures.some in
     tests.by_use held.limits held.tree c.args.cred.now asked.directory asked.name.now state is asked.share.access (type_of asked.how) c.args.number c.requires.leads
-    card c.in-Some.ensures.some (c.in_ok-is_cut.ensures.tests state c.args.number is.tree_is there)
-    false (ap (may_use card.fields c.args.cred.now asked.share.access) (sym c.in_ok-is_cut.ensures.cut) ∙ (sym c.may_open.ensures ∙ c.if-not-may_open.true))
+    cached_node c.in-Some.ensures.some (c.in_ok-is_cut.ensures.tests state c.args.number is.tree_is there)
+    false (ap (may_use cached_node.fields c.args.cred.now asked.share.access) (sym c.in_ok-is_cut.ensures.cut) ∙ (sym c.may_open.ensures ∙ c.if-not-may_open.true))
 
 pub returns-clause-tests : goal.returns-clause-tests
 unfolding fs_of
 returns-clause-tests g c state is =
     let held = (fs_of c.args.self.now).volume in
     let asked = c.args.asked in
-    let card = c.in-Some.cached.now in
-    let there = subst (λ (t : Tree). IsNodeOf t c.args.number card) (sym is.tree_is) c.in-Some.ensures.some in
+    let cached_node = c.in-Some.cached.now in
+    let there = subst (λ (t : Tree). IsNodeOf t c.args.number cached_node) (sym is.tree_is) c.in-Some.ensures.some in
     tests.by_use held.limits held.tree c.args.cred.now asked.directory asked.name.now state is asked.share.access (type_of asked.how) c.args.number c.requires.leads
-    card c.in-Some.ensures.some (c.in_ok-is_cut.ensures.tests state c.args.number is.tree_is there)
-    true (ap (may_use card.fields c.args.cred.now asked.share.access) (sym c.in_ok-is_cut.ensures.cut) ∙ (sym c.may_open.ensures ∙ c.if-not-may_open.false))
+    cached_node c.in-Some.ensures.some (c.in_ok-is_cut.ensures.tests state c.args.number is.tree_is there)
+    true (ap (may_use cached_node.fields c.args.cred.now asked.share.access) (sym c.in_ok-is_cut.ensures.cut) ∙ (sym c.may_open.ensures ∙ c.if-not-may_open.false))

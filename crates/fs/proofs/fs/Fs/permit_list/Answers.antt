@@ -42,7 +42,7 @@ returns-then-not-may_read_lists-clause-tests g c dir_count =
     let node = c.in-Some.ensures.some in
     let content = names_are tree number c.in-Some.cached.now node (c.is_directory.ensures.0 c.if-not-is_directory.false) in
     let names : by_stamp c.cached.inside.names ≡ names_at tree number =
-    ap (λ (card : CachedNode). by_stamp card.names) c.cached.view_is ∙ sym (ap names_of_node node.there ∙ ap names_of content) in
+    ap (λ (cached_node : CachedNode). by_stamp cached_node.names) c.cached.view_is ∙ sym (ap names_of_node node.there ∙ ap names_of content) in
     unreadable tree cred number (list_arguments c.args.listing.now dir_count) (ap is_some node.there) (ap is_directory_node node.there ∙ ap is_directory content)
     (ap (λ (found : Option Node). granted_on found cred read_data) node.there ∙ sym (granted_by tree number c.in-Some.cached.now node cred read_data) ∙ (sym c.grants.ensures ∙ c.if-not-grants.false))
     (sym c.has_other_verifier.ensures ∙ c.if-has_other_verifier.false) (sym c.must_read_lists.ensures ∙ c.if-must_read_lists.true)

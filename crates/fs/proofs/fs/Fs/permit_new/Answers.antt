@@ -9,14 +9,14 @@ use Rattle.fs.specs.Opening.{file_tests, type_of}
 use Rattle.fs.proofs.CachedNodeViews.{granted_by}
 use Rattle.fs.proofs.OpenTests as tests
 use Rattle.fs.proofs.RefusedLaws.{carried}
-use Rattle.volume.proofs.ServeLaws.{told_err}
+use Rattle.volume.proofs.ServeLaws.{is_err_of}
 use Rattle.fs.proofs.fs.Fs.permit_new.Goals as goal
 
 pub returns-in_err-settings-clause-settings : goal.returns-in_err-settings-clause-settings
-returns-in_err-settings-clause-settings g c = rw (told_err c.from_residual.result c.in_err-settings.field-0.0 c.from_residual.ensures.1) (tt)
+returns-in_err-settings-clause-settings g c = rw (is_err_of c.from_residual.result c.in_err-settings.field-0.0 c.from_residual.ensures.1) (tt)
 
 pub returns-in_err-settings-clause-within : goal.returns-in_err-settings-clause-within
-returns-in_err-settings-clause-within g c = rw (told_err c.from_residual.result c.in_err-settings.field-0.0 c.from_residual.ensures.1) (tt)
+returns-in_err-settings-clause-within g c = rw (is_err_of c.from_residual.result c.in_err-settings.field-0.0 c.from_residual.ensures.1) (tt)
 
 pub returns-in_err-settings-clause-tests : goal.returns-in_err-settings-clause-tests
 unfolding fs_of

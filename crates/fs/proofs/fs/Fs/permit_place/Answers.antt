@@ -8,20 +8,20 @@ use Rattle.model_tree.specs.Trees.Tree.{is_directory}
 use Rattle.fs.specs.Views.{fs_of}
 use Rattle.fs.proofs.CachedNodeViews.{granted_by, names_are}
 use Rattle.fs.proofs.OpenTests as tests
-use Rattle.volume.proofs.ServeLaws.{told_err}
+use Rattle.volume.proofs.ServeLaws.{is_err_of}
 use Rattle.fs.proofs.fs.Fs.permit_place.Goals as goal
 
 pub returns-in_err-check_share-clause-directory : goal.returns-in_err-check_share-clause-directory
-returns-in_err-check_share-clause-directory g c = rw (told_err c.from_residual.result c.in_err-check_share.field-0.0 c.from_residual.ensures.1) (tt)
+returns-in_err-check_share-clause-directory g c = rw (is_err_of c.from_residual.result c.in_err-check_share.field-0.0 c.from_residual.ensures.1) (tt)
 
 pub returns-in_err-check_share-clause-name : goal.returns-in_err-check_share-clause-name
-returns-in_err-check_share-clause-name g c = rw (told_err c.from_residual.result c.in_err-check_share.field-0.0 c.from_residual.ensures.1) (tt)
+returns-in_err-check_share-clause-name g c = rw (is_err_of c.from_residual.result c.in_err-check_share.field-0.0 c.from_residual.ensures.1) (tt)
 
 pub returns-in_err-check_name-clause-directory : goal.returns-in_err-check_name-clause-directory
-returns-in_err-check_name-clause-directory g c = rw (told_err c.from_residual-in_err-check_name.result c.in_err-check_name.field-0.0 c.from_residual-in_err-check_name.ensures.1) (tt)
+returns-in_err-check_name-clause-directory g c = rw (is_err_of c.from_residual-in_err-check_name.result c.in_err-check_name.field-0.0 c.from_residual-in_err-check_name.ensures.1) (tt)
 
 pub returns-in_err-check_name-clause-name : goal.returns-in_err-check_name-clause-name
-returns-in_err-check_name-clause-name g c = rw (told_err c.from_residual-in_err-check_name.result c.in_err-check_name.field-0.0 c.from_residual-in_err-check_name.ensures.1) (tt)
+returns-in_err-check_name-clause-name g c = rw (is_err_of c.from_residual-in_err-check_name.result c.in_err-check_name.field-0.0 c.from_residual-in_err-check_name.ensures.1) (tt)
 
 pub returns-in_err-check_name-clause-tests : goal.returns-in_err-check_name-clause-tests
 unfolding fs_of

@@ -17,48 +17,48 @@ use Rattle.fs.specs.Setting.{may_set, setting_tests, sized_refusals}
 use Rattle.fs.proofs.CachedNodeViews.{is_directory_told}
 use Rattle.fs.proofs.RefusedLaws.{carried}
 use Rattle.fs.proofs.SettingTests.{kind_is, may_told, tests_are}
-use Rattle.volume.proofs.ServeLaws.{told_err}
+use Rattle.volume.proofs.ServeLaws.{is_err_of}
 use Rattle.model.specs.declared.not_done.NotDone.TheVariants as refusal
 use Rattle.fs.proofs.fs.Fs.permit_setting.Goals as goal
 
 pub returns-in_err-settings-clause-node : goal.returns-in_err-settings-clause-node
-returns-in_err-settings-clause-node g c = rw (told_err c.from_residual.result c.in_err-settings.field-0.0 c.from_residual.ensures.1) (tt)
+returns-in_err-settings-clause-node g c = rw (is_err_of c.from_residual.result c.in_err-settings.field-0.0 c.from_residual.ensures.1) (tt)
 
 pub returns-in_err-settings-clause-fit : goal.returns-in_err-settings-clause-fit
-returns-in_err-settings-clause-fit g c = rw (told_err c.from_residual.result c.in_err-settings.field-0.0 c.from_residual.ensures.1) (tt)
+returns-in_err-settings-clause-fit g c = rw (is_err_of c.from_residual.result c.in_err-settings.field-0.0 c.from_residual.ensures.1) (tt)
 
 pub returns-in_err-settings-clause-settings : goal.returns-in_err-settings-clause-settings
-returns-in_err-settings-clause-settings g c = rw (told_err c.from_residual.result c.in_err-settings.field-0.0 c.from_residual.ensures.1) (tt)
+returns-in_err-settings-clause-settings g c = rw (is_err_of c.from_residual.result c.in_err-settings.field-0.0 c.from_residual.ensures.1) (tt)
 
 pub returns-in_err-settings-clause-within : goal.returns-in_err-settings-clause-within
-returns-in_err-settings-clause-within g c = rw (told_err c.from_residual.result c.in_err-settings.field-0.0 c.from_residual.ensures.1) (tt)
+returns-in_err-settings-clause-within g c = rw (is_err_of c.from_residual.result c.in_err-settings.field-0.0 c.from_residual.ensures.1) (tt)
 
 pub returns-in_err-check_sized-clause-node : goal.returns-in_err-check_sized-clause-node
-returns-in_err-check_sized-clause-node g c = rw (told_err c.from_residual-in_err-check_sized.result (refusal.Status c.in_err-check_sized.field-0.0) c.from_residual-in_err-check_sized.ensures.1) (tt)
+returns-in_err-check_sized-clause-node g c = rw (is_err_of c.from_residual-in_err-check_sized.result (refusal.Status c.in_err-check_sized.field-0.0) c.from_residual-in_err-check_sized.ensures.1) (tt)
 
 pub returns-in_err-check_sized-clause-fit : goal.returns-in_err-check_sized-clause-fit
-returns-in_err-check_sized-clause-fit g c = rw (told_err c.from_residual-in_err-check_sized.result (refusal.Status c.in_err-check_sized.field-0.0) c.from_residual-in_err-check_sized.ensures.1) (tt)
+returns-in_err-check_sized-clause-fit g c = rw (is_err_of c.from_residual-in_err-check_sized.result (refusal.Status c.in_err-check_sized.field-0.0) c.from_residual-in_err-check_sized.ensures.1) (tt)
 
 pub returns-in_err-check_sized-clause-settings : goal.returns-in_err-check_sized-clause-settings
-returns-in_err-check_sized-clause-settings g c = rw (told_err c.from_residual-in_err-check_sized.result (refusal.Status c.in_err-check_sized.field-0.0) c.from_residual-in_err-check_sized.ensures.1) (tt)
+returns-in_err-check_sized-clause-settings g c = rw (is_err_of c.from_residual-in_err-check_sized.result (refusal.Status c.in_err-check_sized.field-0.0) c.from_residual-in_err-check_sized.ensures.1) (tt)
 
 pub returns-in_err-check_sized-clause-within : goal.returns-in_err-check_sized-clause-within
-returns-in_err-check_sized-clause-within g c = rw (told_err c.from_residual-in_err-check_sized.result (refusal.Status c.in_err-check_sized.field-0.0) c.from_residual-in_err-check_sized.ensures.1) (tt)
+returns-in_err-check_sized-clause-within g c = rw (is_err_of c.from_residual-in_err-check_sized.result (refusal.Status c.in_err-check_sized.field-0.0) c.from_residual-in_err-check_sized.ensures.1) (tt)
 
 pub returns-in_err-attributes-clause-tests : goal.returns-in_err-attributes-clause-tests
-returns-in_err-attributes-clause-tests g c = rw (told_err c.from_residual-in_err-attributes.result refusal.Memory c.from_residual-in_err-attributes.ensures.1) (tt)
+returns-in_err-attributes-clause-tests g c = rw (is_err_of c.from_residual-in_err-attributes.result refusal.Memory c.from_residual-in_err-attributes.ensures.1) (tt)
 
 pub returns-in_err-attributes-clause-node : goal.returns-in_err-attributes-clause-node
-returns-in_err-attributes-clause-node g c = rw (told_err c.from_residual-in_err-attributes.result refusal.Memory c.from_residual-in_err-attributes.ensures.1) (tt)
+returns-in_err-attributes-clause-node g c = rw (is_err_of c.from_residual-in_err-attributes.result refusal.Memory c.from_residual-in_err-attributes.ensures.1) (tt)
 
 pub returns-in_err-attributes-clause-fit : goal.returns-in_err-attributes-clause-fit
-returns-in_err-attributes-clause-fit g c = rw (told_err c.from_residual-in_err-attributes.result refusal.Memory c.from_residual-in_err-attributes.ensures.1) (tt)
+returns-in_err-attributes-clause-fit g c = rw (is_err_of c.from_residual-in_err-attributes.result refusal.Memory c.from_residual-in_err-attributes.ensures.1) (tt)
 
 pub returns-in_err-attributes-clause-settings : goal.returns-in_err-attributes-clause-settings
-returns-in_err-attributes-clause-settings g c = rw (told_err c.from_residual-in_err-attributes.result refusal.Memory c.from_residual-in_err-attributes.ensures.1) (tt)
+returns-in_err-attributes-clause-settings g c = rw (is_err_of c.from_residual-in_err-attributes.result refusal.Memory c.from_residual-in_err-attributes.ensures.1) (tt)
 
 pub returns-in_err-attributes-clause-within : goal.returns-in_err-attributes-clause-within
-returns-in_err-attributes-clause-within g c = rw (told_err c.from_residual-in_err-attributes.result refusal.Memory c.from_residual-in_err-attributes.ensures.1) (tt)
+returns-in_err-attributes-clause-within g c = rw (is_err_of c.from_residual-in_err-attributes.result refusal.Memory c.from_residual-in_err-attributes.ensures.1) (tt)
 
 pub returns-in_err-settings-clause-tests : goal.returns-in_err-settings-clause-tests
 unfolding fs_of
@@ -98,15 +98,15 @@ returns-then-not-may_set-clause-tests g c =
     let asked = c.args.asked in
     let given = given_of asked.attributes in
     let node = c.in-Some.ensures.some in
-    let card = c.in-Some.cached.now in
-    let kind_same : c.cached.inside.inode.kind ≡ kind_at held.tree asked.number = ap (λ (it : CachedNode). it.fields.kind) c.cached.view_is ∙ kind_is held.tree asked.number card node in
+    let cached_node = c.in-Some.cached.now in
+    let kind_same : c.cached.inside.inode.kind ≡ kind_at held.tree asked.number = ap (λ (it : CachedNode). it.fields.kind) c.cached.view_is ∙ kind_is held.tree asked.number cached_node node in
     let sized : c.is_some.result ≡ sets_size given = c.is_some.ensures ∙ ap (λ (o : Option ℕ). is_some o) c.in_ok-settings.ensures.settings.size in
     let directory : c.is_directory.result ≡ is_directory_at held.tree asked.number =
-    is_directory_told held.tree asked.number card node c.is_directory.result c.is_directory.ensures.0 c.is_directory.ensures.1 in
+    is_directory_told held.tree asked.number cached_node node c.is_directory.result c.is_directory.ensures.0 c.is_directory.ensures.1 in
     let numbers : c.deref.result.now ≡ attributes_of asked.attributes.bitmap.now = c.deref.ensures.value ∙ c.in_ok-attributes.ensures in
     let may : may_set (granted_on (at asked.number held.tree) c.args.cred.now) (attributes_of asked.attributes.bitmap.now) ≡ c.may_set.result =
-    may_told held.tree asked.number card node c.args.cred.now (attributes_of asked.attributes.bitmap.now)
-    ∙ ap (λ (l : List ℕ). may_set (granted card.fields.acl card.fields.owner card.fields.group c.args.cred.now) l) (sym numbers) ∙ sym c.may_set.ensures in
+    may_told held.tree asked.number cached_node node c.args.cred.now (attributes_of asked.attributes.bitmap.now)
+    ∙ ap (λ (l : List ℕ). may_set (granted cached_node.fields.acl cached_node.fields.owner cached_node.fields.group c.args.cred.now) l) (sym numbers) ∙ sym c.may_set.ensures in
     tests_are held.limits held.tree c.args.cred.now asked.number asked.verdict given false None None true (ap (λ (o : Option Node). not (is_some o)) node.there)
     (ap₂ (λ (l : Limits) (of : NodeKind). first_refusal (attribute_refusals l of settable_at_setattr given)) (sym c.limits.ensures.limits) (sym kind_same) ∙ c.in_ok-settings.ensures.tests)
     (ap₂ (λ (b d : Bool). first_refusal (sized_refusals b d asked.verdict)) (sym sized) (sym directory) ∙ c.in_ok-check_sized.ensures)
@@ -119,15 +119,15 @@ returns-clause-tests g c =
     let asked = c.args.asked in
     let given = given_of asked.attributes in
     let node = c.in-Some.ensures.some in
-    let card = c.in-Some.cached.now in
-    let kind_same : c.cached.inside.inode.kind ≡ kind_at held.tree asked.number = ap (λ (it : CachedNode). it.fields.kind) c.cached.view_is ∙ kind_is held.tree asked.number card node in
+    let cached_node = c.in-Some.cached.now in
+    let kind_same : c.cached.inside.inode.kind ≡ kind_at held.tree asked.number = ap (λ (it : CachedNode). it.fields.kind) c.cached.view_is ∙ kind_is held.tree asked.number cached_node node in
     let sized : c.is_some.result ≡ sets_size given = c.is_some.ensures ∙ ap (λ (o : Option ℕ). is_some o) c.in_ok-settings.ensures.settings.size in
     let directory : c.is_directory.result ≡ is_directory_at held.tree asked.number =
-    is_directory_told held.tree asked.number card node c.is_directory.result c.is_directory.ensures.0 c.is_directory.ensures.1 in
+    is_directory_told held.tree asked.number cached_node node c.is_directory.result c.is_directory.ensures.0 c.is_directory.ensures.1 in
     let numbers : c.deref.result.now ≡ attributes_of asked.attributes.bitmap.now = c.deref.ensures.value ∙ c.in_ok-attributes.ensures in
     let may : may_set (granted_on (at asked.number held.tree) c.args.cred.now) (attributes_of asked.attributes.bitmap.now) ≡ c.may_set.result =
-    may_told held.tree asked.number card node c.args.cred.now (attributes_of asked.attributes.bitmap.now)
-    ∙ ap (λ (l : List ℕ). may_set (granted card.fields.acl card.fields.owner card.fields.group c.args.cred.now) l) (sym numbers) ∙ sym c.may_set.ensures in
+    may_told held.tree asked.number cached_node node c.args.cred.now (attributes_of asked.attributes.bitmap.now)
+    ∙ ap (λ (l : List ℕ). may_set (granted cached_node.fields.acl cached_node.fields.owner cached_node.fields.group c.args.cred.now) l) (sym numbers) ∙ sym c.may_set.ensures in
     tests_are held.limits held.tree c.args.cred.now asked.number asked.verdict given false None None false (ap (λ (o : Option Node). not (is_some o)) node.there)
     (ap₂ (λ (l : Limits) (of : NodeKind). first_refusal (attribute_refusals l of settable_at_setattr given)) (sym c.limits.ensures.limits) (sym kind_same) ∙ c.in_ok-settings.ensures.tests)
     (ap₂ (λ (b d : Bool). first_refusal (sized_refusals b d asked.verdict)) (sym sized) (sym directory) ∙ c.in_ok-check_sized.ensures)

@@ -13,33 +13,33 @@ use Rattle.fs.specs.Opening.{after_open, file_tests, tree_cut, type_of}
 use Rattle.fs.specs.Operations.{IsNotDone}
 use Rattle.fs.specs.Refusals.{fault_of}
 use Rattle.fs.proofs.NamedOpens as laws
-use Rattle.fs.proofs.RemovalPlans.{change_shown}
-use Rattle.volume.proofs.ServeLaws.{told_err}
+use Rattle.fs.proofs.RemovalPlans.{change_metadata}
+use Rattle.volume.proofs.ServeLaws.{is_err_of}
 use Rattle.fs.proofs.fs.Fs.plan_known.Goals as goal
 
 pub returns-in_err-cached-clause-planned : goal.returns-in_err-cached-clause-planned
-returns-in_err-cached-clause-planned g c = rw (told_err c.from_residual.result c.in_err-cached.field-0.0 c.from_residual.ensures.1) (tt)
+returns-in_err-cached-clause-planned g c = rw (is_err_of c.from_residual.result c.in_err-cached.field-0.0 c.from_residual.ensures.1) (tt)
 
 pub returns-in_err-cached-clause-step : goal.returns-in_err-cached-clause-step
-returns-in_err-cached-clause-step g c = rw (told_err c.from_residual.result c.in_err-cached.field-0.0 c.from_residual.ensures.1) (λ state arguments placed. tt)
+returns-in_err-cached-clause-step g c = rw (is_err_of c.from_residual.result c.in_err-cached.field-0.0 c.from_residual.ensures.1) (λ state arguments placed. tt)
 
 pub returns-in_err-cached-clause-opened : goal.returns-in_err-cached-clause-opened
-returns-in_err-cached-clause-opened g c = rw (told_err c.from_residual.result c.in_err-cached.field-0.0 c.from_residual.ensures.1) (tt)
+returns-in_err-cached-clause-opened g c = rw (is_err_of c.from_residual.result c.in_err-cached.field-0.0 c.from_residual.ensures.1) (tt)
 
 pub returns-in_err-cached-clause-full : goal.returns-in_err-cached-clause-full
-returns-in_err-cached-clause-full g c = rw (told_err c.from_residual.result c.in_err-cached.field-0.0 c.from_residual.ensures.1) (tt)
+returns-in_err-cached-clause-full g c = rw (is_err_of c.from_residual.result c.in_err-cached.field-0.0 c.from_residual.ensures.1) (tt)
 
 pub returns-in_err-edits-clause-planned : goal.returns-in_err-edits-clause-planned
-returns-in_err-edits-clause-planned g c = rw (told_err c.from_residual-in_err-edits.result c.in_err-edits.field-0.0 c.from_residual-in_err-edits.ensures.1) (tt)
+returns-in_err-edits-clause-planned g c = rw (is_err_of c.from_residual-in_err-edits.result c.in_err-edits.field-0.0 c.from_residual-in_err-edits.ensures.1) (tt)
 
 pub returns-in_err-edits-clause-step : goal.returns-in_err-edits-clause-step
-returns-in_err-edits-clause-step g c = rw (told_err c.from_residual-in_err-edits.result c.in_err-edits.field-0.0 c.from_residual-in_err-edits.ensures.1) (λ state arguments placed. tt)
+returns-in_err-edits-clause-step g c = rw (is_err_of c.from_residual-in_err-edits.result c.in_err-edits.field-0.0 c.from_residual-in_err-edits.ensures.1) (λ state arguments placed. tt)
 
 pub returns-in_err-edits-clause-opened : goal.returns-in_err-edits-clause-opened
-returns-in_err-edits-clause-opened g c = rw (told_err c.from_residual-in_err-edits.result c.in_err-edits.field-0.0 c.from_residual-in_err-edits.ensures.1) (tt)
+returns-in_err-edits-clause-opened g c = rw (is_err_of c.from_residual-in_err-edits.result c.in_err-edits.field-0.0 c.from_residual-in_err-edits.ensures.1) (tt)
 
 pub returns-in_err-edits-clause-full : goal.returns-in_err-edits-clause-full
-returns-in_err-edits-clause-full g c = rw (told_err c.from_residual-in_err-edits.result c.in_err-edits.field-0.0 c.from_residual-in_err-edits.ensures.1) (tt)
+returns-in_err-edits-clause-full g c = rw (is_err_of c.from_residual-in_err-edits.result c.in_err-edits.field-0.0 c.from_residual-in_err-edits.ensures.1) (tt)
 
 pub returns-in_err-cached-clause-refused : goal.returns-in_err-cached-clause-refused
 returns-in_err-cached-clause-refused g c state arguments placed =
@@ -61,7 +61,7 @@ pub returns-then-not-is_cut-clause-step : goal.returns-then-not-is_cut-clause-st
 returns-then-not-is_cut-clause-step g c state arguments placed =
     let fs = fs_of c.args.self.now in
     let directory = c.requires.directory.node in
-    let before = change_shown fs.volume.tree c.args.asked.directory c.args.directory.now directory ∙ sym (ap (λ (it : CachedNode). it.fields.change) c.directory.view_is) in
+    let before = change_metadata fs.volume.tree c.args.asked.directory c.args.directory.now directory ∙ sym (ap (λ (it : CachedNode). it.fields.change) c.directory.view_is) in
     let uncut = sym c.in_ok-cached.ensures.cut ∙ c.if-not-is_cut.true in
     record {
       quiet = laws.quiet fs c.args.cred.now c.args.now c.args.asked c.args.is_full state arguments placed.on placed.opening placed.passed
@@ -80,7 +80,7 @@ returns-in_err-edits-clause-refused g c state arguments placed =
     by_reason (refusal.Status reason) bad =
         let fs = fs_of c.args.self.now in
         let directory = c.requires.directory.node in
-        let before = change_shown fs.volume.tree c.args.asked.directory c.args.directory.now directory ∙ sym (ap (λ (it : CachedNode). it.fields.change) c.directory.view_is) in
+        let before = change_metadata fs.volume.tree c.args.asked.directory c.args.directory.now directory ∙ sym (ap (λ (it : CachedNode). it.fields.change) c.directory.view_is) in
         laws.no_cut fs c.args.cred.now c.args.now c.args.asked c.args.is_full state arguments placed.on placed.opening placed.passed
         (c.in_ok-cached.ensures.tests state placed.on.is_state) c.if-is_full.false c.args.number c.requires.leads c.directory.inside.inode.change before
         (sym c.in_ok-cached.ensures.cut ∙ c.if-not-is_cut.false) reason bad
@@ -90,7 +90,7 @@ pub returns-clause-step : goal.returns-clause-step
 returns-clause-step g c state arguments placed =
     let fs = fs_of c.args.self.now in
     let directory = c.requires.directory.node in
-    let before = change_shown fs.volume.tree c.args.asked.directory c.args.directory.now directory ∙ sym (ap (λ (it : CachedNode). it.fields.change) c.directory.view_is) in
+    let before = change_metadata fs.volume.tree c.args.asked.directory c.args.directory.now directory ∙ sym (ap (λ (it : CachedNode). it.fields.change) c.directory.view_is) in
     laws.is_cut fs c.args.cred.now c.args.now c.args.asked c.args.is_full state arguments placed.on placed.opening placed.passed
     (c.in_ok-cached.ensures.tests state placed.on.is_state) c.if-is_full.false c.args.number c.requires.leads c.directory.inside.inode.change before
     (sym c.in_ok-cached.ensures.cut ∙ c.if-not-is_cut.false) c.in_ok-edits.ensures.tests

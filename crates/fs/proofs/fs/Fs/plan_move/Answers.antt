@@ -14,21 +14,21 @@ use Rattle.fs.proofs.RoomTests.{passed_room}
 use Rattle.volume.specs.Edits.{edited_by}
 use Rattle.volume.specs.Views.{volume_state}
 use Rattle.model.specs.declared.not_done.NotDone.TheVariants as refusal
-use Rattle.volume.proofs.ServeLaws.{told_err}
+use Rattle.volume.proofs.ServeLaws.{is_err_of}
 use Rattle.fs.proofs.fs.Fs.plan_move.Goals as goal
 
 pub returns-in_err-permit_rename-clause-planned : goal.returns-in_err-permit_rename-clause-planned
-returns-in_err-permit_rename-clause-planned g c = rw (told_err c.from_residual.result (refusal.Status c.in_err-permit_rename.field-0.0) c.from_residual.ensures.1) (tt)
+returns-in_err-permit_rename-clause-planned g c = rw (is_err_of c.from_residual.result (refusal.Status c.in_err-permit_rename.field-0.0) c.from_residual.ensures.1) (tt)
 
 pub returns-in_err-permit_rename-clause-replaced : goal.returns-in_err-permit_rename-clause-replaced
-returns-in_err-permit_rename-clause-replaced g c = rw (told_err c.from_residual.result (refusal.Status c.in_err-permit_rename.field-0.0) c.from_residual.ensures.1) (tt)
+returns-in_err-permit_rename-clause-replaced g c = rw (is_err_of c.from_residual.result (refusal.Status c.in_err-permit_rename.field-0.0) c.from_residual.ensures.1) (tt)
 
 pub returns-in_err-permit_rename-clause-step : goal.returns-in_err-permit_rename-clause-step
-returns-in_err-permit_rename-clause-step g c = rw (told_err c.from_residual.result (refusal.Status c.in_err-permit_rename.field-0.0) c.from_residual.ensures.1) (λ state on. tt)
+returns-in_err-permit_rename-clause-step g c = rw (is_err_of c.from_residual.result (refusal.Status c.in_err-permit_rename.field-0.0) c.from_residual.ensures.1) (λ state on. tt)
 
-pub returns-in_err-from_shown : goal.returns-in_err-from_shown
-returns-in_err-from_shown g c =
-    let told = told_err c.from_residual-in_err-from_shown.result refusal.Memory c.from_residual-in_err-from_shown.ensures.1 in
+pub returns-in_err-from_metadata : goal.returns-in_err-from_metadata
+returns-in_err-from_metadata g c =
+    let told = is_err_of c.from_residual-in_err-from_metadata.result refusal.Memory c.from_residual-in_err-from_metadata.ensures.1 in
     rw told (record {
       planned = tt;
       replaced = tt;
@@ -36,9 +36,9 @@ returns-in_err-from_shown g c =
       refused = λ state on. tt;
     })
 
-pub returns-in_err-to_shown : goal.returns-in_err-to_shown
-returns-in_err-to_shown g c =
-    let told = told_err c.from_residual-in_err-to_shown.result refusal.Memory c.from_residual-in_err-to_shown.ensures.1 in
+pub returns-in_err-to_metadata : goal.returns-in_err-to_metadata
+returns-in_err-to_metadata g c =
+    let told = is_err_of c.from_residual-in_err-to_metadata.result refusal.Memory c.from_residual-in_err-to_metadata.ensures.1 in
     rw told (record {
       planned = tt;
       replaced = tt;
@@ -48,7 +48,7 @@ returns-in_err-to_shown g c =
 
 pub returns-in_err-edits : goal.returns-in_err-edits
 returns-in_err-edits g c =
-    let told = told_err c.from_residual-in_err-edits.result refusal.Memory c.from_residual-in_err-edits.ensures.1 in
+    let told = is_err_of c.from_residual-in_err-edits.result refusal.Memory c.from_residual-in_err-edits.ensures.1 in
     rw told (record {
       planned = tt;
       replaced = tt;
@@ -73,16 +73,16 @@ stamp_for-requires g c =
     subst (AreMeasurable fs.volume.tree) (sym c.deref.ensures.value)
     (plans.measured_edits fs (c.args.self.now.ready c.requires.up) c.args.self.now.counted c.args.self.now.volume.limited c.args.cred.now c.args.now c.args.asked c.args.moving c.get-target.result
     c.requires.moved c.requires.passed c.in_ok-permit_rename.ensures c.requires.other c.to.inside.names (ap (λ (it : CachedNode). it.names) c.to.view_is) c.get-target.ensures.by_stamp
-    c.unwrap_or-stamp.result c.in_ok-from_shown.from_shown c.in_ok-to_shown.to_shown c.in_ok-from_shown.ensures c.in_ok-to_shown.ensures c.in_ok-edits.edits.items c.in_ok-edits.ensures stamp_in)
+    c.unwrap_or-stamp.result c.in_ok-from_metadata.from_metadata c.in_ok-to_metadata.to_metadata c.in_ok-from_metadata.ensures c.in_ok-to_metadata.ensures c.in_ok-edits.edits.items c.in_ok-edits.ensures stamp_in)
 
 pub returns-in_err-stamp_for-clause-planned : goal.returns-in_err-stamp_for-clause-planned
-returns-in_err-stamp_for-clause-planned g c = rw (told_err c.from_residual-in_err-stamp_for.result (refusal.Status c.in_err-stamp_for.field-0.0) c.from_residual-in_err-stamp_for.ensures.1) (tt)
+returns-in_err-stamp_for-clause-planned g c = rw (is_err_of c.from_residual-in_err-stamp_for.result (refusal.Status c.in_err-stamp_for.field-0.0) c.from_residual-in_err-stamp_for.ensures.1) (tt)
 
 pub returns-in_err-stamp_for-clause-replaced : goal.returns-in_err-stamp_for-clause-replaced
-returns-in_err-stamp_for-clause-replaced g c = rw (told_err c.from_residual-in_err-stamp_for.result (refusal.Status c.in_err-stamp_for.field-0.0) c.from_residual-in_err-stamp_for.ensures.1) (tt)
+returns-in_err-stamp_for-clause-replaced g c = rw (is_err_of c.from_residual-in_err-stamp_for.result (refusal.Status c.in_err-stamp_for.field-0.0) c.from_residual-in_err-stamp_for.ensures.1) (tt)
 
 pub returns-in_err-stamp_for-clause-step : goal.returns-in_err-stamp_for-clause-step
-returns-in_err-stamp_for-clause-step g c = rw (told_err c.from_residual-in_err-stamp_for.result (refusal.Status c.in_err-stamp_for.field-0.0) c.from_residual-in_err-stamp_for.ensures.1) (λ state on. tt)
+returns-in_err-stamp_for-clause-step g c = rw (is_err_of c.from_residual-in_err-stamp_for.result (refusal.Status c.in_err-stamp_for.field-0.0) c.from_residual-in_err-stamp_for.ensures.1) (λ state on. tt)
 
 pub returns-in_err-stamp_for-clause-refused : goal.returns-in_err-stamp_for-clause-refused
 unfolding fs_of volume_state
@@ -93,10 +93,10 @@ returns-in_err-stamp_for-clause-refused g c state on =
     let p = err_from_is_err_and c.from_residual-in_err-stamp_for.result c.from_residual-in_err-stamp_for.ensures.1 in
     let same = plans.room_asked fs (c.args.self.now.ready c.requires.up) c.args.self.now.counted c.args.self.now.volume.limited c.args.cred.now c.args.now c.args.asked c.args.moving c.get-target.result
     c.requires.moved c.requires.passed c.in_ok-permit_rename.ensures c.requires.other c.to.inside.names (ap (λ (it : CachedNode). it.names) c.to.view_is) c.get-target.ensures.by_stamp
-    c.unwrap_or-stamp.result c.in_ok-from_shown.from_shown c.in_ok-to_shown.to_shown c.in_ok-from_shown.ensures c.in_ok-to_shown.ensures c.in_ok-edits.edits.items c.in_ok-edits.ensures stamp_in in
+    c.unwrap_or-stamp.result c.in_ok-from_metadata.from_metadata c.in_ok-to_metadata.to_metadata c.in_ok-from_metadata.ensures c.in_ok-to_metadata.ensures c.in_ok-edits.edits.items c.in_ok-edits.ensures stamp_in in
     rw (p.1, p.2) (plans.late fs (c.args.self.now.ready c.requires.up) c.args.self.now.counted c.args.self.now.volume.limited c.args.cred.now c.args.now c.args.asked c.args.moving c.get-target.result
     c.requires.moved c.requires.passed c.in_ok-permit_rename.ensures c.requires.other c.to.inside.names (ap (λ (it : CachedNode). it.names) c.to.view_is) c.get-target.ensures.by_stamp
-    c.unwrap_or-stamp.result c.in_ok-from_shown.from_shown c.in_ok-to_shown.to_shown c.in_ok-from_shown.ensures c.in_ok-to_shown.ensures c.in_ok-edits.edits.items c.in_ok-edits.ensures
+    c.unwrap_or-stamp.result c.in_ok-from_metadata.from_metadata c.in_ok-to_metadata.to_metadata c.in_ok-from_metadata.ensures c.in_ok-to_metadata.ensures c.in_ok-edits.edits.items c.in_ok-edits.ensures
     c.in_err-stamp_for.field-0.0 (c.in_err-stamp_for.ensures.tests _ (same ∙ ap (λ (l : List Edit). fits fs.volume.limits (edited_by fs.volume l)) (sym c.deref.ensures.value))) state on)
 
 pub returns-clause-planned : goal.returns-clause-planned
@@ -107,10 +107,10 @@ returns-clause-planned g c =
     let stamp_in = subst (λ (s : ℕ). (s ≡ next_stamp fs.volume.run fs.changes) ⊎ (s ≡ 0)) (sym is) (plans.stamp_of fs c.stamp_left.result c.stamp_left.ensures) in
     let same = plans.room_asked fs (c.args.self.now.ready c.requires.up) c.args.self.now.counted c.args.self.now.volume.limited c.args.cred.now c.args.now c.args.asked c.args.moving c.get-target.result
     c.requires.moved c.requires.passed c.in_ok-permit_rename.ensures c.requires.other c.to.inside.names (ap (λ (it : CachedNode). it.names) c.to.view_is) c.get-target.ensures.by_stamp
-    c.unwrap_or-stamp.result c.in_ok-from_shown.from_shown c.in_ok-to_shown.to_shown c.in_ok-from_shown.ensures c.in_ok-to_shown.ensures c.in_ok-edits.edits.items c.in_ok-edits.ensures stamp_in in
+    c.unwrap_or-stamp.result c.in_ok-from_metadata.from_metadata c.in_ok-to_metadata.to_metadata c.in_ok-from_metadata.ensures c.in_ok-to_metadata.ensures c.in_ok-edits.edits.items c.in_ok-edits.ensures stamp_in in
     plans.planned_where fs (c.args.self.now.ready c.requires.up) c.args.self.now.counted c.args.self.now.volume.limited c.args.cred.now c.args.now c.args.asked c.args.moving c.get-target.result
     c.requires.moved c.requires.passed c.in_ok-permit_rename.ensures c.requires.other c.to.inside.names (ap (λ (it : CachedNode). it.names) c.to.view_is) c.get-target.ensures.by_stamp
-    c.unwrap_or-stamp.result c.in_ok-from_shown.from_shown c.in_ok-to_shown.to_shown c.in_ok-from_shown.ensures c.in_ok-to_shown.ensures c.in_ok-edits.edits.items c.in_ok-edits.ensures
+    c.unwrap_or-stamp.result c.in_ok-from_metadata.from_metadata c.in_ok-to_metadata.to_metadata c.in_ok-from_metadata.ensures c.in_ok-to_metadata.ensures c.in_ok-edits.edits.items c.in_ok-edits.ensures
     (is ∙ plans.own_stamp fs c.stamp_left.result c.stamp_left.ensures c.in_ok-stamp_for.ensures.left)
     (passed_room fs _ (c.in_ok-stamp_for.ensures.tests _ (same ∙ ap (λ (l : List Edit). fits fs.volume.limits (edited_by fs.volume l)) (sym c.deref.ensures.value))))
 
@@ -122,10 +122,10 @@ returns-clause-step g c state on =
     let stamp_in = subst (λ (s : ℕ). (s ≡ next_stamp fs.volume.run fs.changes) ⊎ (s ≡ 0)) (sym is) (plans.stamp_of fs c.stamp_left.result c.stamp_left.ensures) in
     let same = plans.room_asked fs (c.args.self.now.ready c.requires.up) c.args.self.now.counted c.args.self.now.volume.limited c.args.cred.now c.args.now c.args.asked c.args.moving c.get-target.result
     c.requires.moved c.requires.passed c.in_ok-permit_rename.ensures c.requires.other c.to.inside.names (ap (λ (it : CachedNode). it.names) c.to.view_is) c.get-target.ensures.by_stamp
-    c.unwrap_or-stamp.result c.in_ok-from_shown.from_shown c.in_ok-to_shown.to_shown c.in_ok-from_shown.ensures c.in_ok-to_shown.ensures c.in_ok-edits.edits.items c.in_ok-edits.ensures stamp_in in
+    c.unwrap_or-stamp.result c.in_ok-from_metadata.from_metadata c.in_ok-to_metadata.to_metadata c.in_ok-from_metadata.ensures c.in_ok-to_metadata.ensures c.in_ok-edits.edits.items c.in_ok-edits.ensures stamp_in in
     plans.goes_on fs (c.args.self.now.ready c.requires.up) c.args.self.now.counted c.args.self.now.volume.limited c.args.cred.now c.args.now c.args.asked c.args.moving c.get-target.result
     c.requires.moved c.requires.passed c.in_ok-permit_rename.ensures c.requires.other c.to.inside.names (ap (λ (it : CachedNode). it.names) c.to.view_is) c.get-target.ensures.by_stamp
-    c.unwrap_or-stamp.result c.in_ok-from_shown.from_shown c.in_ok-to_shown.to_shown c.in_ok-from_shown.ensures c.in_ok-to_shown.ensures c.in_ok-edits.edits.items c.in_ok-edits.ensures
+    c.unwrap_or-stamp.result c.in_ok-from_metadata.from_metadata c.in_ok-to_metadata.to_metadata c.in_ok-from_metadata.ensures c.in_ok-to_metadata.ensures c.in_ok-edits.edits.items c.in_ok-edits.ensures
     (is ∙ plans.own_stamp fs c.stamp_left.result c.stamp_left.ensures c.in_ok-stamp_for.ensures.left)
     (passed_room fs _ (c.in_ok-stamp_for.ensures.tests _ (same ∙ ap (λ (l : List Edit). fits fs.volume.limits (edited_by fs.volume l)) (sym c.deref.ensures.value))))
     state on c.from.inside.inode.change c.to.inside.inode.change (ap (λ (it : CachedNode). it.fields.change) c.from.view_is) (ap (λ (it : CachedNode). it.fields.change) c.to.view_is)

@@ -7,21 +7,21 @@ use Rattle.model_tree.specs.Trees.Tree.{number_of_entry, entry_of, names_at}
 use Rattle.fs.specs.Views.{fs_of}
 use Rattle.fs.proofs.CachedNodeViews.{entry_at}
 use Rattle.fs.proofs.NamedOpens as laws
-use Rattle.volume.proofs.ServeLaws.{told_err}
+use Rattle.volume.proofs.ServeLaws.{is_err_of}
 use Rattle.model.specs.declared.not_done.NotDone.TheVariants as refusal
 use Rattle.fs.proofs.fs.Fs.plan_open.Goals as goal
 
 pub returns-in_err-directory-clause-planned : goal.returns-in_err-directory-clause-planned
-returns-in_err-directory-clause-planned g c = rw (told_err c.from_residual.result (refusal.Status c.in_err-directory.field-0.0) c.from_residual.ensures.1) (tt)
+returns-in_err-directory-clause-planned g c = rw (is_err_of c.from_residual.result (refusal.Status c.in_err-directory.field-0.0) c.from_residual.ensures.1) (tt)
 
 pub returns-in_err-directory-clause-step : goal.returns-in_err-directory-clause-step
-returns-in_err-directory-clause-step g c = rw (told_err c.from_residual.result (refusal.Status c.in_err-directory.field-0.0) c.from_residual.ensures.1) (λ state arguments on is. tt)
+returns-in_err-directory-clause-step g c = rw (is_err_of c.from_residual.result (refusal.Status c.in_err-directory.field-0.0) c.from_residual.ensures.1) (λ state arguments on is. tt)
 
 pub returns-in_err-directory-clause-opened : goal.returns-in_err-directory-clause-opened
-returns-in_err-directory-clause-opened g c = rw (told_err c.from_residual.result (refusal.Status c.in_err-directory.field-0.0) c.from_residual.ensures.1) (tt)
+returns-in_err-directory-clause-opened g c = rw (is_err_of c.from_residual.result (refusal.Status c.in_err-directory.field-0.0) c.from_residual.ensures.1) (tt)
 
 pub returns-in_err-directory-clause-full : goal.returns-in_err-directory-clause-full
-returns-in_err-directory-clause-full g c = rw (told_err c.from_residual.result (refusal.Status c.in_err-directory.field-0.0) c.from_residual.ensures.1) (tt)
+returns-in_err-directory-clause-full g c = rw (is_err_of c.from_residual.result (refusal.Status c.in_err-directory.field-0.0) c.from_residual.ensures.1) (tt)
 
 pub returns-in_err-directory-clause-refused : goal.returns-in_err-directory-clause-refused
 returns-in_err-directory-clause-refused g c state arguments on is =

@@ -7,42 +7,42 @@ use Rattle.fs.specs.Views.{fs_of}
 use Rattle.fs.proofs.RemovalPlans as plans
 use Rattle.fs.proofs.RemovedLaws as laws
 use Rattle.volume.specs.Views.{volume_state}
-use Rattle.volume.proofs.ServeLaws.{told_err}
+use Rattle.volume.proofs.ServeLaws.{is_err_of}
 use Rattle.model.specs.declared.not_done.NotDone.TheVariants as refusal
 use Rattle.fs.proofs.fs.Fs.plan_removal.Goals as goal
 
 pub returns-in_err-removal-clause-planned : goal.returns-in_err-removal-clause-planned
-returns-in_err-removal-clause-planned g c = rw (told_err c.from_residual.result (refusal.Status c.in_err-removal.field-0.0) c.from_residual.ensures.1) (tt)
+returns-in_err-removal-clause-planned g c = rw (is_err_of c.from_residual.result (refusal.Status c.in_err-removal.field-0.0) c.from_residual.ensures.1) (tt)
 
 pub returns-in_err-removal-clause-gone : goal.returns-in_err-removal-clause-gone
-returns-in_err-removal-clause-gone g c = rw (told_err c.from_residual.result (refusal.Status c.in_err-removal.field-0.0) c.from_residual.ensures.1) (tt)
+returns-in_err-removal-clause-gone g c = rw (is_err_of c.from_residual.result (refusal.Status c.in_err-removal.field-0.0) c.from_residual.ensures.1) (tt)
 
 pub returns-in_err-removal-clause-step : goal.returns-in_err-removal-clause-step
-returns-in_err-removal-clause-step g c = rw (told_err c.from_residual.result (refusal.Status c.in_err-removal.field-0.0) c.from_residual.ensures.1) (λ state on. tt)
+returns-in_err-removal-clause-step g c = rw (is_err_of c.from_residual.result (refusal.Status c.in_err-removal.field-0.0) c.from_residual.ensures.1) (λ state on. tt)
 
-pub returns-in_err-shown-clause-planned : goal.returns-in_err-shown-clause-planned
-returns-in_err-shown-clause-planned g c = rw (told_err c.from_residual-in_err-shown.result refusal.Memory c.from_residual-in_err-shown.ensures.1) (tt)
+pub returns-in_err-metadata-clause-planned : goal.returns-in_err-metadata-clause-planned
+returns-in_err-metadata-clause-planned g c = rw (is_err_of c.from_residual-in_err-metadata.result refusal.Memory c.from_residual-in_err-metadata.ensures.1) (tt)
 
-pub returns-in_err-shown-clause-gone : goal.returns-in_err-shown-clause-gone
-returns-in_err-shown-clause-gone g c = rw (told_err c.from_residual-in_err-shown.result refusal.Memory c.from_residual-in_err-shown.ensures.1) (tt)
+pub returns-in_err-metadata-clause-gone : goal.returns-in_err-metadata-clause-gone
+returns-in_err-metadata-clause-gone g c = rw (is_err_of c.from_residual-in_err-metadata.result refusal.Memory c.from_residual-in_err-metadata.ensures.1) (tt)
 
-pub returns-in_err-shown-clause-step : goal.returns-in_err-shown-clause-step
-returns-in_err-shown-clause-step g c = rw (told_err c.from_residual-in_err-shown.result refusal.Memory c.from_residual-in_err-shown.ensures.1) (λ state on. tt)
+pub returns-in_err-metadata-clause-step : goal.returns-in_err-metadata-clause-step
+returns-in_err-metadata-clause-step g c = rw (is_err_of c.from_residual-in_err-metadata.result refusal.Memory c.from_residual-in_err-metadata.ensures.1) (λ state on. tt)
 
-pub returns-in_err-shown-clause-refused : goal.returns-in_err-shown-clause-refused
-returns-in_err-shown-clause-refused g c = rw (told_err c.from_residual-in_err-shown.result refusal.Memory c.from_residual-in_err-shown.ensures.1) (λ state on. tt)
+pub returns-in_err-metadata-clause-refused : goal.returns-in_err-metadata-clause-refused
+returns-in_err-metadata-clause-refused g c = rw (is_err_of c.from_residual-in_err-metadata.result refusal.Memory c.from_residual-in_err-metadata.ensures.1) (λ state on. tt)
 
 pub returns-in_err-edits-clause-planned : goal.returns-in_err-edits-clause-planned
-returns-in_err-edits-clause-planned g c = rw (told_err c.from_residual-in_err-edits.result refusal.Memory c.from_residual-in_err-edits.ensures.1) (tt)
+returns-in_err-edits-clause-planned g c = rw (is_err_of c.from_residual-in_err-edits.result refusal.Memory c.from_residual-in_err-edits.ensures.1) (tt)
 
 pub returns-in_err-edits-clause-gone : goal.returns-in_err-edits-clause-gone
-returns-in_err-edits-clause-gone g c = rw (told_err c.from_residual-in_err-edits.result refusal.Memory c.from_residual-in_err-edits.ensures.1) (tt)
+returns-in_err-edits-clause-gone g c = rw (is_err_of c.from_residual-in_err-edits.result refusal.Memory c.from_residual-in_err-edits.ensures.1) (tt)
 
 pub returns-in_err-edits-clause-step : goal.returns-in_err-edits-clause-step
-returns-in_err-edits-clause-step g c = rw (told_err c.from_residual-in_err-edits.result refusal.Memory c.from_residual-in_err-edits.ensures.1) (λ state on. tt)
+returns-in_err-edits-clause-step g c = rw (is_err_of c.from_residual-in_err-edits.result refusal.Memory c.from_residual-in_err-edits.ensures.1) (λ state on. tt)
 
 pub returns-in_err-edits-clause-refused : goal.returns-in_err-edits-clause-refused
-returns-in_err-edits-clause-refused g c = rw (told_err c.from_residual-in_err-edits.result refusal.Memory c.from_residual-in_err-edits.ensures.1) (λ state on. tt)
+returns-in_err-edits-clause-refused g c = rw (is_err_of c.from_residual-in_err-edits.result refusal.Memory c.from_residual-in_err-edits.ensures.1) (λ state on. tt)
 
 pub returns-in_err-removal-clause-refused : goal.returns-in_err-removal-clause-refused
 returns-in_err-removal-clause-refused g c state on =
@@ -67,7 +67,7 @@ returns-clause-planned g c =
     plans.planned fs (c.args.self.now.ready c.requires.up) c.args.self.now.counted c.args.self.now.volume.limited c.args.cred.now c.args.now c.args.directory
     removal.directory.now c.args.name removal.stamp removal.number c.in_ok-removal.ensures.directory c.in_ok-removal.ensures.fit
     c.in_ok-removal.ensures.entry c.in_ok-removal.ensures.tests
-    c.in-Some.stamp c.in_ok-shown.shown c.in_ok-edits.edits.items c.in-Some.ensures.0 c.in_ok-shown.ensures c.in_ok-edits.ensures
+    c.in-Some.stamp c.in_ok-metadata.metadata c.in_ok-edits.edits.items c.in-Some.ensures.0 c.in_ok-metadata.ensures c.in_ok-edits.ensures
     c.in-Some.ensures.1
 
 pub returns-clause-step : goal.returns-clause-step
@@ -78,7 +78,7 @@ returns-clause-step g c state on =
     plans.goes_on fs (c.args.self.now.ready c.requires.up) c.args.self.now.counted c.args.self.now.volume.limited c.args.cred.now c.args.now c.args.directory
     removal.directory.now c.args.name removal.stamp removal.number c.in_ok-removal.ensures.directory c.in_ok-removal.ensures.fit
     c.in_ok-removal.ensures.entry c.in_ok-removal.ensures.tests
-    c.in-Some.stamp c.in_ok-shown.shown c.in_ok-edits.edits.items c.in-Some.ensures.0 c.in_ok-shown.ensures c.in_ok-edits.ensures
+    c.in-Some.stamp c.in_ok-metadata.metadata c.in_ok-edits.edits.items c.in-Some.ensures.0 c.in_ok-metadata.ensures c.in_ok-edits.ensures
     state on (lt-ltb (fs.changes + 1) (2 ^ 32) c.in-Some.ensures.1)
     c.holder.inside.inode.change (ap (λ (it : CachedNode). it.fields.change) c.holder.view_is)
 

@@ -6,12 +6,12 @@ use Rattle.fs.proofs.SettingLaws as laws
 use Rattle.fs.proofs.SettingPlans as plans
 use Rattle.volume.specs.Views.{volume_state}
 use Rattle.model.specs.declared.not_done.NotDone.TheVariants as refusal
-use Rattle.volume.proofs.ServeLaws.{told_err}
+use Rattle.volume.proofs.ServeLaws.{is_err_of}
 use Rattle.fs.proofs.fs.Fs.plan_setting.Goals as goal
 
-pub returns-in_err-shown : goal.returns-in_err-shown
-returns-in_err-shown g c =
-    let told = told_err c.from_residual-in_err-shown.result refusal.Memory c.from_residual-in_err-shown.ensures.1 in
+pub returns-in_err-metadata : goal.returns-in_err-metadata
+returns-in_err-metadata g c =
+    let told = is_err_of c.from_residual-in_err-metadata.result refusal.Memory c.from_residual-in_err-metadata.ensures.1 in
     rw told (record {
       planned = tt;
       step = λ state arguments on is. tt;
@@ -20,7 +20,7 @@ returns-in_err-shown g c =
 
 pub returns-in_err-edits : goal.returns-in_err-edits
 returns-in_err-edits g c =
-    let told = told_err c.from_residual-in_err-edits.result refusal.Memory c.from_residual-in_err-edits.ensures.1 in
+    let told = is_err_of c.from_residual-in_err-edits.result refusal.Memory c.from_residual-in_err-edits.ensures.1 in
     rw told (record {
       planned = tt;
       step = λ state arguments on is. tt;
@@ -38,10 +38,10 @@ returns-then-settings-clause-step g c state arguments on is =
     (sym c.in_ok-cached.ensures.settings.empty ∙ c.if-settings.true)
 
 pub returns-in_err-stamp-clause-planned : goal.returns-in_err-stamp-clause-planned
-returns-in_err-stamp-clause-planned g c = rw (told_err c.from_residual-in_err-stamp.result (refusal.Status c.in_err-stamp.field-0.0) c.from_residual-in_err-stamp.ensures.1) (tt)
+returns-in_err-stamp-clause-planned g c = rw (is_err_of c.from_residual-in_err-stamp.result (refusal.Status c.in_err-stamp.field-0.0) c.from_residual-in_err-stamp.ensures.1) (tt)
 
 pub returns-in_err-stamp-clause-step : goal.returns-in_err-stamp-clause-step
-returns-in_err-stamp-clause-step g c = rw (told_err c.from_residual-in_err-stamp.result (refusal.Status c.in_err-stamp.field-0.0) c.from_residual-in_err-stamp.ensures.1) (λ state arguments on is. tt)
+returns-in_err-stamp-clause-step g c = rw (is_err_of c.from_residual-in_err-stamp.result (refusal.Status c.in_err-stamp.field-0.0) c.from_residual-in_err-stamp.ensures.1) (λ state arguments on is. tt)
 
 pub returns-in_err-stamp-clause-refused : goal.returns-in_err-stamp-clause-refused
 unfolding fs_of volume_state
@@ -54,9 +54,9 @@ returns-in_err-stamp-clause-refused g c state arguments on is =
     (c.in_err-stamp.ensures.tests (laws.tree_set fs c.args.now c.args.asked node.node)
     (plans.room_asked fs (c.args.self.now.ready c.requires.up) c.args.now c.args.asked node.node c.in_ok-cached.settings c.in_ok-cached.ensures.settings)))
 
-pub shown_set-requires-clause-listed : goal.shown_set-requires-clause-listed
+pub metadata_set-requires-clause-listed : goal.metadata_set-requires-clause-listed
 unfolding fs_of volume_state
-shown_set-requires-clause-listed g c =
+metadata_set-requires-clause-listed g c =
     plans.listed (fs_of c.args.self.now) (c.args.self.now.ready c.requires.up) c.args.asked.number c.in_ok-cached.cached.now c.in_ok-cached.ensures.node
 
 pub returns-clause-planned : goal.returns-clause-planned
@@ -66,7 +66,7 @@ returns-clause-planned g c =
     let node = c.in_ok-cached.ensures.node in
     plans.planned_where fs (c.args.self.now.ready c.requires.up) c.args.self.now.counted c.args.self.now.volume.limited c.args.cred.now c.args.now c.args.asked c.in_ok-cached.cached.now
     node c.in_ok-cached.ensures.tests c.in_ok-cached.settings c.in_ok-cached.ensures.settings c.in_ok-cached.ensures.within c.if-settings.false
-    c.in_ok-stamp.stamp c.in_ok-shown.shown c.in_ok-edits.edits.items c.in_ok-stamp.ensures.stamp c.in_ok-shown.ensures.shown c.in_ok-shown.ensures.entries c.in_ok-edits.ensures
+    c.in_ok-stamp.stamp c.in_ok-metadata.metadata c.in_ok-edits.edits.items c.in_ok-stamp.ensures.stamp c.in_ok-metadata.ensures.metadata c.in_ok-metadata.ensures.entries c.in_ok-edits.ensures
     (passed_room fs (laws.tree_set fs c.args.now c.args.asked node.node) (c.in_ok-stamp.ensures.tests (laws.tree_set fs c.args.now c.args.asked node.node)
     (plans.room_asked fs (c.args.self.now.ready c.requires.up) c.args.now c.args.asked node.node c.in_ok-cached.settings c.in_ok-cached.ensures.settings)))
 
@@ -77,7 +77,7 @@ returns-clause-step g c state arguments on is =
     let node = c.in_ok-cached.ensures.node in
     plans.plan_goes_on fs (c.args.self.now.ready c.requires.up) c.args.self.now.counted c.args.self.now.volume.limited c.args.cred.now c.args.now c.args.asked c.in_ok-cached.cached.now
     node c.in_ok-cached.ensures.tests c.in_ok-cached.settings c.in_ok-cached.ensures.settings c.in_ok-cached.ensures.within c.if-settings.false
-    c.in_ok-stamp.stamp c.in_ok-shown.shown c.in_ok-edits.edits.items c.in_ok-stamp.ensures.stamp c.in_ok-shown.ensures.shown c.in_ok-shown.ensures.entries c.in_ok-edits.ensures
+    c.in_ok-stamp.stamp c.in_ok-metadata.metadata c.in_ok-edits.edits.items c.in_ok-stamp.ensures.stamp c.in_ok-metadata.ensures.metadata c.in_ok-metadata.ensures.entries c.in_ok-edits.ensures
     (passed_room fs (laws.tree_set fs c.args.now c.args.asked node.node) (c.in_ok-stamp.ensures.tests (laws.tree_set fs c.args.now c.args.asked node.node)
     (plans.room_asked fs (c.args.self.now.ready c.requires.up) c.args.now c.args.asked node.node c.in_ok-cached.settings c.in_ok-cached.ensures.settings)))
     state arguments on is

@@ -4,12 +4,12 @@ use Rattle.model.specs.Operations.Step.{answered, moved_to}
 use Rattle.fs.proofs.HandleLaws.{bad_handle, stale_handle, handle_put}
 use Rattle.fs.specs.Views.{fs_of}
 use Rattle.fs.specs.declared.fault.FsFault.TheVariants as fault
-use Rattle.volume.proofs.ServeLaws.{told_err}
+use Rattle.volume.proofs.ServeLaws.{is_err_of}
 use Rattle.fs.proofs.fs.Fs.put_handle.Goals as goal
 
 pub returns-in_err-number-clause-step : goal.returns-in_err-number-clause-step
 returns-in_err-number-clause-step g c state now same =
-    let told = told_err c.from_residual.result (fault.Status c.in_err-number.field-0.0) c.from_residual.ensures.1 in
+    let told = is_err_of c.from_residual.result (fault.Status c.in_err-number.field-0.0) c.from_residual.ensures.1 in
     rw (told, c.in_err-number.ensures.0) (bad_handle (fs_of c.args.self.now).volume.limits state now c.args.handle.now c.in_err-number.ensures.1)
 
 pub returns-then-not-has-clause-step : goal.returns-then-not-has-clause-step

@@ -7,7 +7,7 @@ use Rattle.volume.specs.Changes.{IsTree}
 use Rattle.volume.specs.Edits.{edited_by}
 use Rattle.std.proofs.Common.{refl, sym, ◌∙◌}
 use Rattle.fs.specs.Refusals.{fault_of}
-use Rattle.volume.proofs.ServeLaws.{told_err}
+use Rattle.volume.proofs.ServeLaws.{is_err_of}
 use Rattle.fs.proofs.fs.Fs.set_attributes.Goals as goal
 
 pub returns-then-is_down : goal.returns-then-is_down
@@ -20,7 +20,7 @@ returns-then-is_down g c = record {
 pub returns-in_err-planned : goal.returns-in_err-planned
 returns-in_err-planned g c =
     let refused = c.in_err-planned.field-0.0 in
-    let told = told_err c.from_residual.result (fault_of refused) c.from_residual.ensures.1 in
+    let told = is_err_of c.from_residual.result (fault_of refused) c.from_residual.ensures.1 in
     rw told (record {
       step = λ state arguments on is. c.in_err-planned.ensures.refused state arguments on is;
       volume = left_by g.D.Device.keeps_word _ (fs_of c.args.self.now) (fs_failures c.args.self.now) refused;

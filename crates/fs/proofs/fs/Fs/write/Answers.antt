@@ -9,7 +9,7 @@ use Rattle.fs.specs.declared.fault.FsFault.TheVariants as fault
 use Rattle.fs.proofs.BytesLaws.{none_bytes}
 use Rattle.fs.proofs.ChangeLaws.{changes_by, left, left_by, down_no_memory, told_memory, down_room, planned_room, full_room, done_room}
 use Rattle.fs.proofs.WrittenLaws.{early, nothing, puts_tree}
-use Rattle.volume.proofs.ServeLaws.{told_err}
+use Rattle.volume.proofs.ServeLaws.{is_err_of}
 use Rattle.fs.specs.Refusals.{fault_of}
 use Rattle.fs.proofs.fs.Fs.write.Goals as goal
 
@@ -25,7 +25,7 @@ returns-then-is_down g c = record {
 pub returns-in_err-edits : goal.returns-in_err-edits
 returns-in_err-edits g c =
     let refused = c.in_err-edits.field-0.0 in
-    let told = told_err c.from_residual-in_err-edits.result (fault_of refused) c.from_residual-in_err-edits.ensures.1 in
+    let told = is_err_of c.from_residual-in_err-edits.result (fault_of refused) c.from_residual-in_err-edits.ensures.1 in
     rw told (record {
       step = λ state arguments on is. c.in_err-edits.ensures.refused state arguments on is;
       volume = left_by g.D.Device.keeps_word _ (fs_of c.args.self.now) (fs_failures c.args.self.now) refused;
@@ -42,12 +42,12 @@ returns-then-not-has_room-clause-volume g c = left g.D.Device.keeps_word _ (fs_o
 
 pub returns-in_err-permit_file-clause-volume : goal.returns-in_err-permit_file-clause-volume
 returns-in_err-permit_file-clause-volume g c =
-    let told = told_err c.from_residual.result (fault.Status c.in_err-permit_file.field-0.0) c.from_residual.ensures.1 in
+    let told = is_err_of c.from_residual.result (fault.Status c.in_err-permit_file.field-0.0) c.from_residual.ensures.1 in
     rw told (left g.D.Device.keeps_word _ (fs_of c.args.self.now) (fs_failures c.args.self.now))
 
 pub returns-in_err-permit_file-clause-step : goal.returns-in_err-permit_file-clause-step
 returns-in_err-permit_file-clause-step g c state arguments on is =
-    let told = told_err c.from_residual.result (fault.Status c.in_err-permit_file.field-0.0) c.from_residual.ensures.1 in
+    let told = is_err_of c.from_residual.result (fault.Status c.in_err-permit_file.field-0.0) c.from_residual.ensures.1 in
     let none : length c.args.asked.bytes.now ≡ 0 = eqb-true (length c.args.asked.bytes.now) 0 (sym c.is_empty.ensures ∙ c.if-is_empty.true) in
     rw told (early (fs_of c.args.self.now) c.args.cred.now c.args.now c.args.number c.args.verdict c.args.asked (none_bytes c.args.asked.bytes.now none) state arguments on is
     c.in_err-permit_file.field-0.0 c.in_err-permit_file.ensures.tests)
@@ -67,7 +67,7 @@ returns-then-is_empty-clause-step g c state arguments on is keeps =
 pub returns-in_err-apply_plan-clause-volume : goal.returns-in_err-apply_plan-clause-volume
 returns-in_err-apply_plan-clause-volume g c =
     let fs = fs_of c.args.self.now in
-    let told = told_err c.from_residual-in_err-apply_plan.result c.in_err-apply_plan.field-0.0 c.from_residual-in_err-apply_plan.ensures.1 in
+    let told = is_err_of c.from_residual-in_err-apply_plan.result c.in_err-apply_plan.field-0.0 c.from_residual-in_err-apply_plan.ensures.1 in
     rw told (changes_by g.D.Device.keeps_word (IsWrittenTree fs.volume c.in_ok-edits.edits c.args.asked.is_stable) (WritesTree fs c.args.cred.now c.args.number c.args.now c.args.verdict c.args.asked)
     (λ after lasts made. puts_tree fs c.args.cred.now c.args.now c.args.number c.args.verdict c.args.asked c.in_ok-edits.edits c.in_ok-edits.ensures.step after lasts made)
     _ _ _ _ _ (rw c.in_err-apply_plan.was at c.apply_plan.ensures.volume))

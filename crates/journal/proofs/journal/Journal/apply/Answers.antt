@@ -10,7 +10,7 @@ use Rattle.journal.specs.Transactions.{FitTogether, gathered, sectors_of}
 use Rattle.journal.proofs.Answerings.{answers_down, answers_up, is_fault}
 use Rattle.journal.proofs.Parts.{part_failed, part_is_safe, stays_safe}
 use Rattle.journal.proofs.Cachings.{copies_applied}
-use Rattle.journal.proofs.Fronts.{joined_as_one, listed_sectors, moved_flushed, moved_takes, put_alone, put_does}
+use Rattle.journal.proofs.Prefixes.{joined_as_one, listed_sectors, moved_flushed, moved_takes, put_alone, put_does}
 use Rattle.journal.proofs.Images.{Fit, length-targets}
 use Rattle.journal.proofs.Joins.{pushed_contents}
 use Rattle.journal.proofs.Lists.{Fit-gathered, targets_of-Fit}

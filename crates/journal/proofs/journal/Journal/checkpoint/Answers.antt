@@ -5,10 +5,10 @@ use Rattle.journal.specs.Commit.{IsCopiedHome}
 use Rattle.journal.specs.Layout.{copies, targets, through}
 use Rattle.journal.specs.Recorded.{IsStored}
 use Rattle.journal.specs.Journal.{log_of, recorded_sectors, listed}
-use Rattle.journal.specs.Log.{StandsForFront}
+use Rattle.journal.specs.Log.{StandsForPrefix}
 use Rattle.journal.specs.Settled.{AreSame}
 use Rattle.journal.proofs.Cachings.{copies_home}
-use Rattle.journal.proofs.Fronts.{all_keep, fronts_base, checkpoint_cost_is}
+use Rattle.journal.proofs.Prefixes.{all_keep, prefixes_base, checkpoint_cost_is}
 use Rattle.journal.proofs.Journals.{stored_of, on_ok}
 use Rattle.journal.proofs.Recovers.{not_empty}
 use Rattle.journal.proofs.journal.Journal.checkpoint.Goals as goal
@@ -24,9 +24,9 @@ done : (g : Over) (c : After-is_err g) → c.is_err.result ≡ false → g.D.Dev
 done g c e k = on_ok c.close.result (sym c.is_err.ensures.value ∙ e) (c.close.ensures.ok k (stored g c k))
 
 moments : (g : Over) (c : After-is_err g) → g.D.Device.keeps_word
-    → AddsOnly (StandsForFront c.args.self.now.area (through c.args.self.now.area c.args.self.now.recorded.targets.items (seen (g.D.Device.history c.args.self.now.device).now)) (listed c.args.self.now.pending.items))
+    → AddsOnly (StandsForPrefix c.args.self.now.area (through c.args.self.now.area c.args.self.now.recorded.targets.items (seen (g.D.Device.history c.args.self.now.device).now)) (listed c.args.self.now.pending.items))
     (g.D.Device.history c.args.self.now.device) (g.D.Device.history c.close.new.device)
-moments g c k = fronts_base c.args.self.now.area (listed c.args.self.now.pending.items)
+moments g c k = prefixes_base c.args.self.now.area (listed c.args.self.now.pending.items)
     (through c.args.self.now.area c.args.self.now.recorded.targets.items (seen (g.D.Device.history c.args.self.now.device).now))
     (g.D.Device.history c.args.self.now.device) (g.D.Device.history c.close.new.device) (c.close.ensures.moments k (stored g c k))
 

@@ -1,7 +1,7 @@
 use Rattle.std.proofs.Common.{List, ap}
 use Rattle.disk.specs.declared.update.Update.{Update}
 use Rattle.journal.specs.Journal.{log_of, listed}
-use Rattle.journal.proofs.Fronts.{moved_all}
+use Rattle.journal.proofs.Prefixes.{moved_all}
 use Rattle.journal.proofs.journal.Journal.flush.Goals as goal
 
 pub returns-clause-moved : goal.returns-clause-moved

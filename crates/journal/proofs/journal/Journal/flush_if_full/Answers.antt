@@ -2,7 +2,7 @@ use Rattle.std.proofs.Common.{◌≡◌, ◌∙◌, ◌++◌, ◌∷◌, [], ap,
 use Rattle.journal.specs.Journal.{log_of, listed}
 use Rattle.journal.specs.Layout.{targets}
 use Rattle.journal.specs.Transactions.{gathered, sectors_of}
-use Rattle.journal.proofs.Fronts.{together}
+use Rattle.journal.proofs.Prefixes.{together}
 use Rattle.journal.proofs.Images.{length-targets}
 use Rattle.journal.proofs.Lists.{Apart-Fit, gathered_short}
 use Rattle.journal.proofs.Stages.{Fit-of}

@@ -6,12 +6,12 @@ use Rattle.journal.specs.Behind.{way_for}
 use Rattle.journal.specs.Commit.{IsCommitted}
 use Rattle.journal.specs.Journal.{log_of, journal_failures, recorded_sectors, listed}
 use Rattle.journal.specs.Layout.{copies, targets, through}
-use Rattle.journal.specs.Log.{StandsForFront}
+use Rattle.journal.specs.Log.{StandsForPrefix}
 use Rattle.journal.specs.Recorded.{IsStored}
 use Rattle.journal.specs.Settled.{AreSame}
 use Rattle.journal.specs.Transactions.{sectors_of}
 use Rattle.journal.proofs.Cachings.{copies_flushed}
-use Rattle.journal.proofs.Fronts.{fronts_either, listed_sectors_are, listed_cost}
+use Rattle.journal.proofs.Prefixes.{prefixes_either, listed_sectors_are, listed_cost}
 use Rattle.journal.proofs.Images.{length-targets}
 use Rattle.journal.proofs.Journals.{stored_of, on_ok, committed_at, either_at, taken_named}
 use Rattle.journal.proofs.Recovers.{not_empty}
@@ -50,7 +50,7 @@ same g c before n kept =
     ∙ ap (λ (to : Vec ℕ). through c.args.self.now.area to.items (seen (g.D.Device.history c.commit.new.device).now) n) (sym c.take_over.ensures.targets)
 
 moments : (g : Over) (c : After-is_err g) → g.D.Device.keeps_word
-    → AddsOnly (StandsForFront c.args.self.now.area (through c.args.self.now.area c.args.self.now.recorded.targets.items (seen (g.D.Device.history c.args.self.now.device).now)) (listed c.args.self.now.pending.items))
+    → AddsOnly (StandsForPrefix c.args.self.now.area (through c.args.self.now.area c.args.self.now.recorded.targets.items (seen (g.D.Device.history c.args.self.now.device).now)) (listed c.args.self.now.pending.items))
     (g.D.Device.history c.args.self.now.device) (g.D.Device.history c.commit.new.device)
 unfolding log_of
 moments g c k =
@@ -58,7 +58,7 @@ moments g c k =
     let h = g.D.Device.history c.args.self.now.device in
     let h1 = g.D.Device.history c.commit.new.device in
     let base = through c.args.self.now.area c.args.self.now.recorded.targets.items (seen h.now) in
-    fronts_either area c.args.self.now.pending.items base h h1
+    prefixes_either area c.args.self.now.pending.items base h h1
     (either_at area c.deref-2.result.now c.args.self.now.pending.items base h h1 c.deref-2.ensures.value
     (c.commit.ensures.moments k (stored g c k)))
 

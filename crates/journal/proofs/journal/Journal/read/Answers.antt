@@ -6,7 +6,7 @@ use Rattle.journal.specs.Journal.{log_of}
 use Rattle.journal.specs.Layout.{copies, targets, through}
 use Rattle.journal.proofs.Cachings.{copies_among, copies_more}
 use Rattle.journal.proofs.Commits.{recorded_at}
-use Rattle.journal.proofs.Fronts.{listed_applied}
+use Rattle.journal.proofs.Prefixes.{listed_applied}
 use Rattle.journal.proofs.Images.{applied_out, home_of_out}
 use Rattle.journal.proofs.Journals.{on_ok}
 use Rattle.journal.proofs.Lists.{IsLastUpdate, last_update, not_named, not_has-out, applied_last, no_update}

@@ -4,9 +4,9 @@ use Rattle.journal.specs.Commit.{KeepsShown, rewritten}
 use Rattle.journal.specs.Journal.{log_of, recorded_sectors, listed}
 use Rattle.journal.specs.declared.layout.LogArea.{LogArea}
 use Rattle.journal.specs.Layout.{through}
-use Rattle.journal.specs.Log.{StandsForFront}
+use Rattle.journal.specs.Log.{StandsForPrefix}
 use Rattle.journal.specs.Phase.{IsGated}
-use Rattle.journal.proofs.Fronts.{fronts_base, settled_of}
+use Rattle.journal.proofs.Prefixes.{prefixes_base, settled_of}
 use Rattle.journal.proofs.Journals.{gated_of, on_ok}
 use Rattle.journal.proofs.Rewrites.{cached_again, gated_again, log_again, payload_again}
 use Rattle.journal.proofs.journal.Journal.rewrite_record.Goals as goal
@@ -26,9 +26,9 @@ shown_is : (area : LogArea) (shown to : List ℕ) (h h1 : History) → shown ≡
 shown_is area shown to h h1 is gated keeps = subst (λ (ts : List ℕ). IsGated ts h → KeepsShown area ts h h1) is keeps gated
 
 moments : (g : Over) (c : After-is_err g) → g.D.Device.keeps_word
-    → AddsOnly (StandsForFront c.args.self.now.area (through c.args.self.now.area c.args.self.now.recorded.targets.items (seen (g.D.Device.history c.args.self.now.device).now)) (listed c.args.self.now.pending.items))
+    → AddsOnly (StandsForPrefix c.args.self.now.area (through c.args.self.now.area c.args.self.now.recorded.targets.items (seen (g.D.Device.history c.args.self.now.device).now)) (listed c.args.self.now.pending.items))
     (g.D.Device.history c.args.self.now.device) (g.D.Device.history c.rewrite.new.device)
-moments g c k = fronts_base c.args.self.now.area (listed c.args.self.now.pending.items)
+moments g c k = prefixes_base c.args.self.now.area (listed c.args.self.now.pending.items)
     (through c.args.self.now.area c.args.self.now.recorded.targets.items (seen (g.D.Device.history c.args.self.now.device).now))
     (g.D.Device.history c.args.self.now.device) (g.D.Device.history c.rewrite.new.device)
     (shown_is _ _ _ _ _ c.deref.ensures.value (gated g c k) (c.rewrite.ensures.moments k))

@@ -6,7 +6,7 @@ use Rattle.journal.specs.Settled.{AreSame}
 use Rattle.journal.specs.Phase.{IsGated, IsFixedAs}
 use Rattle.journal.specs.Journal.{log_of}
 use Rattle.journal.proofs.Cachings.{copies_beside}
-use Rattle.journal.proofs.Fronts.{listed_applied, settled_of}
+use Rattle.journal.proofs.Prefixes.{listed_applied, settled_of}
 use Rattle.journal.proofs.Journals.{gated_of, on_ok}
 use Rattle.journal.proofs.Stages.{Fit-of}
 use Rattle.journal.proofs.Superblocks.{superblock_moments, superblock_base, superblock_contents, superblock_gated, superblock_payload}

@@ -1,5 +1,5 @@
 use Rattle.std.proofs.Common.{◌≡◌, ◌∙◌, IfErr, ap, subst}
-use Rattle.journal.specs.Layout.{in_front}
+use Rattle.journal.specs.Layout.{log_at_start}
 use Rattle.journal.specs.Viewed.{HasNoForm}
 use Rattle.journal.specs.declared.fault.JournalFault.TheVariants as fault
 use Rattle.journal.specs.declared.layout.LogArea.{LogArea}
@@ -9,4 +9,4 @@ pub returns-clause-damaged : goal.returns-clause-damaged
 returns-clause-damaged g c = subst
     (λ (area : LogArea). g.D.Device.keeps_word
     → IfErr c.view_in.result (λ refused. refused.fault ≡ fault.Damaged → HasNoForm area (g.D.Device.history c.args.device.now)))
-    (c.in_front-area.ensures ∙ ap in_front c.sectors.ensures) c.view_in.ensures.damaged
+    (c.log_at_start-area.ensures ∙ ap log_at_start c.sectors.ensures) c.view_in.ensures.damaged

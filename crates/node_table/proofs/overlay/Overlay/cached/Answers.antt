@@ -13,7 +13,7 @@ returns-in-Some-clause-some c =
     let within : c.in-Some.i < length changes = subst (λ (l : Keyed (Option CachedNode)). c.in-Some.i < length l) c.deref.ensures.value c.in-Some.ensures.within in
     let key : (change_at changes c.in-Some.i).0 ≡ c.args.place = subst (λ (l : Keyed (Option CachedNode)). (change_at l c.in-Some.i).0 ≡ c.args.place) c.deref.ensures.value c.in-Some.ensures.some in
     let there = read-change c.self.inside.table.now changes c.in-Some.i c.args.place c.index.result.now c.self.invariant.0 c.self.invariant.1 within key c.index.ensures in
-    copied-some c.as_ref.result (get_or c.args.self.now.cards c.args.place None) (ap (λ (overlay : Overlaid). get_or overlay.cards c.args.place None) (sym c.self.view_is) ∙ there ∙ sym c.as_ref.ensures.value)
+    copied-some c.as_ref.result (get_or c.args.self.now.cached_nodes c.args.place None) (ap (λ (overlay : Overlaid). get_or overlay.cached_nodes c.args.place None) (sym c.self.view_is) ∙ there ∙ sym c.as_ref.ensures.value)
 
 pub returns-in-Some-clause-none : goal.returns-in-Some-clause-none
 returns-in-Some-clause-none c =
@@ -21,19 +21,19 @@ returns-in-Some-clause-none c =
     let within : c.in-Some.i < length changes = subst (λ (l : Keyed (Option CachedNode)). c.in-Some.i < length l) c.deref.ensures.value c.in-Some.ensures.within in
     let key : (change_at changes c.in-Some.i).0 ≡ c.args.place = subst (λ (l : Keyed (Option CachedNode)). (change_at l c.in-Some.i).0 ≡ c.args.place) c.deref.ensures.value c.in-Some.ensures.some in
     let there = read-change c.self.inside.table.now changes c.in-Some.i c.args.place c.index.result.now c.self.invariant.0 c.self.invariant.1 within key c.index.ensures in
-    copied-none c.as_ref.result (get_or c.args.self.now.cards c.args.place None) (ap (λ (overlay : Overlaid). get_or overlay.cards c.args.place None) (sym c.self.view_is) ∙ there ∙ sym c.as_ref.ensures.value)
+    copied-none c.as_ref.result (get_or c.args.self.now.cached_nodes c.args.place None) (ap (λ (overlay : Overlaid). get_or overlay.cached_nodes c.args.place None) (sym c.self.view_is) ∙ there ∙ sym c.as_ref.ensures.value)
 
 pub returns-in-None-clause-some : goal.returns-in-None-clause-some
 returns-in-None-clause-some c =
     let none = at-off c.self.inside.changes.items c.args.place (subst (λ (l : Keyed (Option CachedNode)). (i : ℕ) → i < length l → (change_at l i).0 ≢ c.args.place) c.deref.ensures.value c.in-None.ensures.none) in
-    let there : get_or c.self.inside.table.now c.args.place None ≡ get_or c.args.self.now.cards c.args.place None =
-    sym (changed-off c.self.inside.table.now c.self.inside.changes.items c.args.place none) ∙ ap (λ (overlay : Overlaid). get_or overlay.cards c.args.place None) c.self.view_is in
-    subst (λ (there : Option CachedNode). IfSome c.cached.result (λ card. there ≡ Some card.now)) there c.cached.ensures.some
+    let there : get_or c.self.inside.table.now c.args.place None ≡ get_or c.args.self.now.cached_nodes c.args.place None =
+    sym (changed-off c.self.inside.table.now c.self.inside.changes.items c.args.place none) ∙ ap (λ (overlay : Overlaid). get_or overlay.cached_nodes c.args.place None) c.self.view_is in
+    subst (λ (there : Option CachedNode). IfSome c.cached.result (λ cached_node. there ≡ Some cached_node.now)) there c.cached.ensures.some
 
 pub returns-in-None-clause-none : goal.returns-in-None-clause-none
 returns-in-None-clause-none c =
     let none = at-off c.self.inside.changes.items c.args.place (subst (λ (l : Keyed (Option CachedNode)). (i : ℕ) → i < length l → (change_at l i).0 ≢ c.args.place) c.deref.ensures.value c.in-None.ensures.none) in
-    let there : get_or c.self.inside.table.now c.args.place None ≡ get_or c.args.self.now.cards c.args.place None =
-    sym (changed-off c.self.inside.table.now c.self.inside.changes.items c.args.place none) ∙ ap (λ (overlay : Overlaid). get_or overlay.cards c.args.place None) c.self.view_is in
+    let there : get_or c.self.inside.table.now c.args.place None ≡ get_or c.args.self.now.cached_nodes c.args.place None =
+    sym (changed-off c.self.inside.table.now c.self.inside.changes.items c.args.place none) ∙ ap (λ (overlay : Overlaid). get_or overlay.cached_nodes c.args.place None) c.self.view_is in
     subst (λ (there : Option CachedNode). IfNone c.cached.result (there ≡ None)) there
     c.cached.ensures.none

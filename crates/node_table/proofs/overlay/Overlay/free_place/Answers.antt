@@ -14,7 +14,7 @@ returns-in-Some-clause-some c =
     record {
       within = subst (λ (n : ℕ). c.in-Some.place < n)
           (sym (changed-length c.self.inside.table.now c.self.inside.changes.items)
-          ∙ ap (λ (overlay : Overlaid). length overlay.cards) c.self.view_is)
+          ∙ ap (λ (overlay : Overlaid). length overlay.cached_nodes) c.self.view_is)
           free.within;
       free = if_none c.cached.result (c.is_none.ensures ∙ ap not c.if-is_none.true) c.cached.ensures.none;
     }

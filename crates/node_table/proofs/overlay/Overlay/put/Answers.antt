@@ -12,19 +12,19 @@ invariant_of-self c =
       within-exchange (length c.self.inside.table.now) c.self.inside.changes.items c.in-Some.i c.args.cached c.self.invariant.1,
     )
 
-pub returns-in-Some-clause-cards : goal.returns-in-Some-clause-cards
-returns-in-Some-clause-cards c =
+pub returns-in-Some-clause-cached_nodes : goal.returns-in-Some-clause-cached_nodes
+returns-in-Some-clause-cached_nodes c =
     let changes : Keyed (Option CachedNode) = c.self.inside.changes.items in
     let within : c.in-Some.i < length changes = subst (λ (l : Keyed (Option CachedNode)). c.in-Some.i < length l) c.deref.ensures.value c.in-Some.ensures.within in
     let key : (change_at changes c.in-Some.i).0 ≡ c.args.place = subst (λ (l : Keyed (Option CachedNode)). (change_at l c.in-Some.i).0 ≡ c.args.place) c.deref.ensures.value c.in-Some.ensures.some in
     ap (overlaid c.self.inside.table.now) c.put_into.ensures ∙ changed-exchange c.self.inside.table.now changes c.in-Some.i c.args.cached c.self.invariant.0 within
-    ∙ ap (λ (k : ℕ). set (overlaid c.self.inside.table.now changes) k c.args.cached) key ∙ ap (λ (overlay : Overlaid). set overlay.cards c.args.place c.args.cached) c.self.view_is
+    ∙ ap (λ (k : ℕ). set (overlaid c.self.inside.table.now changes) k c.args.cached) key ∙ ap (λ (overlay : Overlaid). set overlay.cached_nodes c.args.place c.args.cached) c.self.view_is
 
 pub invariant_of-self-in-Continue-1 : goal.invariant_of-self-in-Continue-1
 invariant_of-self-in-Continue-1 c =
     let there = unchanged c.self.inside.table.now c.self.inside.changes.items c.deref.result.now c.args.self.now c.args.place c.deref.ensures.value c.self.view_is c.in-None.ensures.none in
     let within : c.args.place < length c.self.inside.table.now =
-    omega (arith, c.requires, ap (λ (overlay : Overlaid). length overlay.cards) c.self.view_is, changed-length c.self.inside.table.now c.self.inside.changes.items) in
+    omega (arith, c.requires, ap (λ (overlay : Overlaid). length overlay.cached_nodes) c.self.view_is, changed-length c.self.inside.table.now c.self.inside.changes.items) in
     rw c.in_ok-push-in-None.ensures.items (
       own-push c.self.inside.changes.items c.args.place c.args.cached c.self.invariant.0 there.none,
       within-push (length c.self.inside.table.now) c.self.inside.changes.items c.args.place c.args.cached c.self.invariant.1 within,
@@ -35,8 +35,8 @@ returns-in_err-push-in-None-clause-again c other =
     let there = unchanged c.self.inside.table.now c.self.inside.changes.items c.deref.result.now c.args.self.now c.args.place c.deref.ensures.value c.self.view_is c.in-None.ensures.none in
     absurd (other (there.same ∙ ap (λ (overlay : Overlaid). get_or overlay.table c.args.place None) c.self.view_is))
 
-pub returns-in_ok-push-in-None-clause-cards : goal.returns-in_ok-push-in-None-clause-cards
-returns-in_ok-push-in-None-clause-cards c =
+pub returns-in_ok-push-in-None-clause-cached_nodes : goal.returns-in_ok-push-in-None-clause-cached_nodes
+returns-in_ok-push-in-None-clause-cached_nodes c =
     let there = unchanged c.self.inside.table.now c.self.inside.changes.items c.deref.result.now c.args.self.now c.args.place c.deref.ensures.value c.self.view_is c.in-None.ensures.none in
     ap (overlaid c.self.inside.table.now) c.in_ok-push-in-None.ensures.items ∙ changed-push c.self.inside.table.now c.self.inside.changes.items c.args.place c.args.cached there.none
-    ∙ ap (λ (overlay : Overlaid). set overlay.cards c.args.place c.args.cached) c.self.view_is
+    ∙ ap (λ (overlay : Overlaid). set overlay.cached_nodes c.args.place c.args.cached) c.self.view_is

@@ -18,10 +18,10 @@ returns-clause-some c =
     let key : (get_or index i read).0 ≡ c.args.number = ap (λ (e : ℕ × ℕ). e.0) (get_or_default index i read (0, 0) is.within) ∙ is.is in
     let there : at c.args.number index ≡ Some read.1 =
     ap (λ (n : ℕ). at n index) (sym key) ∙ at-entry 0 index kept.rising i read is.within ∙ ap (λ (e : ℕ × ℕ). Some e.1) (sym c.index.ensures) in
-    subst (λ (cards : List (Option CachedNode)). node_number_at cards read.1 ≡ Some c.args.number) c.self.view_is (kept.found c.args.number read.1 there)
+    subst (λ (cached_nodes : List (Option CachedNode)). node_number_at cached_nodes read.1 ≡ Some c.args.number) c.self.view_is (kept.found c.args.number read.1 there)
 
 pub returns-in_err-i-clause-only : goal.returns-in_err-i-clause-only
-returns-in_err-i-clause-only c = own-places c.self.inside.cards.items c.self.inside.index.items c.self.inside.free.items c.self.inside.charge c.args.self.now c.self.invariant.0 c.self.view_is
+returns-in_err-i-clause-only c = own-places c.self.inside.cached_nodes.items c.self.inside.index.items c.self.inside.free.items c.self.inside.charge c.args.self.now c.self.invariant.0 c.self.view_is
 
 pub returns-clause-only : goal.returns-clause-only
-returns-clause-only c = own-places c.self.inside.cards.items c.self.inside.index.items c.self.inside.free.items c.self.inside.charge c.args.self.now c.self.invariant.0 c.self.view_is
+returns-clause-only c = own-places c.self.inside.cached_nodes.items c.self.inside.index.items c.self.inside.free.items c.self.inside.charge c.args.self.now c.self.invariant.0 c.self.view_is

@@ -9,6 +9,6 @@ pub returns-clause-some : goal.returns-clause-some
 returns-clause-some c =
     let last : c.copied.result ≡ slice_get c.self.inside.free.items (length c.self.inside.free.items - 1) =
     c.copied.ensures ∙ c.last.ensures.value ∙ ap (λ (l : List ℕ). slice_get l (length l - 1)) c.deref.ensures.value in
-    subst (λ (cards : List (Option CachedNode)). IfSome c.copied.result (IsFree cards))
+    subst (λ (cached_nodes : List (Option CachedNode)). IfSome c.copied.result (IsFree cached_nodes))
     c.self.view_is
-    (free_found c.self.inside.cards.items c.self.inside.index.items c.self.inside.free.items c.self.inside.charge _ c.copied.result c.self.invariant.0 last)
+    (free_found c.self.inside.cached_nodes.items c.self.inside.index.items c.self.inside.free.items c.self.inside.charge _ c.copied.result c.self.invariant.0 last)

@@ -9,8 +9,8 @@ invariant-loop-place l = record {
   within : l.place ≤ l.places;
   free : AreFirst l.place l.free.items;
   free_len : vec_len l.free ≡ l.place;
-  cards : l.cards.items ≡ replicate l.place None;
-  cards_len : vec_len l.cards ≡ l.place;
+  cached_nodes : l.cached_nodes.items ≡ replicate l.place None;
+  cached_nodes_len : vec_len l.cached_nodes ≡ l.place;
   free_room : vec_capacity l.free ≡ l.places;
-  cards_room : vec_capacity l.cards ≡ l.places;
+  cached_nodes_room : vec_capacity l.cached_nodes ≡ l.places;
 }

@@ -4,4 +4,4 @@ use Rattle.layout.specs.CachedNodes.{CachedNode}
 use Rattle.node_table.proofs.table.Table.put.Goals as goal
 
 pub returns-else-eq : goal.returns-else-eq
-returns-else-eq c = c.make.ensures ∙ ap (λ (cards : List (Option CachedNode)). set cards c.args.place (Some c.args.cached)) c.vacate.ensures ∙ set-set c.args.self.now c.args.place None (Some c.args.cached)
+returns-else-eq c = c.make.ensures ∙ ap (λ (cached_nodes : List (Option CachedNode)). set cached_nodes c.args.place (Some c.args.cached)) c.vacate.ensures ∙ set-set c.args.self.now c.args.place None (Some c.args.cached)

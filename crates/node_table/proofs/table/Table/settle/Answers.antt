@@ -14,9 +14,9 @@ loop-place-init c = record {
 }
 
 -- the loop's state, if the last change of the list is this one
-taken : (cards target : List (Option CachedNode)) (old left : Keyed (Option CachedNode)) (place : ℕ) (card same : Option CachedNode) → IsSettling cards target old → old ≡ left ++ (place, card) ∷ [] → card ≡ same
-    → IsSettling cards target (left ++ (place, same) ∷ [])
-taken cards target old left place card same settling is e = subst (IsSettling cards target) (is ∙ ap (λ (k : Option CachedNode). left ++ (place, k) ∷ []) e) settling
+taken : (cached_nodes target : List (Option CachedNode)) (old left : Keyed (Option CachedNode)) (place : ℕ) (cached_node same : Option CachedNode) → IsSettling cached_nodes target old → old ≡ left ++ (place, cached_node) ∷ [] → cached_node ≡ same
+    → IsSettling cached_nodes target (left ++ (place, same) ∷ [])
+taken cached_nodes target old left place cached_node same settling is e = subst (IsSettling cached_nodes target) (is ∙ ap (λ (k : Option CachedNode). left ++ (place, k) ∷ []) e) settling
 
 shorter : (old left : Keyed (Option CachedNode)) (change : ℕ × Option CachedNode) → old ≡ left ++ change ∷ [] → length left < length old
 shorter old left change is = omega (arith, ap length is, length-append left (change ∷ []))

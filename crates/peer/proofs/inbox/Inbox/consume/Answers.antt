@@ -4,9 +4,9 @@ use Rattle.peer.proofs.inbox.Inbox.consume.Goals as goal
 
 drop-min-take : (k n : ℕ) (xs : List ℕ) → drop (min k n) (take k xs) ≡ drop n (take k xs)
 drop-min-take k n xs =
-    let front = take k xs in
-    let same : min (min k n) (length front) ≡ min n (length front) = omega (arith, length-take k xs) in
-    sym (drop_min (min k n) front) ∙ ap (λ m. drop m front) same ∙ drop_min n front
+    let prefix = take k xs in
+    let same : min (min k n) (length prefix) ≡ min n (length prefix) = omega (arith, length-take k xs) in
+    sym (drop_min (min k n) prefix) ∙ ap (λ m. drop m prefix) same ∙ drop_min n prefix
 
 slice_range_advance : (xs : List ℕ) (a e n : ℕ) → slice_range xs (a + min (e - a) n) e ≡ drop n (slice_range xs a e)
 slice_range_advance xs a e n =

@@ -57,7 +57,7 @@ pub returns-in-Err-clause-volume : goal.returns-in-Err-clause-volume
 returns-in-Err-clause-volume g c =
     same_changes g.D.Device.keeps_word (shared_of c.args.engine.now.fs.now c.args.engine.now.table.now c.args.engine.now.opens.now) (fs_of c.args.engine.now.fs.now) (fs_of c.step.new.fs) _ _
     (λ world number. stepped_on world number c.args.engine.now.moment (in_progress_of c.resume.result)) (λ world number. stepped_on world number c.args.engine.now.moment (in_progress_at c.args.request.now c.args.self))
-    (λ world number served. ap (stepped_on world number c.args.engine.now.moment) (sym c.resume.ensures.request)) (fault_ending c.in-Err.undone.fault) c.in-Err.ensures.volume
+    (λ world number served. ap (stepped_on world number c.args.engine.now.moment) (sym c.resume.ensures.request)) (fault_ending c.in-Err.failed.fault) c.in-Err.ensures.volume
 
 pub invariant_of-engine : goal.invariant_of-engine
 invariant_of-engine g c = record {

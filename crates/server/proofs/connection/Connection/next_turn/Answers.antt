@@ -42,7 +42,7 @@ returns-in-Err-clause-volume g c =
     same_changes g.D.Device.keeps_word (shared_of c.args.engine.now.fs.now c.args.engine.now.table.now c.args.engine.now.opens.now) (fs_of c.args.engine.now.fs.now) (fs_of c.step.new.engine.fs.now) _ _
     (λ world number. stepped_on world number c.args.engine.now.moment (in_progress_at request c.args.begun))
     (λ world number. turned world number c.args.engine.now.moment (Some (busy_with (held_record assembly) c.args.begun)))
-    (λ world number served. held_comes c.args.engine.now.moment assembly request c.args.begun c.in-Some.ensures.waits world number) (fault_ending c.in-Err.undone.fault) c.in-Err.ensures.volume
+    (λ world number served. held_comes c.args.engine.now.moment assembly request c.args.begun c.in-Some.ensures.waits world number) (fault_ending c.in-Err.failed.fault) c.in-Err.ensures.volume
 
 pub returns-in-Ok-clause-further : goal.returns-in-Ok-clause-further
 returns-in-Ok-clause-further g c =

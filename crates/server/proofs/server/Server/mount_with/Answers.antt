@@ -2,7 +2,7 @@ use Rattle.std.proofs.Common.{refl, arith}
 use Rattle.fs.specs.Views.{fs_of}
 use Rattle.volume.specs.declared.fault.MountFault.TheVariants as mounts
 use Rattle.volume.proofs.MountedLaws.{refused_untouched}
-use Rattle.volume.proofs.ServeLaws.{told_err}
+use Rattle.volume.proofs.ServeLaws.{is_err_of}
 use Rattle.model_tree.specs.Seats.SeatViews.{seats_view}
 use Rattle.session.specs.Views.{table_of, settings_of}
 use Rattle.server.specs.Connections.{connections_of}
@@ -46,5 +46,5 @@ returns-in-Err-clause-gives_back g c = record {
 
 pub returns-in_err-fs-clause-gives_back : goal.returns-in_err-fs-clause-gives_back
 returns-in_err-fs-clause-gives_back g c =
-    let told = told_err c.from_residual.result c.in_err-fs.field-0.0 c.from_residual.ensures.1 in
+    let told = is_err_of c.from_residual.result c.in_err-fs.field-0.0 c.from_residual.ensures.1 in
     rw told (rw c.in_err-fs.was at c.mount_seated.ensures.gives_back)

@@ -21,7 +21,7 @@ use Rattle.server.proofs.Moves.{broken_leaves, leaves_now}
 use Rattle.server.proofs.Pairs.{recent_left}
 use Rattle.server.proofs.Refusals.{told_by, device_told, turn_refused}
 use Rattle.server.proofs.SlabLaws.{stands, stands_none, wrote, wrote_count, rewrote, numbers_rise}
-use Rattle.server.proofs.ServedTurns.{turned, turn_of, undone, broken, gone_on_at, gives_deferred, gives_waiting, turning_moments}
+use Rattle.server.proofs.ServedTurns.{turned, turn_of, failed, broken, gone_on_at, gives_deferred, gives_waiting, turning_moments}
 use Rattle.server.proofs.Worlds.{may_be, AllOfRun, all_of_run_with, happened_leaving, failed_from}
 use Rattle.server.proofs.server.Server.take_turn.Goals as goal
 
@@ -97,17 +97,17 @@ returns-in_err-turn-clause-fails g c =
     λ keeps up is.
     let device : refusal ≡ turns.Device = device_told refusal (let told_is : turn_fault refusal ≡ faults.Device = cc in told_is) in
     let volume = c.turn.ensures.volume.volume_changes in
-    let failed = rw (c.in_err-turn.was, device) at c.turn.ensures.volume in
+    let by_device = rw (c.in_err-turn.was, device) at c.turn.ensures.volume in
     let left = kept_of_world (turn_of (shared_of s.fs s.table s.opens) (connections_of s.connections) c.args.conn c.args.now).world in
     let adds = volume.moments keeps _ _ (gives_deferred (shared_of s.fs s.table s.opens) (connections_of s.connections) c.args.conn c.args.now (connection_view before)
     (stands s.connections c.args.conn before c.in-Some.ensures.value)) in
     λ recent ready. (
       _,
       record {
-        fails = failed_from _ _ recent _ _ _ _ (runs.Turns c.args.conn c.args.now) up failed.volume_changes.ends.down
-            (broken (shared_of s.fs s.table s.opens) (shared_of c.turn.new.engine.fs.now c.turn.new.engine.table.now c.turn.new.engine.opens.now) (connections_of s.connections) _ volume.same (failed.no_count broken≢done)
+        fails = failed_from _ _ recent _ _ _ _ (runs.Turns c.args.conn c.args.now) up by_device.volume_changes.ends.down
+            (broken (shared_of s.fs s.table s.opens) (shared_of c.turn.new.engine.fs.now c.turn.new.engine.table.now c.turn.new.engine.opens.now) (connections_of s.connections) _ volume.same (by_device.no_count broken≢done)
             (ap₂ (shared (fs_of c.turn.new.engine.fs.now)) back.1.0 back.1.1) (rewrote s.connections c.args.conn before after c.in-Some.ensures.value back.0) (fs_of s.fs).volume.tree)
-            (failed.lets_wait.undone broken≢done);
+            (by_device.lets_wait.failed broken≢done);
         moves = record {
           moments = turning_moments (shared_of s.fs s.table s.opens) (connections_of s.connections) c.args.conn c.args.now recent _ ready up adds;
           leaves = broken_leaves (fs_of s.fs).volume (fs_of c.turn.new.engine.fs.now).volume left recent ready adds volume.same;
@@ -147,13 +147,13 @@ returns-in_err-turn-clause-refused g c =
     (λ memory.
     let nothing = rw (c.in_err-turn.was, memory) at c.turn.ensures.volume in
     let files = left_all _ _ _ _ _ _ nothing in
-    (undone (shared_of s.fs s.table s.opens) (shared_of c.turn.new.engine.fs.now c.turn.new.engine.table.now c.turn.new.engine.opens.now) (connections_of s.connections) _ files stays here, ap (λ (f : FileSystem). f.volume) files, nothing.volume_changes.none (λ broken. cc), ap (λ (f : FileSystem). f.waits) files))
+    (failed (shared_of s.fs s.table s.opens) (shared_of c.turn.new.engine.fs.now c.turn.new.engine.table.now c.turn.new.engine.opens.now) (connections_of s.connections) _ files stays here, ap (λ (f : FileSystem). f.volume) files, nothing.volume_changes.none (λ broken. cc), ap (λ (f : FileSystem). f.waits) files))
     (λ device.
-    let failed = rw (c.in_err-turn.was, device) at c.turn.ensures.volume in (
-      broken (shared_of s.fs s.table s.opens) (shared_of c.turn.new.engine.fs.now c.turn.new.engine.table.now c.turn.new.engine.opens.now) (connections_of s.connections) _ failed.volume_changes.same (failed.no_count broken≢done)
+    let by_device = rw (c.in_err-turn.was, device) at c.turn.ensures.volume in (
+      broken (shared_of s.fs s.table s.opens) (shared_of c.turn.new.engine.fs.now c.turn.new.engine.table.now c.turn.new.engine.opens.now) (connections_of s.connections) _ by_device.volume_changes.same (by_device.no_count broken≢done)
           stays here (fs_of c.turn.new.engine.fs.now).volume.tree,
-      inr failed.volume_changes.ends.cause,
-      failed.volume_changes.ends.down,
+      inr by_device.volume_changes.ends.cause,
+      by_device.volume_changes.ends.down,
     )))
 
 pub returns-clause-ok : goal.returns-clause-ok

@@ -4,7 +4,7 @@ use Rattle.std.proofs.lemmas.List.{length-take}
 use Rattle.disk.specs.Moments.{Image, applied}
 use Rattle.directory.specs.Listing.{by_stamp, without_entry}
 use Rattle.directory.specs.Records.{Record, NamesStamped, without_place, place_of}
-use Rattle.directory.specs.Spelling.{directory_sector}
+use Rattle.directory.specs.Encoding.{directory_sector}
 use Rattle.model_tree.specs.declared.node.NodeKind.TheVariants as kind
 use Rattle.model_tree.specs.Trees.Charge.{blocks_of}
 use Rattle.model_tree.specs.Trees.Keyed.{without}
@@ -21,7 +21,7 @@ use Rattle.tree_transaction.specs.Written.{HasItsRuns}
 use Rattle.tree_transaction.proofs.CutLaws.{blocks_marked}
 use Rattle.tree_transaction.proofs.DropLaws.{stamped_was, drop_few, drop_can, drop_enough, drop_runs, drop_stays, drop_now, drop_made, dropped}
 use Rattle.tree_transaction.proofs.KnownLaws.{put-back, turns}
-use Rattle.tree_transaction.proofs.NameLaws.{named_card}
+use Rattle.tree_transaction.proofs.NameLaws.{named_cached}
 use Rattle.tree_transaction.proofs.transaction.Transaction.drop_name.Goals as goal
 
 pub give_blocks-requires : goal.give_blocks-requires
@@ -34,48 +34,48 @@ of_some P (Some y) x is holds = let same : y ≡ x = cc in subst P same holds
 of_some P None x is holds = absurd (cc)
 
 -- the cached node in memory is the one that was taken out, with other blocks and names
-card_is : (was card : CachedNode) → card ≡ was → (cut blocks : List (Option ℕ)) → cut ≡ blocks → (names : List Record) (size : ℕ) → size ≡ length names
-    → record card { fields = record card.fields { size = size }; blocks = cut; names = names } ≡ named_card was blocks names
-card_is was card is cut blocks cut_is names size same =
+cached_is : (was cached_node : CachedNode) → cached_node ≡ was → (cut blocks : List (Option ℕ)) → cut ≡ blocks → (names : List Record) (size : ℕ) → size ≡ length names
+    → record cached_node { fields = record cached_node.fields { size = size }; blocks = cut; names = names } ≡ named_cached was blocks names
+cached_is was cached_node is cut blocks cut_is names size same =
     ap (λ (one : CachedNode). record one { fields = record one.fields { size = size }; blocks = cut; names = names }) is
     ∙ ap (λ (b : List (Option ℕ)). record was { fields = record was.fields { size = size }; blocks = b; names = names }) cut_is
     ∙ ap (λ (n : ℕ). record was { fields = record was.fields { size = n }; blocks = blocks; names = names }) same
 
 -- what is left of the cached node that was taken out
-record IsLeft (was card : CachedNode) (name : List ℕ) (names : List Record) (at left : ℕ) (cut : List (Option ℕ)) : Type 0 where
+record IsLeft (was cached_node : CachedNode) (name : List ℕ) (names : List Record) (at left : ℕ) (cut : List (Option ℕ)) : Type 0 where
   pub at_is : at ≡ place_of name was.names
   pub are : names ≡ without_place was.names (place_of name was.names)
   pub cut_is : cut ≡ take (blocks_of kind.Directory (length names)) was.blocks
-  pub now_is : record card { fields = record card.fields { size = left }; blocks = cut; names = names } ≡ named_card was (take (blocks_of kind.Directory (length names)) was.blocks) names
+  pub now_is : record cached_node { fields = record cached_node.fields { size = left }; blocks = cut; names = names } ≡ named_cached was (take (blocks_of kind.Directory (length names)) was.blocks) names
 
-is_left : (was card : CachedNode) → card ≡ was → (name : List ℕ) (names : List Record) (at left : ℕ) (cut : List (Option ℕ)) → at ≡ place_of name card.names → names ≡ without_place card.names at → left ≡ length names
-    → cut ≡ take ((left + 15 - 1) / 15) card.blocks → IsLeft was card name names at left cut
-is_left was card is name names at left cut at_inside removed left_is cut_to =
+is_left : (was cached_node : CachedNode) → cached_node ≡ was → (name : List ℕ) (names : List Record) (at left : ℕ) (cut : List (Option ℕ)) → at ≡ place_of name cached_node.names → names ≡ without_place cached_node.names at → left ≡ length names
+    → cut ≡ take ((left + 15 - 1) / 15) cached_node.blocks → IsLeft was cached_node name names at left cut
+is_left was cached_node is name names at left cut at_inside removed left_is cut_to =
     let inside = ap (λ (one : CachedNode). one.names) is in
     let to : (left + 15 - 1) / 15 ≡ blocks_of kind.Directory (length names) = omega (arith, left_is) in
-    let cut_is : cut ≡ take (blocks_of kind.Directory (length names)) was.blocks = cut_to ∙ ap (λ (n : ℕ). take n card.blocks) to ∙ ap (λ (one : CachedNode). take (blocks_of kind.Directory (length names)) one.blocks) is in
+    let cut_is : cut ≡ take (blocks_of kind.Directory (length names)) was.blocks = cut_to ∙ ap (λ (n : ℕ). take n cached_node.blocks) to ∙ ap (λ (one : CachedNode). take (blocks_of kind.Directory (length names)) one.blocks) is in
     record {
       at_is = at_inside ∙ ap (place_of name) inside;
-      are = removed ∙ ap (without_place card.names) at_inside ∙ ap (λ (l : List Record). without_place l (place_of name l)) inside;
+      are = removed ∙ ap (without_place cached_node.names) at_inside ∙ ap (λ (l : List Record). without_place l (place_of name l)) inside;
       cut_is = cut_is;
-      now_is = card_is was card is cut (take (blocks_of kind.Directory (length names)) was.blocks) cut_is names left left_is;
+      now_is = cached_is was cached_node is cut (take (blocks_of kind.Directory (length names)) was.blocks) cut_is names left left_is;
     }
 
 -- the marks follow the blocks that are left
-marks_left : (was card : CachedNode) → card ≡ was → (names : List Record) (left first : ℕ) (places mid_places : List Bool) → left ≡ length names
-    → ((n : ℕ) → mark_by first mid_places n + times_set n card.blocks ≡ mark_by first places n + times_set n (take ((left + 15 - 1) / 15) card.blocks))
+marks_left : (was cached_node : CachedNode) → cached_node ≡ was → (names : List Record) (left first : ℕ) (places mid_places : List Bool) → left ≡ length names
+    → ((n : ℕ) → mark_by first mid_places n + times_set n cached_node.blocks ≡ mark_by first places n + times_set n (take ((left + 15 - 1) / 15) cached_node.blocks))
     → (n : ℕ) → mark_by first mid_places n + times_set n was.blocks ≡ mark_by first places n + times_set n (take (blocks_of kind.Directory (length names)) was.blocks)
-marks_left was card is names left first places mid_places left_is marks n =
+marks_left was cached_node is names left first places mid_places left_is marks n =
     let to : (left + 15 - 1) / 15 ≡ blocks_of kind.Directory (length names) = omega (arith, left_is) in
     let all = ap (λ (one : CachedNode). times_set n one.blocks) is in
-    let front = ap (λ (k : ℕ). times_set n (take k card.blocks)) to ∙ ap (λ (one : CachedNode). times_set n (take (blocks_of kind.Directory (length names)) one.blocks)) is in
-    omega (arith, all, front, marks n)
+    let prefix = ap (λ (k : ℕ). times_set n (take k cached_node.blocks)) to ∙ ap (λ (one : CachedNode). times_set n (take (blocks_of kind.Directory (length names)) one.blocks)) is in
+    omega (arith, all, prefix, marks n)
 
 module _ (c : goal.After-store_cut-arg-1) where
-  abbrev card : CachedNode
-  card = seen c.cached.inside.form c.cached.inside.inode c.cached.inside.runs c.cached.inside.blocks c.cached.inside.names
+  abbrev cached_node : CachedNode
+  cached_node = seen c.cached.inside.form c.cached.inside.inode c.cached.inside.runs c.cached.inside.blocks c.cached.inside.names
 
-  left_can : IsLeft c.in_ok-cached.cached card c.args.name.now c.remove.new.self c.unwrap-at.result.0 c.count-left.result c.cut.new.self
+  left_can : IsLeft c.in_ok-cached.cached cached_node c.args.name.now c.remove.new.self c.unwrap-at.result.0 c.count-left.result c.cut.new.self
   left_can = is_left c.in_ok-cached.cached _ c.cached.view_is c.args.name.now c.remove.new.self c.unwrap-at.result.0 c.count-left.result c.cut.new.self (of_some _ c.in_ok-remove.field-0 c.unwrap-at.result c.unwrap-at.ensures c.in_ok-remove.ensures.place).0
       (of_some _ c.in_ok-remove.field-0 c.unwrap-at.result c.unwrap-at.ensures c.in_ok-remove.ensures.removed) c.count-left.ensures.count c.cut.ensures
 
@@ -123,8 +123,8 @@ module _ (c : goal.After-drop-entry-2) where
   abbrev was : CachedNode
   was = c.in_ok-cached.cached
 
-  abbrev mid_card : CachedNode
-  mid_card = seen c.cached.inside.form c.cached.inside.inode c.cached.inside.runs c.cached.inside.blocks c.cached.inside.names
+  abbrev mid_cached : CachedNode
+  mid_cached = seen c.cached.inside.form c.cached.inside.inode c.cached.inside.runs c.cached.inside.blocks c.cached.inside.names
 
   abbrev name : List ℕ
   name = c.args.name.now
@@ -135,7 +135,7 @@ module _ (c : goal.After-drop-entry-2) where
   abbrev blocks : List (Option ℕ)
   blocks = take (blocks_of kind.Directory (length names)) was.blocks
 
-  it : IsLeft was mid_card name names c.unwrap-at.result.0 c.count-left.result c.cut.new.self
+  it : IsLeft was mid_cached name names c.unwrap-at.result.0 c.count-left.result c.cut.new.self
   it = is_left c.in_ok-cached.cached _ c.cached.view_is c.args.name.now c.remove.new.self c.unwrap-at.result.0 c.count-left.result c.cut.new.self (of_some _ c.in_ok-remove.field-0 c.unwrap-at.result c.unwrap-at.ensures c.in_ok-remove.ensures.place).0
       (of_some _ c.in_ok-remove.field-0 c.unwrap-at.result c.unwrap-at.ensures c.in_ok-remove.ensures.removed) c.count-left.ensures.count c.cut.ensures
 
@@ -150,12 +150,12 @@ module _ (c : goal.After-drop-entry-2) where
   other image = written (applied c.rewrite_names.new.updates image) (applied c.rewrite_names-2.new.updates image) c.cut.new.self blocks (c.count-left.result / 15) (length names / 15) names it.cut_is
       (ap (λ (p : ℕ). p / 15) c.count-left.ensures.count) (c.in_ok-rewrite_names-2.ensures.names image)
 
-  back : StandsAgain c.args.self.now c.store_cut.new.self c.args.place (named_card was blocks names) c.give_blocks.new.places c.rewrite_names-2.new.updates
+  back : StandsAgain c.args.self.now c.store_cut.new.self c.args.place (named_cached was blocks names) c.give_blocks.new.places c.rewrite_names-2.new.updates
   back =
       let stands = c.in_ok-store_cut.ensures.stands in
       subst (λ (one : CachedNode). StandsAgain c.args.self.now c.store_cut.new.self c.args.place one c.give_blocks.new.places c.rewrite_names-2.new.updates) it.now_is (record {
         is = stands.is;
-        put = stands.put ∙ ap (λ (l : List (Option CachedNode)). set l c.args.place (Some stands.is)) c.in_ok-cached.ensures.cards ∙ put-back c.args.self.now.cards.cards c.args.place stands.is;
+        put = stands.put ∙ ap (λ (l : List (Option CachedNode)). set l c.args.place (Some stands.is)) c.in_ok-cached.ensures.cached_nodes ∙ put-back c.args.self.now.cached_nodes.cached_nodes c.args.place stands.is;
         same = stands.same;
         rerun = stands.rerun;
         follow = stands.follow;
@@ -167,7 +167,7 @@ module _ (c : goal.After-drop-entry-2) where
 
   map_is : (entry : Record) → entry_of name was.names ≡ Some entry → by_stamp names ≡ without (by_stamp was.names) entry.0
   map_is entry found =
-      let inside : mid_card.names ≡ was.names =
+      let inside : mid_cached.names ≡ was.names =
       ap (λ (one : CachedNode). one.names) c.cached.view_is in
       let stamped = stamped_was c.args.self.now c.args.place was name c.requires.known c.in_ok-cached.ensures.cached c.requires.names in
       let removes = c.in_ok-remove.ensures.by_stamp (subst NamesStamped (sym inside) stamped) in
@@ -179,8 +179,8 @@ returns-clause-known c =
     drop_stays c.args.self.now c.args.place (was c) (name c) c.requires.known c.in_ok-cached.ensures.cached c.requires.names (names c) it_is.are c.give_blocks.new.places (marks c) c.give_blocks.ensures.len
     c.store_cut.new.self c.rewrite_names.new.updates c.rewrite_names-2.new.updates c.count-left.ensures.names (one c) (other c) (back c)
 
-pub returns-clause-cards : goal.returns-clause-cards
-returns-clause-cards c =
+pub returns-clause-cached_nodes : goal.returns-clause-cached_nodes
+returns-clause-cached_nodes c =
     let it_is = it c in
     turns c.args.self.now c.store_cut.new.self c.args.place (was c) c.in_ok-cached.ensures.cached (without_name (name c))
     (drop_now c.args.self.now c.args.place (was c) (name c) c.requires.known c.in_ok-cached.ensures.cached c.requires.names (names c) it_is.are c.give_blocks.new.places (marks c) c.give_blocks.ensures.len

@@ -33,8 +33,8 @@ module _ (c : goal.After-drop-cached-inside-8) where
 
 pub returns-clause-known : goal.returns-clause-known
 returns-clause-known c =
-    free_stays c.args.self.now _ c.args.place c.in_ok-cached.cached c.requires.known c.in_ok-cached.ensures.cached refl (len c) (marks c) c.in_ok-cached.ensures.cards c.in_ok-put.ensures.image
+    free_stays c.args.self.now _ c.args.place c.in_ok-cached.cached c.requires.known c.in_ok-cached.ensures.cached refl (len c) (marks c) c.in_ok-cached.ensures.cached_nodes c.in_ok-put.ensures.image
 
 pub returns-clause-freed : goal.returns-clause-freed
 returns-clause-freed c = edits c.args.self.now _ c.args.place c.in_ok-cached.cached c.in_ok-cached.ensures.cached DropNode
-    (free_made c.args.self.now _ c.args.place c.in_ok-cached.cached c.requires.known c.in_ok-cached.ensures.cached refl (len c) (marks c) c.in_ok-cached.ensures.cards c.in_ok-put.ensures.image)
+    (free_made c.args.self.now _ c.args.place c.in_ok-cached.cached c.requires.known c.in_ok-cached.ensures.cached refl (len c) (marks c) c.in_ok-cached.ensures.cached_nodes c.in_ok-put.ensures.image)

@@ -5,7 +5,7 @@ use Rattle.tree_transaction.specs.declared.fault.SpaceFault.{SpaceFault}
 use Rattle.tree_transaction.specs.Faults.{fault_of}
 use Rattle.tree_transaction.proofs.CountLaws.{set_most}
 use Rattle.tree_transaction.proofs.FaultLaws.{told, full_of}
-use Rattle.tree_transaction.proofs.WrittenLaws.{within_now, can_now, few_now, full_now, runs_now, known_now, cards_now, tree_now}
+use Rattle.tree_transaction.proofs.WrittenLaws.{within_now, can_now, few_now, full_now, runs_now, known_now, cached_nodes_now, tree_now}
 use Rattle.tree_transaction.proofs.transaction.Transaction.write.Goals as goal
 
 pub store_written-requires-clause-can : goal.store_written-requires-clause-can
@@ -25,8 +25,8 @@ returns-in_err-store_written-clause-full g c full =
 pub returns-clause-known : goal.returns-clause-known
 returns-clause-known g c = known_now _ _ _ _ _ _ c.requires.known.0 c.requires.file c.in_ok-written.ensures.written c.store_written.new.self c.in_ok-store_written.ensures.stands
 
-pub returns-clause-cards : goal.returns-clause-cards
-returns-clause-cards g c = cards_now _ _ _ _ _ _ c.requires.known.0 c.requires.file c.in_ok-written.ensures.written c.store_written.new.self c.in_ok-store_written.ensures.stands
+pub returns-clause-cached_nodes : goal.returns-clause-cached_nodes
+returns-clause-cached_nodes g c = cached_nodes_now _ _ _ _ _ _ c.requires.known.0 c.requires.file c.in_ok-written.ensures.written c.store_written.new.self c.in_ok-store_written.ensures.stands
 
 pub returns-clause-tree : goal.returns-clause-tree
 returns-clause-tree g c word =

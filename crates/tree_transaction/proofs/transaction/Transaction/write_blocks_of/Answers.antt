@@ -8,7 +8,7 @@ use Rattle.tree_transaction.specs.declared.fault.TransactionFault.{TransactionFa
 use Rattle.tree_transaction.specs.declared.fault.TransactionFault.TheVariants as fault
 use Rattle.tree_transaction.specs.Grown.{grown, blocks_to}
 use Rattle.tree_transaction.proofs.FaultLaws.{told}
-use Rattle.tree_transaction.proofs.KnownLaws.{overcharged, same_card}
+use Rattle.tree_transaction.proofs.KnownLaws.{overcharged, same_cached}
 use Rattle.tree_transaction.proofs.WriteLaws.{grown_region, charged_first}
 use Rattle.tree_transaction.proofs.transaction.Transaction.write_blocks_of.Goals as goal
 
@@ -34,12 +34,12 @@ returns-clause-written g c =
     record {
       was = c.in_ok-cached.cached;
       there = c.in_ok-cached.ensures.cached;
-      card_is = ap (λ (one : CachedNode). record one { blocks = c.write_blocks.new.blocks }) grown_is;
+      cached_is = ap (λ (one : CachedNode). record one { blocks = c.write_blocks.new.blocks }) grown_is;
       gets = subst (λ (one : CachedNode). GetSectors (148 + c.args.self.now.nodes) c.args.self.now.places c.write_blocks.new.places one.blocks c.write_blocks.new.blocks) grown_is c.in_ok-filled.ensures.gets.0;
       count = c.in_ok-filled.ensures.gets.1 ∙ ap (λ (one : CachedNode). length one.blocks) grown_is;
       others = c.in_ok-filled.ensures.others;
       fills = subst (λ (one : CachedNode). FillHoles c.in_ok-filled.filled one.blocks c.write_blocks.new.blocks) grown_is c.in_ok-filled.ensures.fills;
-      cards = c.in_ok-cached.ensures.cards;
+      cached_nodes = c.in_ok-cached.ensures.cached_nodes;
       nodes = refl;
     }
 
@@ -48,6 +48,6 @@ returns-clause-bytes g c word was there =
     let base = g.S.Sectors.image (g.S.Sectors.kept c.args.base.now) in
     let end = c.args.offset + length c.args.bytes.now in
     subst (λ (one : CachedNode). WritesBytes (applied c.args.self.now.updates base) (applied c.write_blocks.new.updates base) (grown one end).blocks c.write_blocks.new.blocks c.args.offset c.args.bytes.now)
-    (same_card _ c.args.place c.in_ok-cached.cached was c.in_ok-cached.ensures.cached there)
+    (same_cached _ c.args.place c.in_ok-cached.cached was c.in_ok-cached.ensures.cached there)
     (subst (λ (one : CachedNode). WritesBytes (applied c.args.self.now.updates base) (applied c.write_blocks.new.updates base) one.blocks c.write_blocks.new.blocks c.args.offset c.args.bytes.now) (c.cached.view_is ∙ c.in_ok-grow_to.ensures)
     (c.in_ok-filled.ensures.bytes word))

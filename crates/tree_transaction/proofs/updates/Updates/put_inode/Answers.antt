@@ -2,7 +2,7 @@ use Rattle.std.proofs.Common.{◌≡◌, ◌≤◌, ◌+◌, ◌∙◌, ap, arit
 use Rattle.disk.specs.Moments.{applied, put}
 use Rattle.disk.specs.declared.update.Update.{Update}
 use Rattle.inode.specs.Fields.{fields_of}
-use Rattle.inode.specs.Spelling.{inode_sector}
+use Rattle.inode.specs.Encoding.{inode_sector}
 use Rattle.std.proofs.lemmas.List.{length-set}
 use Rattle.tree_transaction.specs.Updates.{UpdatesApart, encoded, target_of, updated}
 use Rattle.tree_transaction.proofs.PendingLaws.{encoded-pending}

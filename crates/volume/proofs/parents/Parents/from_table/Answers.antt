@@ -13,8 +13,8 @@ loop-place-preserved c = elim c.match-cached.branch [
   | in-Some w ↦
       let table = c.args.table.now in
       let inside = w.cached-in-Some.inside in
-      let names_are = ap (λ (card : CachedNode). card.names) w.cached-in-Some.view_is in
-      let number_is = ap (λ (card : CachedNode). node_number (Some card)) w.cached-in-Some.view_is in
+      let names_are = ap (λ (cached_node : CachedNode). cached_node.names) w.cached-in-Some.view_is in
+      let number_is = ap (λ (cached_node : CachedNode). node_number (Some cached_node)) w.cached-in-Some.view_is in
       directory-noted table c.requires.tree c.requires.apart c.loop-place.place c.loop-place.numbers.items c.loop-place.invariant c.match-cached.numbers.items
       (numbers_of inside.names) inside.inode.number
       (ap node_number w.in-Some.ensures.some ∙ sym number_is) (ap led_by w.in-Some.ensures.some ∙ ap numbers_of (sym names_are))

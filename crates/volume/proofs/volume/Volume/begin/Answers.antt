@@ -39,21 +39,21 @@ invariant_of-result g c =
     let mid : Log = log_of c.load.new.store.journal in
     let new : Log = log_of c.start.new.journal in
     let loaded = c.in-Ok.loaded in
-    let cards = loaded.table in
+    let cached_nodes = loaded.table in
     let nodes : c.of_volume.result.nodes ≡ found.nodes = ap (λ (l : Limits). l.nodes) c.of_volume.ensures in
     let size : found.sectors ≡ new.size = c.requires.volume.size ∙ sym (ap (λ (log : Log). log.size) c.in-Ok.ensures.loads.only) ∙ sym c.start.ensures.size in
     record {
       bounded = c.requires.volume.counted;
       sized = subst (λ (n : ℕ). IsTrue (is_size n c.of_volume.result.nodes)) size (subst (λ (n : ℕ). IsTrue (is_size found.sectors n)) (sym nodes) c.requires.volume.sized);
       limited = c.of_volume.ensures ∙ (ap (λ (n : ℕ). limits_of n found.nodes) size ∙ ap (limits_of new.size) (sym nodes));
-      formed = formed_later c.of_volume.result (stamp (found.run + 1) 0) (stamp (found.run + 1 + 1) 0) (tree_without_data cards) (omega arith)
-          (loaded_formed word found old loaded.mark cards (seats_view loaded.seats) loaded.places c.in-Ok.ensures.loaded c.of_volume.result c.of_volume.ensures);
-      known = subst (λ (n : ℕ). AreKnownNodes n c.of_volume.result.nodes cards loaded.places) size
-          (subst (λ (n : ℕ). AreKnownNodes found.sectors n cards loaded.places) (sym nodes) c.in-Ok.ensures.loaded.known);
+      formed = formed_later c.of_volume.result (stamp (found.run + 1) 0) (stamp (found.run + 1 + 1) 0) (tree_without_data cached_nodes) (omega arith)
+          (loaded_formed word found old loaded.mark cached_nodes (seats_view loaded.seats) loaded.places c.in-Ok.ensures.loaded c.of_volume.result c.of_volume.ensures);
+      known = subst (λ (n : ℕ). AreKnownNodes n c.of_volume.result.nodes cached_nodes loaded.places) size
+          (subst (λ (n : ℕ). AreKnownNodes found.sectors n cached_nodes loaded.places) (sym nodes) c.in-Ok.ensures.loaded.known);
       named = c.in-Ok.ensures.parents;
       placed = c.in-Ok-start.ensures.started.rests.placed;
-      serves = λ k up. subst (λ (n : ℕ). ∥ IsServing new n (found.run + 1) cards ∥₁) (sym nodes)
-          (begun_serving word found old mid new loaded.mark cards (seats_view loaded.seats) loaded.places c.in-Ok.ensures.loaded c.in-Ok-start.ensures.started c.in-Ok.ensures.loads.only (sym c.requires.volume.size) c.start.ensures.size k);
+      serves = λ k up. subst (λ (n : ℕ). ∥ IsServing new n (found.run + 1) cached_nodes ∥₁) (sym nodes)
+          (begun_serving word found old mid new loaded.mark cached_nodes (seats_view loaded.seats) loaded.places c.in-Ok.ensures.loaded c.in-Ok-start.ensures.started c.in-Ok.ensures.loads.only (sym c.requires.volume.size) c.start.ensures.size k);
     }
 
 pub returns-in-Ok-start-clause-begun : goal.returns-in-Ok-start-clause-begun
@@ -65,7 +65,7 @@ returns-in-Ok-start-clause-begun g c = λ k.
     let mid : Log = log_of c.load.new.store.journal in
     let new : Log = log_of c.start.new.journal in
     let loaded = c.in-Ok.loaded in
-    let cards = loaded.table in
+    let cached_nodes = loaded.table in
     let limits = c.of_volume.result in
     let nodes : limits.nodes ≡ found.nodes = ap (λ (l : Limits). l.nodes) c.of_volume.ensures in
     let are = c.in-Ok.ensures.loaded in
@@ -76,15 +76,15 @@ returns-in-Ok-start-clause-begun g c = λ k.
       run = refl;
       nodes = nodes;
       stood = subst (λ (kept : Kept). ∥ StandsOn found old.base kept ∥₁)
-          (sym (kept_read word found old mid new loaded.mark cards (seats_view loaded.seats) loaded.places are started only size c.start.ensures.size k))
-          (begun_stood word found old mid new loaded.mark cards (seats_view loaded.seats) loaded.places are started only size c.start.ensures.size k);
+          (sym (kept_read word found old mid new loaded.mark cached_nodes (seats_view loaded.seats) loaded.places are started only size c.start.ensures.size k))
+          (begun_stood word found old mid new loaded.mark cached_nodes (seats_view loaded.seats) loaded.places are started only size c.start.ensures.size k);
       moments = raised_from found old mid new.history only (c.start.ensures.safe k).moments;
       brief = begun_brief found old.base loaded.mark old.history mid.history new.history c.requires.volume.sized are.marked (are.marks k)
           (ap (λ (log : Log). log.history) only) (c.start.ensures.safe k).brief;
       bounded = begun_bounded found old.history mid.history new.history (ap (λ (log : Log). log.history) only) (c.start.ensures.safe k).bounded;
       steps = omega (arith, started.steps k, ap (λ (log : Log). moment log.history) only);
-      current = begun_current word found old mid new loaded.mark cards (seats_view loaded.seats) loaded.places are started only size c.start.ensures.size limits nodes k;
-      holds = begun_holds word found old mid new loaded.mark cards (seats_view loaded.seats) loaded.places are started only size c.start.ensures.size limits nodes k;
+      current = begun_current word found old mid new loaded.mark cached_nodes (seats_view loaded.seats) loaded.places are started only size c.start.ensures.size limits nodes k;
+      holds = begun_holds word found old mid new loaded.mark cached_nodes (seats_view loaded.seats) loaded.places are started only size c.start.ensures.size limits nodes k;
     }
 
 pub returns-in-Ok-start-clause-new : goal.returns-in-Ok-start-clause-new

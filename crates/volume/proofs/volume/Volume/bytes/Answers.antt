@@ -20,9 +20,9 @@ pub read_bytes-requires : goal.read_bytes-requires
 read_bytes-requires g c =
     let volume = c.args.self.now in
     let old : Log = log_of volume.store.journal in
-    let card = c.unwrap-cached.result.now in
+    let cached_node = c.unwrap-cached.result.now in
     record {
-      within = blocks_within old.size volume.limits.nodes c.unwrap-place.result volume.table volume.places card volume.known
+      within = blocks_within old.size volume.limits.nodes c.unwrap-place.result volume.table volume.places cached_node volume.known
           (some_at c.cached.result _ c.unwrap-cached.result c.unwrap-cached.ensures c.cached.ensures.some);
     }
 
@@ -31,10 +31,10 @@ unfolding volume_state
 returns-clause-bytes g c w =
     let volume = c.args.self.now in
     let old : Log = log_of volume.store.journal in
-    let card = c.unwrap-cached.result.now in
+    let cached_node = c.unwrap-cached.result.now in
     let there = some_at c.cached.result _ c.unwrap-cached.result c.unwrap-cached.ensures c.cached.ensures.some in
     let number = some_at c.find.result _ c.unwrap-place.result c.unwrap-place.ensures c.find.ensures.some in
-    let front : List ℕ = c.args.out.now.items in
+    let prefix : List ℕ = c.args.out.now.items in
     c.in_ok-read_bytes.ensures.bytes w
-    ∙ ap (λ (s : List ℕ). front ++ take c.args.len (drop c.args.offset s))
-    (sym (file_bytes (contents old) volume.table c.unwrap-place.result c.args.number card volume.known.are_cards.apart there number c.requires.file))
+    ∙ ap (λ (s : List ℕ). prefix ++ take c.args.len (drop c.args.offset s))
+    (sym (file_bytes (contents old) volume.table c.unwrap-place.result c.args.number cached_node volume.known.are_cached_nodes.apart there number c.requires.file))

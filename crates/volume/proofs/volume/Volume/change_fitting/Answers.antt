@@ -1,7 +1,7 @@
 use Rattle.std.proofs.Common.{◌≡◌, ◌≤◌, ◌+◌, ◌*◌, ◌∙◌, ℕ, false, List, Option, length, refl, sym, ap, subst, arith}
 use Rattle.std.specs.Prelude.{IsTrue, Err}
 use Rattle.tree_transaction.specs.Updates.{AreTreeUpdates}
-use Rattle.tree_edits.specs.Outcomes.{cards_after}
+use Rattle.tree_edits.specs.Outcomes.{cached_nodes_after}
 use Rattle.tree_edits.proofs.BlankLaws.{each_outline}
 use Rattle.disk.specs.Moments.{moment}
 use Rattle.journal.specs.Calls.{IsSafe, HasApplied}
@@ -25,8 +25,8 @@ use Rattle.volume.specs.Views.{volume_state_by, volume_state, volume_failures}
 use Rattle.volume.specs.VolumeState.{with_tree}
 use Rattle.volume.proofs.ApplyLaws.{applied_serves, applied_tree, apply_done, apply_refused}
 use Rattle.volume.proofs.ChangeLaws.{behind_serving, formed_after, journal_targets, known_after, log_same, may_settle, outline_after, parents_behind, whole_now, whole_volume}
-use Rattle.volume.proofs.EditLaws.{front_room, outline_doable, outline_few}
-use Rattle.volume.proofs.ServeLaws.{few_in_front, told_err}
+use Rattle.volume.proofs.EditLaws.{prefix_room, outline_doable, outline_few}
+use Rattle.volume.proofs.ServeLaws.{few_at_start, is_err_of}
 use Rattle.volume.proofs.StandLaws.{placed_on}
 use Rattle.model_tree.specs.Trees.Stamp.{stamp}
 use Rattle.tree_edits.specs.Outlines.{tree_without_data}
@@ -37,7 +37,7 @@ pub returns-then-is_down-clause-volume : goal.returns-then-is_down-clause-volume
 returns-then-is_down-clause-volume g c = left g.D.Device.keeps_word _ (volume_state c.args.self.now) (volume_failures c.args.self.now)
 
 pub returns-in_err-apply-clause-shows : goal.returns-in_err-apply-clause-shows
-returns-in_err-apply-clause-shows g c = rw (told_err c.from_residual-in_err-apply.result (fault_of c.in_err-apply.field-0.0) c.from_residual-in_err-apply.ensures.1) (tt)
+returns-in_err-apply-clause-shows g c = rw (is_err_of c.from_residual-in_err-apply.result (fault_of c.in_err-apply.field-0.0) c.from_residual-in_err-apply.ensures.1) (tt)
 
 pub outcome_of-requires-clause-whole : goal.outcome_of-requires-clause-whole
 outcome_of-requires-clause-whole g c =
@@ -67,10 +67,10 @@ outcome_of-requires-clause-room g c = λ count within.
     let volume = c.args.self.now in
     let log : Log = log_of volume.store.journal in
     let held = volume_state_by volume.limits volume.run volume.table log in
-    let room = front_room held c.args.edits.now c.requires.change (contents log) volume.table refl log.size volume.limits.nodes _ volume.limited volume.known.whole
+    let room = prefix_room held c.args.edits.now c.requires.change (contents log) volume.table refl log.size volume.limits.nodes _ volume.limited volume.known.whole
     c.requires.fitting count in
     let nodes = room.1 in
-    record { charge = room.0; nodes = omega (arith, nodes, volume.known.are_cards.count) }
+    record { charge = room.0; nodes = omega (arith, nodes, volume.known.are_cached_nodes.count) }
 
 pub apply-requires : goal.apply-requires
 apply-requires g c =
@@ -100,7 +100,7 @@ returns-in_err-apply-clause-volume g c =
     let health = c.in_ok-outcome.ensures.health.stays (λ faulted. cc) in
     let same : mid ≡ old = log_same old mid c.in_ok-outcome.ensures.kept (ap (λ (h : Health). h.is_down) health) in
     let failed : journal_failures c.outcome_of.new.base.journal ≡ journal_failures volume.store.journal = ap (λ (h : Health). h.failed) health in
-    let told = told_err c.from_residual-in_err-apply.result (fault_of fault) c.from_residual-in_err-apply.ensures.1 in
+    let told = is_err_of c.from_residual-in_err-apply.result (fault_of fault) c.from_residual-in_err-apply.ensures.1 in
     let up : old.is_down ≡ false = sym c.is_down.ensures ∙ c.if-is_down.false in
     let short : length c.in_ok-outcome.outcome.updates.items ≤ 48 = omega (arith, c.requires.change.few, c.in_ok-outcome.ensures.done.count) in
     rw told (apply_refused word volume.limits volume.run volume.table old new (with_tree (volume_state_by volume.limits volume.run volume.table old) (edited_by (volume_state_by volume.limits volume.run volume.table old) c.args.edits.now)) _ _ fault
@@ -118,7 +118,7 @@ returns-in_err-apply-clause-brief g c = λ k.
     let new : Log = log_of c.apply.new.self in
     let health = c.in_ok-outcome.ensures.health.stays (λ faulted. cc) in
     let same : mid ≡ old = log_same old mid c.in_ok-outcome.ensures.kept (ap (λ (h : Health). h.is_down) health) in
-    few_in_front old.area old.size (moment old.history) (moment new.history) c.args.self.now.placed
+    few_at_start old.area old.size (moment old.history) (moment new.history) c.args.self.now.placed
     (subst (λ (log : Log). MakesAtMost (2 * (log.area.sectors + 3)) log new) same (c.in_err-apply.ensures.safe.brief k))
 
 pub returns-clause-brief : goal.returns-clause-brief
@@ -129,7 +129,7 @@ returns-clause-brief g c = λ k.
     let new : Log = log_of c.apply.new.self in
     let health = c.in_ok-outcome.ensures.health.stays (λ faulted. cc) in
     let same : mid ≡ old = log_same old mid c.in_ok-outcome.ensures.kept (ap (λ (h : Health). h.is_down) health) in
-    few_in_front old.area old.size (moment old.history) (moment new.history) c.args.self.now.placed
+    few_at_start old.area old.size (moment old.history) (moment new.history) c.args.self.now.placed
     (subst (λ (log : Log). MakesAtMost (2 * (log.area.sectors + 3)) log new) same (c.in_ok-apply.ensures.safe.brief k))
 
 pub returns-in_err-apply-clause-stays : goal.returns-in_err-apply-clause-stays
@@ -138,7 +138,7 @@ returns-in_err-apply-clause-stays g c =
     let volume = c.args.self.now in
     let old : Log = log_of volume.store.journal in
     let new : Log = log_of c.apply.new.self in
-    let told = told_err c.from_residual-in_err-apply.result (fault_of c.in_err-apply.field-0.0) c.from_residual-in_err-apply.ensures.1 in
+    let told = is_err_of c.from_residual-in_err-apply.result (fault_of c.in_err-apply.field-0.0) c.from_residual-in_err-apply.ensures.1 in
     rw told (each_outline (contents new) volume.table ∙ sym (each_outline (contents old) volume.table))
 
 pub invariant_of-self-2 : goal.invariant_of-self-2
@@ -162,26 +162,26 @@ invariant_of-self-2 g c =
     let up : old.is_down ≡ false = sym c.is_down.ensures ∙ c.if-is_down.false in
     let fit : IsTrue (fits volume.limits (edited_by held edits)) =
     c.requires.fitting in
-    let settled : cards_after volume.table outcome ≡ c.settle.new.self = sym c.settle.ensures in
+    let settled : cached_nodes_after volume.table outcome ≡ c.settle.new.self = sym c.settle.ensures in
     record {
       bounded = volume.bounded;
       sized = subst (λ (n : ℕ). IsTrue (is_size n nodes)) size volume.sized;
       limited = volume.limited ∙ ap (λ (n : ℕ). limits_of n nodes) size;
-      formed = subst (λ (cards : List (Option CachedNode)). IsFormed volume.limits (stamp (volume.run + 1) 0) (tree_without_data cards)) settled
+      formed = subst (λ (cached_nodes : List (Option CachedNode)). IsFormed volume.limits (stamp (volume.run + 1) 0) (tree_without_data cached_nodes)) settled
           (formed_after word volume.limits volume.run old volume.table volume.places edits outcome c.requires.change volume.known comes fit);
-      known = subst (λ (cards : List (Option CachedNode)). AreKnownNodes new.size nodes cards outcome.places) settled
-          (subst (λ (n : ℕ). AreKnownNodes n nodes (cards_after volume.table outcome) outcome.places) size
+      known = subst (λ (cached_nodes : List (Option CachedNode)). AreKnownNodes new.size nodes cached_nodes outcome.places) settled
+          (subst (λ (n : ℕ). AreKnownNodes n nodes (cached_nodes_after volume.table outcome) outcome.places) size
           (known_after word volume.limits volume.run old volume.table volume.places edits outcome c.requires.change volume.known comes));
       placed = placed_on new.area old.area new.size old.size safe.area safe.size volume.placed;
-      named = subst (λ (cards : List (Option CachedNode)). AreParents cards c.put_parent.new.parents) settled
+      named = subst (λ (cached_nodes : List (Option CachedNode)). AreParents cached_nodes c.put_parent.new.parents) settled
           (parents_behind word volume.limits volume.run old volume.table volume.places edits outcome c.requires.change volume.known comes volume.limited fit volume.parents c.put_parent.new.parents volume.named
-          (subst (λ (cards : List (Option CachedNode)). PutsParent cards volume.parents c.put_parent.new.parents (put_by edits)) (sym settled)
+          (subst (λ (cached_nodes : List (Option CachedNode)). PutsParent cached_nodes volume.parents c.put_parent.new.parents (put_by edits)) (sym settled)
           (subst (λ (put : Option (ℕ × ℕ)). PutsParent c.settle.new.self volume.parents c.put_parent.new.parents put)
           c.put_by-put.ensures c.put_parent.ensures)));
-      serves = λ k is_up. subst (λ (cards : List (Option CachedNode)). ∥ IsServing new nodes volume.run cards ∥₁) settled
-          (applied_serves word volume.limits volume.run volume.table (cards_after volume.table outcome) old new outcome.updates.items (with_tree held (edited_by held edits)) 0 0
+      serves = λ k is_up. subst (λ (cached_nodes : List (Option CachedNode)). ∥ IsServing new nodes volume.run cached_nodes ∥₁) settled
+          (applied_serves word volume.limits volume.run volume.table (cached_nodes_after volume.table outcome) old new outcome.updates.items (with_tree held (edited_by held edits)) 0 0
           safe volume.placed (omega arith) is_up has (λ kept. volume.serves kept up)
-          (λ kept. behind_serving word kept nodes volume.run old volume.table volume.places edits outcome volume.known.are_cards.count (whole_now volume.known) comes
+          (λ kept. behind_serving word kept nodes volume.run old volume.table volume.places edits outcome volume.known.are_cached_nodes.count (whole_now volume.known) comes
           (subst (λ l. IsFormed l (stamp (volume.run + 1) 0) (edited_by held edits)) volume.limited (c.requires.change.formed fit)) (volume.serves kept up)) k);
     }
 
@@ -205,12 +205,12 @@ returns-clause-volume g c =
     let up : old.is_down ≡ false = sym c.is_down.ensures ∙ c.if-is_down.false in
     let fit : IsTrue (fits volume.limits (edited_by held edits)) =
     c.requires.fitting in
-    subst (λ (cards : List (Option CachedNode)). VolumeChanges word (IsEdited held edits) held (volume_state_by volume.limits volume.run cards new) (journal_failures volume.store.journal) (journal_failures c.apply.new.self) Done)
+    subst (λ (cached_nodes : List (Option CachedNode)). VolumeChanges word (IsEdited held edits) held (volume_state_by volume.limits volume.run cached_nodes new) (journal_failures volume.store.journal) (journal_failures c.apply.new.self) Done)
     (sym c.settle.ensures)
-    (apply_done word volume.limits volume.run volume.table (cards_after volume.table outcome) old new outcome.updates.items (with_tree held (edited_by held edits))
+    (apply_done word volume.limits volume.run volume.table (cached_nodes_after volume.table outcome) old new outcome.updates.items (with_tree held (edited_by held edits))
     (journal_failures volume.store.journal) (journal_failures c.apply.new.self) safe volume.placed (let later = c.in_ok-apply.ensures.answers.later in omega (arith, later, failed))
     (c.in_ok-apply.ensures.answers.stays_up (ap (λ (log : Log). log.is_down) same ∙ up) (λ fault. cc)) has (λ kept. volume.serves kept up)
-    (λ kept. behind_serving word kept nodes volume.run old volume.table volume.places edits outcome volume.known.are_cards.count (whole_now volume.known) c.in_ok-outcome.ensures.done
+    (λ kept. behind_serving word kept nodes volume.run old volume.table volume.places edits outcome volume.known.are_cached_nodes.count (whole_now volume.known) c.in_ok-outcome.ensures.done
     (subst (λ l. IsFormed l (stamp (volume.run + 1) 0) (edited_by held edits)) volume.limited (c.requires.change.formed fit)) (volume.serves kept up))
     (c.in_ok-apply.ensures.answers.none (λ fault. cc) ∙ failed))
 
@@ -233,12 +233,12 @@ returns-clause-shows g c =
     let up : old.is_down ≡ false = sym c.is_down.ensures ∙ c.if-is_down.false in
     let fit : IsTrue (fits volume.limits (edited_by held edits)) =
     c.requires.fitting in
-    subst (λ (cards : List (Option CachedNode)). ShowsTree word (edited_by held edits) (volume_state_by volume.limits volume.run cards new).tree)
+    subst (λ (cached_nodes : List (Option CachedNode)). ShowsTree word (edited_by held edits) (volume_state_by volume.limits volume.run cached_nodes new).tree)
     (sym c.settle.ensures)
     (record {
       outline = outline_after word volume.limits volume.run old volume.table volume.places edits outcome c.requires.change volume.known c.in_ok-outcome.ensures.done (contents new);
-      tree_is = λ k. applied_tree word volume.limits volume.run volume.table (cards_after volume.table outcome) old new outcome.updates.items (with_tree held (edited_by held edits)) 0 0
+      tree_is = λ k. applied_tree word volume.limits volume.run volume.table (cached_nodes_after volume.table outcome) old new outcome.updates.items (with_tree held (edited_by held edits)) 0 0
           safe volume.placed (omega arith) (c.in_ok-apply.ensures.answers.stays_up (ap (λ (log : Log). log.is_down) same ∙ up) (λ fault. cc)) has (λ kept. volume.serves kept up)
-          (λ kept. behind_serving word kept nodes volume.run old volume.table volume.places edits outcome volume.known.are_cards.count (whole_now volume.known) c.in_ok-outcome.ensures.done
+          (λ kept. behind_serving word kept nodes volume.run old volume.table volume.places edits outcome volume.known.are_cached_nodes.count (whole_now volume.known) c.in_ok-outcome.ensures.done
           (subst (λ l. IsFormed l (stamp (volume.run + 1) 0) (edited_by held edits)) volume.limited (c.requires.change.formed fit)) (volume.serves kept up)) k;
     })

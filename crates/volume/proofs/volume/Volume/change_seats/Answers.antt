@@ -15,7 +15,7 @@ use Rattle.volume.specs.Views.{volume_state_by, volume_state, volume_failures}
 use Rattle.volume.proofs.ApplyLaws.{applied_serves, applied_tree, apply_done, apply_refused}
 use Rattle.volume.proofs.FormedLaws.{shows_same}
 use Rattle.volume.proofs.SeatingLaws.{seats_behind, up_applied}
-use Rattle.volume.proofs.ServeLaws.{few_in_front, told_err}
+use Rattle.volume.proofs.ServeLaws.{few_at_start, is_err_of}
 use Rattle.volume.proofs.StandLaws.{large, placed_on}
 use Rattle.volume.proofs.KeepLaws.{left}
 use Rattle.volume.specs.declared.fault.VolumeFault.TheVariants as fault
@@ -25,13 +25,13 @@ pub returns-then-is_down-clause-volume : goal.returns-then-is_down-clause-volume
 returns-then-is_down-clause-volume g c = left g.D.Device.keeps_word _ (volume_state c.args.self.now) (volume_failures c.args.self.now)
 
 pub returns-in_err-updates-clause-shows : goal.returns-in_err-updates-clause-shows
-returns-in_err-updates-clause-shows g c = rw (told_err c.from_residual.result fault.Memory c.from_residual.ensures.1) (tt)
+returns-in_err-updates-clause-shows g c = rw (is_err_of c.from_residual.result fault.Memory c.from_residual.ensures.1) (tt)
 
 pub returns-in_err-updates-clause-volume : goal.returns-in_err-updates-clause-volume
-returns-in_err-updates-clause-volume g c = rw (told_err c.from_residual.result fault.Memory c.from_residual.ensures.1) (left g.D.Device.keeps_word _ (volume_state c.args.self.now) (volume_failures c.args.self.now))
+returns-in_err-updates-clause-volume g c = rw (is_err_of c.from_residual.result fault.Memory c.from_residual.ensures.1) (left g.D.Device.keeps_word _ (volume_state c.args.self.now) (volume_failures c.args.self.now))
 
 pub returns-in_err-apply-clause-shows : goal.returns-in_err-apply-clause-shows
-returns-in_err-apply-clause-shows g c = rw (told_err c.from_residual-in_err-apply.result (fault_of c.in_err-apply.field-0.0) c.from_residual-in_err-apply.ensures.1) (tt)
+returns-in_err-apply-clause-shows g c = rw (is_err_of c.from_residual-in_err-apply.result (fault_of c.in_err-apply.field-0.0) c.from_residual-in_err-apply.ensures.1) (tt)
 
 pub apply-requires : goal.apply-requires
 apply-requires g c =
@@ -47,7 +47,7 @@ returns-in_err-apply-clause-volume g c =
     let old : Log = log_of volume.store.journal in
     let new : Log = log_of c.apply.new.self in
     let fault = c.in_err-apply.field-0.0 in
-    let told = told_err c.from_residual-in_err-apply.result (fault_of fault) c.from_residual-in_err-apply.ensures.1 in
+    let told = is_err_of c.from_residual-in_err-apply.result (fault_of fault) c.from_residual-in_err-apply.ensures.1 in
     let up : old.is_down ≡ false = sym c.is_down.ensures ∙ c.if-is_down.false in
     let held = volume_state_by volume.limits volume.run volume.table old in
     let after : Kept = record { tree = held.tree; seats = edited_all (edits_view c.args.edits.now) held.seats } in
@@ -60,14 +60,14 @@ unfolding volume_state
 returns-in_err-apply-clause-brief g c = λ k.
     let old : Log = log_of c.args.self.now.store.journal in
     let new : Log = log_of c.apply.new.self in
-    few_in_front old.area old.size (moment old.history) (moment new.history) c.args.self.now.placed (c.in_err-apply.ensures.safe.brief k)
+    few_at_start old.area old.size (moment old.history) (moment new.history) c.args.self.now.placed (c.in_err-apply.ensures.safe.brief k)
 
 pub returns-clause-brief : goal.returns-clause-brief
 unfolding volume_state
 returns-clause-brief g c = λ k.
     let old : Log = log_of c.args.self.now.store.journal in
     let new : Log = log_of c.apply.new.self in
-    few_in_front old.area old.size (moment old.history) (moment new.history) c.args.self.now.placed (c.in_ok-apply.ensures.safe.brief k)
+    few_at_start old.area old.size (moment old.history) (moment new.history) c.args.self.now.placed (c.in_ok-apply.ensures.safe.brief k)
 
 pub invariant_of-self : goal.invariant_of-self
 unfolding volume_state

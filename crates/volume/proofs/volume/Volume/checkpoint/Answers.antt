@@ -10,15 +10,15 @@ use Rattle.volume.specs.Refusals.{fault_of}
 use Rattle.volume.specs.Views.{volume_state_by, volume_state, volume_failures}
 use Rattle.volume.proofs.FormedLaws.{shows_same}
 use Rattle.volume.proofs.StandLaws.{placed_on}
-use Rattle.volume.proofs.ServeLaws.{flush_serves, flush_refused, found_up, up_answered, told_err}
+use Rattle.volume.proofs.ServeLaws.{flush_serves, flush_refused, found_up, up_answered, is_err_of}
 use Rattle.volume.proofs.CheckpointLaws.{checkpoint_done, checkpoint_keeps, checkpoint_recent}
 use Rattle.volume.proofs.volume.Volume.checkpoint.Goals as goal
 
 pub returns-in_err-checkpoint-clause-shows : goal.returns-in_err-checkpoint-clause-shows
-returns-in_err-checkpoint-clause-shows g c = rw (told_err c.from_residual.result (fault_of c.in_err-checkpoint.field-0.0) c.from_residual.ensures.1) (tt)
+returns-in_err-checkpoint-clause-shows g c = rw (is_err_of c.from_residual.result (fault_of c.in_err-checkpoint.field-0.0) c.from_residual.ensures.1) (tt)
 
 pub returns-in_err-checkpoint-clause-recent : goal.returns-in_err-checkpoint-clause-recent
-returns-in_err-checkpoint-clause-recent g c = rw (told_err c.from_residual.result (fault_of c.in_err-checkpoint.field-0.0) c.from_residual.ensures.1) (λ keeps. tt)
+returns-in_err-checkpoint-clause-recent g c = rw (is_err_of c.from_residual.result (fault_of c.in_err-checkpoint.field-0.0) c.from_residual.ensures.1) (λ keeps. tt)
 
 pub invariant_of-self : goal.invariant_of-self
 invariant_of-self g c =
@@ -48,7 +48,7 @@ returns-in_err-checkpoint-clause-volume g c =
     let old : Log = log_of volume.store.journal in
     let new : Log = log_of c.checkpoint.new.self in
     let fault = c.in_err-checkpoint.field-0.0 in
-    let told = told_err c.from_residual.result (fault_of fault) c.from_residual.ensures.1 in
+    let told = is_err_of c.from_residual.result (fault_of fault) c.from_residual.ensures.1 in
     rw told (flush_refused g.D.Device.keeps_word (Stays (volume_state_by volume.limits volume.run volume.table old)) volume.limits volume.run volume.table old new _ _ fault c.in_err-checkpoint.ensures.safe volume.placed
     c.in_err-checkpoint.ensures.answers c.in_err-checkpoint.ensures.refuses)
 

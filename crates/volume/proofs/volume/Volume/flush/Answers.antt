@@ -11,11 +11,11 @@ use Rattle.volume.specs.Refusals.{fault_of}
 use Rattle.volume.specs.Views.{volume_state_by, volume_state, volume_failures}
 use Rattle.volume.proofs.FormedLaws.{shows_same}
 use Rattle.volume.proofs.StandLaws.{placed_on}
-use Rattle.volume.proofs.ServeLaws.{flush_done, flush_keeps, flush_serves, flush_refused, found_up, up_answered, told_err}
+use Rattle.volume.proofs.ServeLaws.{flush_done, flush_keeps, flush_serves, flush_refused, found_up, up_answered, is_err_of}
 use Rattle.volume.proofs.volume.Volume.flush.Goals as goal
 
 pub returns-in_err-flush-clause-shows : goal.returns-in_err-flush-clause-shows
-returns-in_err-flush-clause-shows g c = rw (told_err c.from_residual.result (fault_of c.in_err-flush.field-0.0) c.from_residual.ensures.1) (tt)
+returns-in_err-flush-clause-shows g c = rw (is_err_of c.from_residual.result (fault_of c.in_err-flush.field-0.0) c.from_residual.ensures.1) (tt)
 
 pub invariant_of-self : goal.invariant_of-self
 invariant_of-self g c =
@@ -45,7 +45,7 @@ returns-in_err-flush-clause-volume g c =
     let old : Log = log_of volume.store.journal in
     let new : Log = log_of c.flush.new.self in
     let fault = c.in_err-flush.field-0.0 in
-    let told = told_err c.from_residual.result (fault_of fault) c.from_residual.ensures.1 in
+    let told = is_err_of c.from_residual.result (fault_of fault) c.from_residual.ensures.1 in
     rw told (flush_refused g.D.Device.keeps_word (IsTree (volume_state_by volume.limits volume.run volume.table old) (tree_of (contents old) volume.table)) volume.limits volume.run volume.table old new _ _ fault c.in_err-flush.ensures.safe volume.placed
     c.in_err-flush.ensures.answers c.in_err-flush.ensures.refuses)
 

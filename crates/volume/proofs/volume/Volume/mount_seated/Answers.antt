@@ -1,6 +1,6 @@
 use Rattle.std.proofs.Common.{ℕ, ◌<◌, ◌∙◌, Err, ap, sym, subst, arith}
 use Rattle.disk.specs.Moments.{History, seen}
-use Rattle.journal.specs.Layout.{in_front}
+use Rattle.journal.specs.Layout.{log_at_start}
 use Rattle.journal.specs.Journal.{log_of, journal_failures}
 use Rattle.journal.specs.MountAnswers as journal
 use Rattle.volume.specs.VolumeState.{IsJustMounted}
@@ -33,7 +33,7 @@ begin-requires-clause-base g c = λ k.
     let D = g.D.Device in
     let enough = large c.in-Ok.found.sectors c.in-Ok.found.nodes c.in-Ok.ensures.volume.sized in
     record {
-      first = first_kept (in_front (D.size c.read_mountable_superblock.new.device)) (seen (D.history c.read_mountable_superblock.new.device).now) (log_of c.in-Ok-mount_cached.journal).base
+      first = first_kept (log_at_start (D.size c.read_mountable_superblock.new.device)) (seen (D.history c.read_mountable_superblock.new.device).now) (log_of c.in-Ok-mount_cached.journal).base
           (omega (arith, enough, c.in-Ok.ensures.volume.size, c.read_mountable_superblock.ensures.same_size)) ((c.in-Ok-mount_cached.ensures.mounted k).base)
           ∙ (ap (λ (h : History). seen h.now 0) c.read_mountable_superblock.ensures.history ∙ (c.in-Ok.ensures.told k).1);
       sectors = λ n within. (c.in-Ok-mount_cached.ensures.mounted k).sectors n within;
@@ -57,8 +57,8 @@ returns-in-Err-mount_cached-clause-gives_back g c =
             none = λ other. back.none (λ is. other (c.into.ensures ∙ ap gate_fault is));
           });
       refused = λ k.
-          let told : journal.IsRecoveryRefused (in_front sectors) old new fault = subst (λ (n : ℕ). journal.IsRecoveryRefused (in_front n) old new fault) c.read_mountable_superblock.ensures.same_size
-          (subst (λ (h : History). journal.IsRecoveryRefused (in_front (D.size c.read_mountable_superblock.new.device)) h new fault) c.read_mountable_superblock.ensures.history (c.in-Err-mount_cached.ensures.refused k)) in
+          let told : journal.IsRecoveryRefused (log_at_start sectors) old new fault = subst (λ (n : ℕ). journal.IsRecoveryRefused (log_at_start n) old new fault) c.read_mountable_superblock.ensures.same_size
+          (subst (λ (h : History). journal.IsRecoveryRefused (log_at_start (D.size c.read_mountable_superblock.new.device)) h new fault) c.read_mountable_superblock.ensures.history (c.in-Err-mount_cached.ensures.refused k)) in
           subst (IsMountRefused sectors old new) (sym c.into.ensures)
           (gate_refused sectors old new (c.in-Ok.ensures.told k).0 told.refused told.brief fault told.damaged (λ is. ap D.history (back.memory is) ∙ c.read_mountable_superblock.ensures.history));
     }
@@ -72,8 +72,8 @@ returns-in-Ok-mount_cached-clause-serves g c =
     let log = log_of c.in-Ok-mount_cached.journal in
     let parts = sized found.sectors found.nodes c.in-Ok.ensures.volume.sized in
     let word = D.keeps_word in
-    let mounted : word → journal.HasRecovered (in_front sectors) old log = λ k. subst (λ (n : ℕ). journal.HasRecovered (in_front n) old log) c.read_mountable_superblock.ensures.same_size
-    (subst (λ (h : History). journal.HasRecovered (in_front (D.size c.read_mountable_superblock.new.device)) h log) c.read_mountable_superblock.ensures.history (c.in-Ok-mount_cached.ensures.mounted k)) in
+    let mounted : word → journal.HasRecovered (log_at_start sectors) old log = λ k. subst (λ (n : ℕ). journal.HasRecovered (log_at_start n) old log) c.read_mountable_superblock.ensures.same_size
+    (subst (λ (h : History). journal.HasRecovered (log_at_start (D.size c.read_mountable_superblock.new.device)) h log) c.read_mountable_superblock.ensures.history (c.in-Ok-mount_cached.ensures.mounted k)) in
     if_ok_all c.begin.result word _ _ _ _
     (λ mounted_it new counted begun. record {
       new = subst (λ (n : ℕ). IsJustMounted n (volume_state mounted_it.volume)) (c.in-Ok-mount_cached.ensures.new.size ∙ c.read_mountable_superblock.ensures.same_size) new;
@@ -93,8 +93,8 @@ returns-in-Ok-mount_cached-clause-gives_back g c =
     let log = log_of c.in-Ok-mount_cached.journal in
     let parts = sized found.sectors found.nodes c.in-Ok.ensures.volume.sized in
     let word = D.keeps_word in
-    let mounted : word → journal.HasRecovered (in_front sectors) old log = λ k. subst (λ (n : ℕ). journal.HasRecovered (in_front n) old log) c.read_mountable_superblock.ensures.same_size
-    (subst (λ (h : History). journal.HasRecovered (in_front (D.size c.read_mountable_superblock.new.device)) h log) c.read_mountable_superblock.ensures.history (c.in-Ok-mount_cached.ensures.mounted k)) in
+    let mounted : word → journal.HasRecovered (log_at_start sectors) old log = λ k. subst (λ (n : ℕ). journal.HasRecovered (log_at_start n) old log) c.read_mountable_superblock.ensures.same_size
+    (subst (λ (h : History). journal.HasRecovered (log_at_start (D.size c.read_mountable_superblock.new.device)) h log) c.read_mountable_superblock.ensures.history (c.in-Ok-mount_cached.ensures.mounted k)) in
     if_err_all c.begin.result word _ _ _
     (λ unmounted back begun. record {
       back = back_since D.size D.failed sectors (D.failed c.args.device) log.size (journal_failures c.in-Ok-mount_cached.journal) unmounted

@@ -10,4 +10,4 @@ parent_of-requires-clause-tree g c =
     let volume = c.args.self.now in
     let nodes = volume.limits.nodes in
     formed_tree volume.limits (names_most (log_of volume.store.journal).size nodes volume.limits volume.limited) (stamp (volume.run + 1) 0)
-    nodes (mark_by (148 + nodes) volume.places) volume.table volume.known.are_cards volume.formed
+    nodes (mark_by (148 + nodes) volume.places) volume.table volume.known.are_cached_nodes volume.formed

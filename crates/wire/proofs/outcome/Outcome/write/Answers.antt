@@ -1,8 +1,8 @@
-use Rattle.xdr.proofs.Writing.{wrote_undone, unchanged}
+use Rattle.xdr.proofs.Writing.{failed_write, unchanged}
 use Rattle.wire.proofs.outcome.Outcome.write.Goals as goal
 
 pub returns-clause-wrote : goal.returns-clause-wrote
-returns-clause-wrote c = search wrote_undone
+returns-clause-wrote c = search failed_write
 
 pub returns-clause-err : goal.returns-clause-err
 returns-clause-err c = search unchanged

@@ -2,7 +2,7 @@ use Rattle.std.proofs.Common.{◌≡◌, ◌∙◌, ap}
 use Rattle.xdr.specs.Forms.{counted}
 use Rattle.xdr.proofs.Writing.{wrote_on, wrote_exit}
 use Rattle.model.specs.Attributes.Attribute.{trimmed}
-use Rattle.wire_attributes.proofs.AnswerLaws.{words, values_text, front_written, all_written}
+use Rattle.wire_attributes.proofs.AnswerLaws.{words, values_text, prefix_written, all_written}
 use Rattle.wire_attributes.proofs.answer.AttributesAnswer.write.Goals as goal
 
 pub returns-in_err-write_words : goal.returns-in_err-write_words
@@ -10,7 +10,7 @@ returns-in_err-write_words c =
     let node = c.args.self.now.node in
     let asked = c.args.self.now.asked.now in
     let is : c.trimmed.result.now ≡ words node asked = c.trimmed.ensures.value ∙ ap trimmed (c.as_slice.ensures.numbers ∙ c.common.ensures) in
-    front_written node asked c.trimmed.result.now is (wrote_exit (counted (values_text node asked)) c.from_residual.ensures.1 c.in_err-write_words.ensures)
+    prefix_written node asked c.trimmed.result.now is (wrote_exit (counted (values_text node asked)) c.from_residual.ensures.1 c.in_err-write_words.ensures)
 
 pub returns-in_err-write_u32 : goal.returns-in_err-write_u32
 returns-in_err-write_u32 c =

@@ -1,0 +1,81 @@
+-- The sectors of a seat, byte by byte. A free place has nine sectors of zeros. The first sector of
+-- a taken place has `SESS` and says whose it is; four follow for each of two slots.
+use Rattle.std.specs.Prelude.{◌≡◌, ◌≤◌, ◌<◌, ◌-◌, ◌*◌, ◌/◌, ◌%◌, ◌^◌, ◌==◌, ◌++◌, ℕ, List, [], Option, Some, None, codes, drop, length, replicate, slice_index_or, take, if◌then◌else◌}
+use Rattle.std.specs.Int.{w32, to_be_bytes}
+use Rattle.std.specs.List.{AllByRecursion}
+use Rattle.model_tree.specs.Seats.Seats.{HeldReply, Seat, Seats}
+
+-- What can be encoded
+
+pub record IsHeld (held : HeldReply) : Type 0 where
+  pub number : held.number < 2 ^ 32
+  pub uid : held.uid < 2 ^ 32
+  pub result : length held.result ≤ 16360
+
+abbrev pub IsSlot : Option HeldReply → Type 0
+IsSlot None = Unit {0}
+IsSlot (Some held) = IsHeld held
+
+pub record IsSeat (seat : Seat) : Type 0 where
+  pub session : length seat.session ≡ 16
+  pub owner : length seat.owner ≤ 1024
+  pub principal : seat.principal < 2 ^ 32
+  pub some : 1 ≤ length seat.slots
+  pub few : length seat.slots ≤ 2
+  pub slots : AllByRecursion IsSlot seat.slots
+
+abbrev pub IsSeatPlace : Option Seat → Type 0
+IsSeatPlace None = Unit {0}
+IsSeatPlace (Some seat) = IsSeat seat
+
+-- the places of a volume
+pub record ArePlaces (seats : Seats) : Type 0 where
+  pub five : length seats ≡ 5
+  pub each : AllByRecursion IsSeatPlace seats
+
+-- How
+
+abbrev pub head_prefix : Seat → List ℕ
+head_prefix seat =
+    codes "SESS" ++ seat.session ++ to_be_bytes w32 seat.principal
+    ++ to_be_bytes w32 (length seat.slots) ++ to_be_bytes w32 (length seat.owner)
+
+unfoldable pub head_sector : Seat → List ℕ
+head_sector seat =
+    head_prefix seat ++ seat.owner ++ replicate (1024 - length seat.owner) 0 ++ replicate 3040 0
+
+-- the four sectors of a slot
+abbrev pub held_prefix : HeldReply → List ℕ
+held_prefix held =
+    to_be_bytes w32 1 ++ to_be_bytes w32 held.number ++ to_be_bytes w32 held.uid
+    ++ to_be_bytes w32 (length held.result) ++ replicate 8 0
+
+unfoldable pub slot_text : Option HeldReply → List ℕ
+slot_text None = replicate 16384 0
+slot_text (Some held) =
+    held_prefix held ++ held.result ++ replicate (16360 - length held.result) 0
+
+abbrev pub part_of : (k : ℕ) → List ℕ → List ℕ
+part_of k text = take 4096 (drop (4096 * k) text)
+
+abbrev pub slot_at : ℕ → Seat → Option HeldReply
+slot_at slot seat = slice_index_or seat.slots slot None
+
+-- sector k of nine
+unfoldable pub seat_sector : (k : ℕ) → Option Seat → List ℕ
+seat_sector k None = replicate 4096 0
+seat_sector k (Some seat) =
+    if k == 0 then head_sector seat
+    else part_of ((k - 1) % 4) (slot_text (slot_at ((k - 1) / 4) seat))
+
+-- these nine sectors are those of the place
+abbrev pub AreSectorsOf : (ℕ → List ℕ) → Option Seat → Type 0
+AreSectorsOf sectors place = (k : ℕ) → k < 9 → sectors k ≡ seat_sector k place
+
+-- the sectors of a list by their numbers
+abbrev pub sector_of : List (List ℕ) → ℕ → List ℕ
+sector_of sectors k = slice_index_or sectors k []
+
+-- sector n of all, nine for each place
+abbrev pub seats_sector : (n : ℕ) → Seats → List ℕ
+seats_sector n seats = seat_sector (n % 9) (slice_index_or seats (n / 9) None)
