@@ -203,7 +203,7 @@ fn is_empty(fs: &Fs<Shelf>) -> Result<bool, StepFault> {
         max_count: LISTING_BYTES,
         asked: &[],
     };
-    Ok(fs.list(&caller(), listing)?.entries.is_empty())
+    Ok(fs.read_dir(&caller(), listing)?.entries.is_empty())
 }
 
 /// The request to make a directory.

@@ -28,7 +28,7 @@ pub enum Call {
     /// RENAME of the last file of a directory within it, and back.
     Rename(Directory),
     /// READDIR of all names of the directory with few files.
-    List,
+    ReadDir,
 }
 
 impl fmt::Display for Call {
@@ -51,7 +51,7 @@ impl fmt::Display for Call {
                 let names = directory.files;
                 write!(f, "file renamed among {names} names")
             }
-            Call::List => f.write_str("page of 4 names listed"),
+            Call::ReadDir => f.write_str("page of 4 names listed"),
         }
     }
 }
@@ -69,7 +69,7 @@ impl Calls {
     pub fn new(alloc: Global, tree: Tree) -> anyhow::Result<Calls> {
         Ok(Calls {
             tree,
-            call: Call::List,
+            call: Call::ReadDir,
             read: Vec::with_capacity(alloc, TRANSFER_BYTES)?,
         })
     }
@@ -120,7 +120,7 @@ impl Calls {
         Ok(())
     }
 
-    fn list(&self) -> anyhow::Result<()> {
+    fn read_dir(&self) -> anyhow::Result<()> {
         let Directory { number, files, .. } = self.tree.few;
         let listing = Listing {
             directory: number,
@@ -129,7 +129,7 @@ impl Calls {
             max_count: PAGE_BYTES,
             asked: &[],
         };
-        let page = self.tree.fs.list(&caller(), listing)?;
+        let page = self.tree.fs.read_dir(&caller(), listing)?;
         anyhow::ensure!(page.entries.len() == files as usize, "another page");
         Ok(())
     }
@@ -140,7 +140,7 @@ impl Calls {
             Call::Read(file) => self.read(file)?,
             Call::LookUp(directory) => self.look_up(directory)?,
             Call::Rename(directory) => self.rename(directory, i % 2 == 1)?,
-            Call::List => self.list()?,
+            Call::ReadDir => self.read_dir()?,
         }
         Ok(())
     }

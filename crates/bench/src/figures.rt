@@ -95,7 +95,7 @@ fn print_all_calls<R: Clock + Print>(
     if let Some(long) = long {
         print_in_file(rt, measure, calls, long)?;
     }
-    print_call(rt, measure, calls, Call::List)
+    print_call(rt, measure, calls, Call::ReadDir)
 }
 
 fn print_in_directory<R: Clock + Print>(

@@ -29,7 +29,7 @@ impl<D: Device> Reading<'_, '_, D> {
     ghost use Rattle.compound.specs.Readings.{ReadsAs};
 
     /// READDIR: a page of the current directory, of the entries after a cookie.
-    pub(crate) fn list(&self, arguments: &ReadDirArguments) -> Result<Executed, Fault>
+    pub(crate) fn read_dir(&self, arguments: &ReadDirArguments) -> Result<Executed, Fault>
         ensures { OrMemory result (ReadsAs self.now
             (operations.Argument.ReadDir (read_dir_view arguments.now))) }
     {
@@ -38,7 +38,10 @@ impl<D: Device> Reading<'_, '_, D> {
             Ok(number) => number,
             Err(status) => return Ok(running.refuse(Operation::ReadDir, status)),
         };
-        match self.fs.list(running.cred, listing(directory, arguments)) {
+        match self
+            .fs
+            .read_dir(running.cred, listing(directory, arguments))
+        {
             Ok(page) => {
                 let values = encode(running.alloc, &page)?;
                 Ok(running.settle_encoded(Operation::ReadDir, values))

@@ -51,7 +51,7 @@ impl Running<'_> {
             Argument::PutFh(handle) => Ok(reading.put_handle(handle)),
             Argument::PutRootFh => Ok(self.put_root()),
             Argument::Read(arguments) => self.read(engine, arguments),
-            Argument::ReadDir(arguments) => reading.list(arguments),
+            Argument::ReadDir(arguments) => reading.read_dir(arguments),
             Argument::Remove(name) => self.remove(engine, name),
             Argument::Rename(arguments) => self.rename(engine, arguments),
             Argument::RestoreFh => Ok(self.restore_handle()),

@@ -132,7 +132,7 @@ impl Names {
     }
 
     /// How many names there are.
-    pub fn count(&self) -> usize
+    pub fn len(&self) -> usize
         ensures count { result ≡ length self.now }
         ensures names { IsDirectory self.now }
     {
@@ -241,7 +241,7 @@ impl Names {
     }
 
     /// Writes the sector of the records from `first` on, 15 at most.
-    pub fn to_sector(&self, first: usize, sector: &mut [u8; SIZE])
+    pub fn write_sector(&self, first: usize, sector: &mut [u8; SIZE])
         ensures { sector.new ≡ directory_sector (take RECORDS (drop first self.now)) }
     {
         let from = first.min(self.records.len());

@@ -58,7 +58,7 @@ impl BlockList {
     }
 
     /// How many blocks there are, holes included.
-    pub fn count(&self) -> u32
+    pub fn len(&self) -> u32
         ensures count { result ≡ length self.now }
         ensures most { length self.now ≤ BlockList.MAX_BLOCKS }
     {

@@ -59,7 +59,7 @@ impl Bitmap {
     }
 
     /// Writes bitmap sector `part`, which encodes the places from `32768 * part` on.
-    pub fn to_sector(&self, part: u32, sector: &mut [u8; SIZE])
+    pub fn write_sector(&self, part: u32, sector: &mut [u8; SIZE])
         requires { part < parts (length self.now) }
         ensures { ShowsPlaces sector.new self.now (SECTOR_PLACES * part) }
     {
@@ -79,7 +79,7 @@ impl Bitmap {
     }
 
     /// How many places there are, used or free.
-    pub fn count(&self) -> u32
+    pub fn len(&self) -> u32
         ensures { result ≡ length self.now }
     {
         self.count

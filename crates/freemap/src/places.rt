@@ -50,11 +50,11 @@ impl SharedBitmap {
     }
 
     /// Writes bitmap sector `part`, which encodes the places from `32768 * part` on.
-    pub fn to_sector(&self, part: u32, sector: &mut [u8; SIZE])
+    pub fn write_sector(&self, part: u32, sector: &mut [u8; SIZE])
         requires { part < parts (length self.now) }
         ensures { ShowsPlaces sector.new self.now (SECTOR_PLACES * part) }
     {
-        self.set.to_sector(part, sector);
+        self.set.write_sector(part, sector);
     }
 
     /// Whether bitmap sector `part` is the same of both.

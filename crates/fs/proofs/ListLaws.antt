@@ -16,15 +16,15 @@ use Rattle.model_tree.specs.Trees.Keyed.{Keyed, at, is_key, with, in_place_of, b
 use Rattle.model.specs.Operations.Need.{Right, granted_on, is_granted, are_granted, here}
 use Rattle.model.specs.Attributes.NodeAttributes.{unreadable}
 use Rattle.model.specs.Operations.Operation.{Argument, Attributes, ReadDirArguments}
-use Rattle.model.specs.Operations.ReadDir.{asks_errors, may_read_list, listed_entry, names_after, all_entries, page, page_bytes, page_room, page_refusals, listing_rights}
+use Rattle.model.specs.Operations.ReadDir.{asks_errors, may_read_acl, listed_entry, names_after, all_entries, page, page_bytes, page_room, page_refusals, listing_rights}
 use Rattle.model_tree.specs.Refusals.Refusal.{first_refusal, refused_or}
-use Rattle.model.specs.Operations.SetAttr.{attributes_at, asks_lists}
+use Rattle.model.specs.Operations.SetAttr.{attributes_at, asks_acls}
 use Rattle.model.specs.Operations.Step.{State, current, refusals, change_refusals, without_rights, effect, does, answered, refused, unless_refused}
 use Rattle.model_tree.specs.Trees.Tree.{Tree, Node, DirEntry, is_directory_at, names_at}
 use Rattle.model_tree.proofs.Facts.BooleanLaws.{and_false, alone}
 use Rattle.model.proofs.Operations.RefusalLaws.{or_else}
 use Rattle.fs.specs.OnTree.{IsState}
-use Rattle.fs.specs.Listing.{list_refusals, may_read_lists, page_of, shown_attributes, shown_entry}
+use Rattle.fs.specs.Listing.{list_refusals, may_read_acls, page_of, shown_attributes, shown_entry}
 use Rattle.fs.proofs.FileSteps.{or_none, does_by}
 
 module _ {A : Type 0} (x y : A) where
@@ -50,34 +50,34 @@ others_passed true false others passed = absurd (cc)
 
 -- an entry whose list hides nothing, or may be read
 pub attributes_shown : (limits : Limits) (cred : Cred) (hides : Bool) (bitmap : List ℕ) (number : ℕ) (found : Option Node)
-    → (hides ≡ false) ⊎ (may_read_list cred found ≡ true)
+    → (hides ≡ false) ⊎ (may_read_acl cred found ≡ true)
     → shown_attributes limits cred hides bitmap number found ≡ attributes_at limits bitmap number found
 attributes_shown limits cred hides bitmap number found which =
-    chosen unreadable (attributes_at limits bitmap number found) hides (may_read_list cred found) which
+    chosen unreadable (attributes_at limits bitmap number found) hides (may_read_acl cred found) which
 
 -- the entries are the definition's if each list was tested before, or hides its node
 
 module _ (limits : Limits) (tree : Tree) (cred : Cred) (bitmap : List ℕ) where
   abbrev may : ℕ × DirEntry → Bool
-  may name = may_read_list cred (at name.1.number tree)
+  may name = may_read_acl cred (at name.1.number tree)
 
-  one_shown : (name : ℕ × DirEntry) (others : Bool) → ((asks_lists bitmap && not (asks_errors bitmap)) && not (may name && others)) ≡ false
-      → shown_entry limits tree cred (asks_lists bitmap && asks_errors bitmap) bitmap name ≡ listed_entry limits tree cred bitmap name
+  one_shown : (name : ℕ × DirEntry) (others : Bool) → ((asks_acls bitmap && not (asks_errors bitmap)) && not (may name && others)) ≡ false
+      → shown_entry limits tree cred (asks_acls bitmap && asks_errors bitmap) bitmap name ≡ listed_entry limits tree cred bitmap name
   one_shown name others passed =
       ap (λ (shown : Attributes). record { cookie = name.0; name = name.1.name; attributes = shown })
-      (same_choice unreadable (attributes_at limits bitmap name.1.number (at name.1.number tree)) (asks_lists bitmap) (asks_errors bitmap) (may name) others passed)
+      (same_choice unreadable (attributes_at limits bitmap name.1.number (at name.1.number tree)) (asks_acls bitmap) (asks_errors bitmap) (may name) others passed)
 
-  each_shown : (names : Keyed DirEntry) → ((asks_lists bitmap && not (asks_errors bitmap)) && not (list_all may names)) ≡ false
-      → map (shown_entry limits tree cred (asks_lists bitmap && asks_errors bitmap) bitmap) names ≡ map (listed_entry limits tree cred bitmap) names
+  each_shown : (names : Keyed DirEntry) → ((asks_acls bitmap && not (asks_errors bitmap)) && not (list_all may names)) ≡ false
+      → map (shown_entry limits tree cred (asks_acls bitmap && asks_errors bitmap) bitmap) names ≡ map (listed_entry limits tree cred bitmap) names
   each_shown [] passed = refl
   each_shown (name ∷ rest) passed =
       ap₂ (λ (entry : Entry) (others : List Entry). entry ∷ others) (one_shown name (list_all may rest) passed)
-      (each_shown rest (others_passed (asks_lists bitmap && not (asks_errors bitmap)) (may name) (list_all may rest) passed))
+      (each_shown rest (others_passed (asks_acls bitmap && not (asks_errors bitmap)) (may name) (list_all may rest) passed))
 
 -- The right to read the list of each entry
 
 module _ (tree : Tree) (cred : Cred) where
-  one_read : (found : Option Node) → (granted_on found cred read_acl || false) ≡ may_read_list cred found
+  one_read : (found : Option Node) → (granted_on found cred read_acl || false) ≡ may_read_acl cred found
   one_read None = refl
   one_read (Some node) = or_false (granted_on (Some node) cred read_acl)
     where
@@ -87,7 +87,7 @@ module _ (tree : Tree) (cred : Cred) where
 
   each_read : (names : Keyed DirEntry)
       → list_all (list_any (is_granted tree cred)) (map (λ (name : ℕ × DirEntry). record { number = name.1.number; mask = read_acl } ∷ []) names)
-      ≡ list_all (λ (name : ℕ × DirEntry). may_read_list cred (at name.1.number tree)) names
+      ≡ list_all (λ (name : ℕ × DirEntry). may_read_acl cred (at name.1.number tree)) names
   each_read [] = refl
   each_read (name ∷ rest) = ap₂ (λ (a b : Bool). a && b) (one_read (at name.1.number tree)) (each_read rest)
 
@@ -170,8 +170,8 @@ module _ (limits : Limits) (tree : Tree) (cred : Cred) (number : ℕ) (state : S
       let file = not (is_directory_at state.tree (current state)) in
       let granted = granted_on (at (current state) state.tree) state.context.cred read_data in
       let other = not (arguments.cookie == 0) && not (bytes_eq arguments.verifier (replicate 8 0)) in
-      let asks = asks_lists arguments.bitmap && not (asks_errors arguments.bitmap) in
-      let may = may_read_lists state.tree state.context.cred (current state) arguments.cookie in
+      let asks = asks_acls arguments.bitmap && not (asks_errors arguments.bitmap) in
+      let may = may_read_acls state.tree state.context.cred (current state) arguments.cookie in
       let prefix : Bool → Bool → Option Status = λ g r. refused_or stale status.Stale (refused_or file status.NotDir (refused_or (not g) status.Access (refused_or other status.NotSame (refused_or r status.Access behind)))) in
       let named = names_after arguments.cookie (names_at state.tree (current state)) in
       let rights = map (λ (name : ℕ × DirEntry). record { number = name.1.number; mask = read_acl } ∷ []) named in
@@ -199,7 +199,7 @@ module _ (limits : Limits) (tree : Tree) (cred : Cred) (number : ℕ) (state : S
   unfolding page
   same_page = ap (page_of (page_room limits arguments)) same_entries
 
-  pub all_shown : (hides : Bool) → hides ≡ (asks_lists arguments.bitmap && asks_errors arguments.bitmap) → first_refusal (list_refusals tree cred number arguments) ≡ None
+  pub all_shown : (hides : Bool) → hides ≡ (asks_acls arguments.bitmap && asks_errors arguments.bitmap) → first_refusal (list_refusals tree cred number arguments) ≡ None
       → map (shown_entry limits tree cred hides arguments.bitmap) (names_after arguments.cookie (names_at tree number)) ≡ all
   all_shown hides is passed =
       ap (λ (b : Bool). map (shown_entry limits tree cred b arguments.bitmap) (names_after arguments.cookie (names_at tree number))) is

@@ -12,7 +12,7 @@ use Rattle.model_tree.specs.Trees.Keyed.{at}
 use Rattle.model.specs.Operations.Need.{granted_on}
 use Rattle.model.specs.Attributes.NodeAttributes.{node_attributes}
 use Rattle.model.specs.Operations.Operation.{Argument}
-use Rattle.model.specs.Operations.SetAttr.{asks_lists}
+use Rattle.model.specs.Operations.SetAttr.{asks_acls}
 use Rattle.model.specs.Operations.Step.{State, current, refusals, effect, does, refused, answered, moved_to}
 use Rattle.model_tree.specs.Trees.Tree.{Tree, Node, is_directory, root}
 use Rattle.fs.specs.OnTree.{IsState}
@@ -39,17 +39,17 @@ module _ (limits : Limits) (tree : Tree) (cred : Cred) (number : ℕ) (state : S
     attributes_gone gone = (let here = node_is None gone in rw (is.has_current, here) refl)
 
     module _ (node : Node) (there : at number tree ≡ Some node) where
-      pub attributes_denied : asks_lists bitmap ≡ true → granted_on (Some node) cred read_acl ≡ false
+      pub attributes_denied : asks_acls bitmap ≡ true → granted_on (Some node) cred read_acl ≡ false
           → does limits state now (Argument.GetAttr bitmap) ≡ refused state (Argument.GetAttr bitmap) status.Access
       unfolding does refusals effect
       attributes_denied asked denied = (let here = node_is (Some node) there in rw (is.has_current, asked, here, is.cred_is, denied) refl)
 
-      pub attributes_unlisted : asks_lists bitmap ≡ false
+      pub attributes_unlisted : asks_acls bitmap ≡ false
           → does limits state now (Argument.GetAttr bitmap) ≡ answered state (Answer.GetAttr (node_attributes limits bitmap number node))
       unfolding does refusals effect
       attributes_unlisted asked = (let here = node_is (Some node) there in rw (is.has_current, asked, here, is.current_is) refl)
 
-      pub attributes_granted : asks_lists bitmap ≡ true → granted_on (Some node) cred read_acl ≡ true
+      pub attributes_granted : asks_acls bitmap ≡ true → granted_on (Some node) cred read_acl ≡ true
           → does limits state now (Argument.GetAttr bitmap) ≡ answered state (Answer.GetAttr (node_attributes limits bitmap number node))
       unfolding does refusals effect
       attributes_granted asked allowed = (let here = node_is (Some node) there in rw (is.has_current, asked, here, is.cred_is, allowed, is.current_is) refl)

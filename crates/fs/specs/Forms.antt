@@ -47,7 +47,8 @@ replacing directory name None = []
 replacing directory name (Some target) =
     edit.DropName directory target.0 name ∷ edit.DropNode target.1 ∷ []
 
-abbrev pub moving : (number : ℕ) → (old new : Place) → (old_metadata new_metadata : Metadata) → List Edit
+abbrev pub moving : (number : ℕ) → (old new : Place) → (old_metadata new_metadata : Metadata)
+    → List Edit
 moving number old new old_metadata new_metadata =
     edit.DropName old.directory old.stamp old.name
     ∷ edit.PutName new.directory new.stamp new.name number

@@ -10,9 +10,9 @@ use Rattle.model_tree.specs.Trees.Keyed.{at, is_key}
 use Rattle.model.specs.Operations.Need.{granted_on}
 use Rattle.model.specs.Attributes.NodeAttributes.{unreadable}
 use Rattle.model.specs.Operations.Operation.{Argument, Attributes, ReadDirArguments}
-use Rattle.model.specs.Operations.ReadDir.{asks_errors, cookie_refusals, fitting, may_read_list, names_after}
+use Rattle.model.specs.Operations.ReadDir.{asks_errors, cookie_refusals, fitting, may_read_acl, names_after}
 use Rattle.model_tree.specs.Refusals.Refusal.{Refusals}
-use Rattle.model.specs.Operations.SetAttr.{attributes_at, asks_lists}
+use Rattle.model.specs.Operations.SetAttr.{attributes_at, asks_acls}
 use Rattle.model.specs.Operations.Step.{State, answered, refused}
 use Rattle.model_tree.specs.Trees.Tree.{Tree, Node, DirEntry, is_directory_at, names_at}
 use Rattle.fs.specs.declared.fault.FsFault.{FsFault}
@@ -55,9 +55,9 @@ PageFits page = AllByRecursion EntryFits page.entries.items
 -- The tests of a current filehandle and all others except that of the page's size, in their order
 
 -- whether the lists of all entries after the cookie may be read
-abbrev pub may_read_lists : Tree → Cred → (number cookie : ℕ) → Bool
-may_read_lists tree cred number cookie =
-    list_all (λ (name : ℕ × DirEntry). may_read_list cred (at name.1.number tree))
+abbrev pub may_read_acls : Tree → Cred → (number cookie : ℕ) → Bool
+may_read_acls tree cred number cookie =
+    list_all (λ (name : ℕ × DirEntry). may_read_acl cred (at name.1.number tree))
     (names_after cookie (names_at tree number))
 
 abbrev pub list_refusals : Tree → Cred → (number : ℕ) → ReadDirArguments → Refusals
@@ -67,8 +67,8 @@ list_refusals tree cred number arguments =
     ∷ (not (granted_on (at number tree) cred read_data), status.Access)
     ∷ (cookie_refusals arguments
     ++ ((
-      (asks_lists arguments.bitmap && not (asks_errors arguments.bitmap))
-          && not (may_read_lists tree cred number arguments.cookie),
+      (asks_acls arguments.bitmap && not (asks_errors arguments.bitmap))
+          && not (may_read_acls tree cred number arguments.cookie),
       status.Access,
     ) ∷ []))
 
@@ -78,7 +78,7 @@ list_refusals tree cred number arguments =
 abbrev pub shown_attributes : Limits → Cred → (hides : Bool) → (bitmap : List ℕ) → (number : ℕ)
     → Option Node → Attributes
 shown_attributes limits cred hides bitmap number node =
-    if hides && not (may_read_list cred node)
+    if hides && not (may_read_acl cred node)
     then unreadable
     else attributes_at limits bitmap number node
 

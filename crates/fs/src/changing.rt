@@ -23,7 +23,8 @@ pub(crate) fn metadata_with_change(
     stamp: u64,
     now: u64,
 ) -> Result<Metadata, AllocError>
-    ensures { IfOk result (λ metadata. metadata_of metadata ≡ metadata_by cached.now.fields stamp now) }
+    ensures { IfOk result
+        (λ metadata. metadata_of metadata ≡ metadata_by cached.now.fields stamp now) }
 {
     let inode = &cached.inode;
     Ok(Metadata {

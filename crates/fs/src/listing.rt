@@ -2,7 +2,7 @@
 
 ghost use Rattle.std.specs.Prelude.{◌≡◌, ◌==◌, ◌&&◌, bytes_eq, not, replicate};
 ghost use Rattle.model.specs.Operations.ReadDir.{asks_errors};
-ghost use Rattle.model.specs.Operations.SetAttr.{asks_lists};
+ghost use Rattle.model.specs.Operations.SetAttr.{asks_acls};
 
 use crate::fault::FsFault;
 use crate::fs::Fs;
@@ -43,26 +43,26 @@ pub struct Page<'a> {
 }
 
 /// Whether the ACL of each entry is asked for.
-fn asks_lists(asked: &[u32]) -> bool
-    ensures { result ≡ asks_lists asked.now }
+fn asks_acls(asked: &[u32]) -> bool
+    ensures { result ≡ asks_acls asked.now }
 {
     is_asked(asked, Attribute::Acl.number())
 }
 
 /// Whether the call is refused if the ACL of an entry after the cookie may not be read: ACLs are
 /// asked for, and rdattr_error, by which an entry would say so itself, is not.
-fn must_read_lists(asked: &[u32]) -> bool
-    ensures { result ≡ (asks_lists asked.now && not (asks_errors asked.now)) }
+fn must_read_acls(asked: &[u32]) -> bool
+    ensures { result ≡ (asks_acls asked.now && not (asks_errors asked.now)) }
 {
-    asks_lists(asked) && !is_asked(asked, Attribute::RdattrError.number())
+    asks_acls(asked) && !is_asked(asked, Attribute::RdattrError.number())
 }
 
 /// Whether an entry whose ACL may not be read shows only rdattr_error: both are asked for. If only
-/// ACLs are, there is no such entry, since `permit_list` refused the call.
+/// ACLs are, there is no such entry, since `permit_read_dir` refused the call.
 fn hides_unreadable(asked: &[u32]) -> bool
-    ensures { result ≡ (asks_lists asked.now && asks_errors asked.now) }
+    ensures { result ≡ (asks_acls asked.now && asks_errors asked.now) }
 {
-    asks_lists(asked) && is_asked(asked, Attribute::RdattrError.number())
+    asks_acls(asked) && is_asked(asked, Attribute::RdattrError.number())
 }
 
 impl Listing<'_> {
@@ -87,7 +87,7 @@ impl<D: Device> Fs<D> {
     ghost use Rattle.fs.specs.Listing.{shown_attributes, shown_entry};
     ghost use Rattle.fs.specs.Operations.{IsOn};
     ghost use Rattle.model_tree.specs.Trees.Keyed.{at};
-    ghost use Rattle.model.specs.Operations.ReadDir.{may_read_list};
+    ghost use Rattle.model.specs.Operations.ReadDir.{may_read_acl};
     ghost use Rattle.model.specs.Operations.Step.{State};
     ghost use Rattle.model_tree.specs.Trees.Tree.{names_at};
     ghost use Rattle.wire_attributes.specs.Given.{IsChecked};
@@ -102,7 +102,7 @@ impl<D: Device> Fs<D> {
     /// the directory, NOT_SAME if a cookie comes with a verifier that is not 0, ACCESS if ACLs are
     /// asked for without rdattr_error and that of an entry after the cookie may not be read, and
     /// TOOSMALL if there is no room for the first entry, or for an empty page.
-    pub fn list<'a>(&'a self, cred: &Cred, listing: Listing<'a>) -> Result<Page<'a>, FsFault>
+    pub fn read_dir<'a>(&'a self, cred: &Cred, listing: Listing<'a>) -> Result<Page<'a>, FsFault>
         ensures step { (state : State) (now dir_count : ℕ)
             → IsOn (fs_of self.entry.now) cred.now listing.entry.directory state
             → Lists (fs_of self.entry.now) state now (list_arguments listing.entry dir_count)
@@ -114,7 +114,7 @@ impl<D: Device> Fs<D> {
         if self.is_down() {
             return Err(FsFault::Down);
         }
-        let cached = self.permit_list(cred, &listing)?;
+        let cached = self.permit_read_dir(cred, &listing)?;
         let bytes = (listing.max_count as usize).min(self.volume.limits().transfer_bytes);
         if bytes < EMPTY_PAGE {
             return Err(FsFault::Status(Status::TooSmall));
@@ -129,7 +129,7 @@ impl<D: Device> Fs<D> {
     }
 
     /// The tests before those of the page, and the directory.
-    fn permit_list(&self, cred: &Cred, listing: &Listing<'_>) -> Result<&CachedNode, Status>
+    fn permit_read_dir(&self, cred: &Cred, listing: &Listing<'_>) -> Result<&CachedNode, Status>
         ensures tests { (dir_count : ℕ)
             → IsChecked (list_refusals (fs_of self.entry.now).volume.tree
             cred.now listing.now.directory (list_arguments listing.now dir_count)) result }
@@ -150,15 +150,15 @@ impl<D: Device> Fs<D> {
             return Err(Status::NotSame);
         }
         let names = cached.names.list_after(listing.cookie);
-        if must_read_lists(listing.asked) && !self.may_read_lists(cred, names) {
+        if must_read_acls(listing.asked) && !self.may_read_acls(cred, names) {
             return Err(Status::Access);
         }
         Ok(cached)
     }
 
     /// Whether a caller may read the ACL of a node: not if it is gone.
-    fn may_read_list(&self, cred: &Cred, number: u64) -> bool
-        ensures { result ≡ may_read_list cred.now (at number (fs_of self.now).volume.tree) }
+    fn may_read_acl(&self, cred: &Cred, number: u64) -> bool
+        ensures { result ≡ may_read_acl cred.now (at number (fs_of self.now).volume.tree) }
     {
         match self.volume.node(number) {
             Some(cached) => grants(cached, cred, Mask::READ_ACL),
@@ -167,12 +167,12 @@ impl<D: Device> Fs<D> {
     }
 
     /// Whether a caller may read the ACL of the node of each of these names.
-    fn may_read_lists(&self, cred: &Cred, names: ListAfter<'_>) -> bool
-        ensures { result ≡ list_all (λ name. may_read_list cred.now
+    fn may_read_acls(&self, cred: &Cred, names: ListAfter<'_>) -> bool
+        ensures { result ≡ list_all (λ name. may_read_acl cred.now
             (at name.1.number (fs_of self.now).volume.tree)) (rest_of names.entry) }
     {
         for entry in names {
-            if !self.may_read_list(cred, entry.number) {
+            if !self.may_read_acl(cred, entry.number) {
                 return false;
             }
         }
@@ -250,12 +250,12 @@ impl<D: Device> Fs<D> {
             (at number (fs_of self.entry.now).volume.tree) }
         ensures fits { ListedFits result }
     {
-        if hides_unreadable && !self.may_read_list(cred, number) {
+        if hides_unreadable && !self.may_read_acl(cred, number) {
             return ListedAttributes::Unreadable;
         }
         match self.volume.node(number) {
-            Some(cached) => ListedAttributes::Metadata(AttributesAnswer {
-                node: self.shown(cached),
+            Some(cached) => ListedAttributes::Readable(AttributesAnswer {
+                node: self.metadata(cached),
                 asked,
             }),
             None => ListedAttributes::Gone,

@@ -57,7 +57,7 @@ impl<D: Device> Fs<D> {
         ensures { result ≡ has_names (fs_of self.now).volume.tree number }
     {
         match self.volume.node(number) {
-            Some(cached) => is_directory(cached) && cached.names.count() > 0,
+            Some(cached) => is_directory(cached) && cached.names.len() > 0,
             None => false,
         }
     }

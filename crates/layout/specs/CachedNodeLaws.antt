@@ -20,16 +20,20 @@ CachedReadsBack =
 abbrev pub CachedNodesReadBack : Type 0
 CachedNodesReadBack = (image : Image) (nodes : ℕ) (cached_nodes : List (Option CachedNode))
     → length cached_nodes ≡ nodes
-    → ((place : ℕ) → place < nodes → HoldsPlace image place (slice_index_or cached_nodes place None))
+    → ((place : ℕ) → place < nodes
+    → HoldsPlace image place (slice_index_or cached_nodes place None))
     → cached_nodes_in nodes image ≡ cached_nodes
 
 abbrev pub OnlyCached : Type 0
-OnlyCached = (image : Image) (place : ℕ) (cached : Option CachedNode) → HoldsPlace image place cached
+OnlyCached = (image : Image) (place : ℕ) (cached : Option CachedNode)
+    → HoldsPlace image place cached
     → HoldsPlace image place (cached_in image place)
 
 abbrev pub OnlyCachedNodes : Type 0
-OnlyCachedNodes = (version : Version) (size nodes : ℕ) (image : Image) (cached_nodes : List (Option CachedNode))
-    → IsLaid version size nodes image cached_nodes → IsLaid version size nodes image (cached_nodes_in nodes image)
+OnlyCachedNodes = (version : Version) (size nodes : ℕ) (image : Image)
+    (cached_nodes : List (Option CachedNode))
+    → IsLaid version size nodes image cached_nodes
+    → IsLaid version size nodes image (cached_nodes_in nodes image)
 
 -- One image represents one tree, of one size and one restart count, whatever the version
 pub record SameVolume (size other_size nodes other_nodes run other_run : ℕ)
@@ -83,7 +87,8 @@ Frame =
 -- if no cached node has it
 pub record FindsCached (image : Image) (cached_nodes : List (Option CachedNode)) (number : ℕ)
     : Type 0 where
-  pub found : (place : ℕ) (cached : CachedNode) → slice_index_or cached_nodes place None ≡ Some cached
+  pub found : (place : ℕ) (cached : CachedNode) → slice_index_or cached_nodes place None
+      ≡ Some cached
       → cached.fields.number ≡ number
       → at number (tree_of image cached_nodes) ≡ Some (node_of image cached)
   pub none :

@@ -38,7 +38,8 @@ IsNodePlace None = Unit {0}
 IsNodePlace (Some cached) = IsCached cached
 
 -- the cached nodes of a table, and marks that are what they name
-pub record AreCached (nodes : ℕ) (mark : ℕ → ℕ) (cached_nodes : List (Option CachedNode)) : Type 0 where
+pub record AreCached (nodes : ℕ) (mark : ℕ → ℕ)
+    (cached_nodes : List (Option CachedNode)) : Type 0 where
   pub count : length cached_nodes ≡ nodes
   pub each : (place : ℕ) → place < nodes → IsNodePlace (slice_index_or cached_nodes place None)
   pub apart : AreNumbered cached_nodes
@@ -64,6 +65,7 @@ abbrev pub OneCachedChange : Type 0
 OneCachedChange =
     (nodes : ℕ) (marked mark : ℕ → ℕ) (cached_nodes : List (Option CachedNode)) (place : ℕ)
     (is : Option CachedNode)
-    → place < nodes → AreCached nodes marked cached_nodes → IsOwnNumber cached_nodes place is → IsNodePlace is
+    → place < nodes → AreCached nodes marked cached_nodes → IsOwnNumber cached_nodes place is
+    → IsNodePlace is
     → MovesMarks nodes marked mark (slice_index_or cached_nodes place None) is
     → AreCached nodes mark (set cached_nodes place is)

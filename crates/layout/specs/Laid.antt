@@ -84,11 +84,13 @@ AreNumbered cached_nodes =
 -- The places hold these cached nodes, and each sector is marked as often as they name it: so none
 -- is named twice, none outside the data region is named, and only named sectors are marked. Where
 -- the marks are kept is left open: a change has them in memory.
-pub record AreLaid (nodes : ℕ) (image : Image) (mark : ℕ → ℕ) (cached_nodes : List (Option CachedNode))
+pub record AreLaid (nodes : ℕ) (image : Image) (mark : ℕ → ℕ)
+    (cached_nodes : List (Option CachedNode))
     : Type
     0 where
   pub count : length cached_nodes ≡ nodes
-  pub held : (place : ℕ) → place < nodes → HoldsPlace image place (slice_index_or cached_nodes place None)
+  pub held : (place : ℕ) → place < nodes
+      → HoldsPlace image place (slice_index_or cached_nodes place None)
   pub apart : AreNumbered cached_nodes
   pub marks : (n : ℕ) → named n cached_nodes ≡ mark n
   pub behind : (n : ℕ) → 0 < mark n → 148 + nodes ≤ n

@@ -39,7 +39,8 @@ HoldsPlace-prop : (image : Image) (place : ℕ) (cached : Option CachedNode)
 HoldsPlace-prop image place None = Prim.hlevel props
 HoldsPlace-prop image place (Some cached) = Prim.hlevel (props, HoldsNode-prop, HoldsContent-prop)
 
-pub AreLaid-prop : (nodes : ℕ) (image : Image) (mark : ℕ → ℕ) (cached_nodes : List (Option CachedNode))
+pub AreLaid-prop : (nodes : ℕ) (image : Image) (mark : ℕ → ℕ)
+    (cached_nodes : List (Option CachedNode))
     → IsProp (AreLaid nodes image mark cached_nodes)
 AreLaid-prop nodes image mark cached_nodes = Prim.hlevel (props, HoldsPlace-prop)
 
@@ -50,7 +51,8 @@ HaveForms-prop version cached_nodes = Prim.hlevel props
 pub IsLaid-prop : (version : Version) (size nodes : ℕ) (image : Image)
     (cached_nodes : List (Option CachedNode))
     → IsProp (IsLaid version size nodes image cached_nodes)
-IsLaid-prop version size nodes image cached_nodes = Prim.hlevel (props, AreLaid-prop, HaveForms-prop)
+IsLaid-prop version size nodes image cached_nodes = Prim.hlevel
+    (props, AreLaid-prop, HaveForms-prop)
 
 Tree-set : IsSet Tree
 Tree-set = Prim.hlevel props

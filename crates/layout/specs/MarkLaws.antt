@@ -50,7 +50,8 @@ abbrev pub LaysMarks : Type 0
 LaysMarks =
     (version : Version) (size nodes : ℕ) (old new : Image) (places : List Bool)
     (cached_nodes : List (Option CachedNode))
-    → WritesMarks version size nodes old new places cached_nodes → IsLaid version size nodes new cached_nodes
+    → WritesMarks version size nodes old new places cached_nodes
+    → IsLaid version size nodes new cached_nodes
 
 -- Only kept sectors are seen: the superblock, and what comes after the commit record and the
 -- payload, up to the end of the data region

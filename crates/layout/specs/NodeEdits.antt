@@ -27,7 +27,8 @@ pub record AreFiles (was is : CachedNode) : Type 0 where
   pub shows : ShowsSame was.fields is.fields
 
 -- a part is written within a block that is set, below the file's size
-pub record WritesPart (nodes : ℕ) (old : Image) (marked : ℕ → ℕ) (cached_nodes : List (Option CachedNode))
+pub record WritesPart (nodes : ℕ) (old : Image) (marked : ℕ → ℕ)
+    (cached_nodes : List (Option CachedNode))
     (place : ℕ) (cached : CachedNode)
     (block sector from : ℕ) (part : List ℕ) : Type 0 where
   pub laid : AreLaid nodes old marked cached_nodes
@@ -228,7 +229,8 @@ pub record FreesNode (nodes : ℕ) (old new : Image) (marked mark : ℕ → ℕ)
   pub vacated : new (node_sector place) ≡ zero_sector
   pub own : ChangesOwn nodes old new marked mark place (Some was) None
 
-pub record IsFreed (nodes : ℕ) (old new : Image) (mark : ℕ → ℕ) (cached_nodes : List (Option CachedNode))
+pub record IsFreed (nodes : ℕ) (old new : Image) (mark : ℕ → ℕ)
+    (cached_nodes : List (Option CachedNode))
     (place : ℕ)
     (was : CachedNode) : Type 0 where
   pub laid : AreLaid nodes new mark (set cached_nodes place None)

@@ -72,7 +72,8 @@ pub record IsLaidSecond (size nodes : ℕ) (image : Image) (cached_nodes : List 
     : Type 0 where
   pub laid : IsLaid (current_version no_seats) size nodes (second_image nodes image)
       (all_second cached_nodes)
-  pub tree : tree_of (second_image nodes image) (all_second cached_nodes) ≡ tree_of image cached_nodes
+  pub tree : tree_of (second_image nodes image) (all_second cached_nodes)
+      ≡ tree_of image cached_nodes
   pub shown : tree_of image (all_second cached_nodes) ≡ tree_of image cached_nodes
 
 abbrev pub LaidSecond : Type 0

@@ -27,7 +27,8 @@ pub record NodeSteps (nodes : ℕ) (old new : Image) (marked mark : ℕ → ℕ)
   pub own : ChangesOwn nodes old new marked mark place (Some was) (Some is)
 
 -- Then the cached nodes are laid, and the tree is this one
-pub record LaysTree (nodes : ℕ) (new : Image) (mark : ℕ → ℕ) (cached_nodes : List (Option CachedNode))
+pub record LaysTree (nodes : ℕ) (new : Image) (mark : ℕ → ℕ)
+    (cached_nodes : List (Option CachedNode))
     (place : ℕ)
     (is : CachedNode)
     (tree : Tree) : Type 0 where
@@ -85,7 +86,8 @@ abbrev pub FileThere : Type 0
 FileThere =
     (nodes : ℕ) (image : Image) (mark : ℕ → ℕ) (cached_nodes : List (Option CachedNode)) (place : ℕ)
     (cached : CachedNode)
-    → AreLaid nodes image mark cached_nodes → place < nodes → slice_index_or cached_nodes place None ≡ Some cached
+    → AreLaid nodes image mark cached_nodes → place < nodes → slice_index_or cached_nodes place None
+    ≡ Some cached
     → cached.fields.kind ≡ kind.File
     → HoldBytes image cached.blocks (bytes_in image cached.blocks cached.fields.size)
 

@@ -42,7 +42,8 @@ NamesTotal =
 
 pub record Sums (image : Image) (cached_nodes : List (Option CachedNode)) : Type 0 where
   pub any : (worth : Node → ℕ)
-      → total worth (tree_of image cached_nodes) ≡ sum_over (λ cached. worth (node_of image cached)) cached_nodes
+      → total worth (tree_of image cached_nodes)
+      ≡ sum_over (λ cached. worth (node_of image cached)) cached_nodes
   pub charges : total charge (tree_of image cached_nodes)
       ≡ sum_over (λ cached. charge_of_blocks (length cached.blocks)) cached_nodes
   pub nodes : length (tree_of image cached_nodes) ≡ sum_over (λ cached. 1) cached_nodes
@@ -55,9 +56,11 @@ EachSum =
 
 -- so each node has the one name that it is owed exactly if each number occurs as often among those
 -- that names lead to as among those of the nodes except the root
-pub record Links (image : Image) (cached_nodes : List (Option CachedNode)) (number : ℕ) : Type 0 where
+pub record Links (image : Image) (cached_nodes : List (Option CachedNode))
+    (number : ℕ) : Type 0 where
   pub to : links_to (tree_of image cached_nodes) number ≡ times number (entry_numbers cached_nodes)
-  pub owed : links_owed (tree_of image cached_nodes) number ≡ times number (other_numbers cached_nodes)
+  pub owed : links_owed (tree_of image cached_nodes) number
+      ≡ times number (other_numbers cached_nodes)
 
 abbrev pub EachLink : Type 0
 EachLink =

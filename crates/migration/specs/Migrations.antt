@@ -35,7 +35,8 @@ AddsStill number nodes run tree old new =
 -- nodes, except for their forms
 pub record IsMoved (is : Version) (nodes run : ℕ) (tree : Tree) (old new : Log) : Type 0 where
   pub stands : TreeStands is old.size nodes new.base run tree
-  pub cached_nodes : all_second (cached_nodes_in nodes new.base) ≡ all_second (cached_nodes_in nodes old.base)
+  pub cached_nodes : all_second (cached_nodes_in nodes new.base)
+      ≡ all_second (cached_nodes_in nodes old.base)
 
 -- a journal in which nothing is pending, whose transactions may write up to the device's end
 pub record Rests (log : Log) : Type 0 where
@@ -64,10 +65,13 @@ pub record BeginsMoving (mark : Option ℕ) (moved run : ℕ) (tree : Tree)
 
 -- However it ends: at each moment the volume holds the tree in version 1, under the restart count
 -- that it had. The commit record takes a write and a sync, and each transaction at most one flush.
-pub record MovesSafely (moved : ℕ) (cached_nodes : List (Option CachedNode)) (old new : Log) : Type 0 where
+pub record MovesSafely (moved : ℕ) (cached_nodes : List (Option CachedNode))
+    (old new : Log) : Type 0 where
   pub moments : (mark : Option ℕ) (run : ℕ) (tree : Tree)
-      → BeginsMoving mark moved run tree cached_nodes old → AddsStill 1 (length cached_nodes) run tree old new
-  pub brief : MakesAtMost (2 + transactions_for (length cached_nodes - moved) * transaction_cost old.area)
+      → BeginsMoving mark moved run tree cached_nodes old
+      → AddsStill 1 (length cached_nodes) run tree old new
+  pub brief : MakesAtMost
+      (2 + transactions_for (length cached_nodes - moved) * transaction_cost old.area)
       old new
 
 -- and in the end the mark counts all places

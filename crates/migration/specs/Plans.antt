@@ -11,7 +11,8 @@ use Rattle.layout.specs.Stands.{mark_sector}
 
 -- each node can be encoded in form two
 abbrev pub FitSecond : List (Option CachedNode) → Type 0
-FitSecond cached_nodes = (place : ℕ) (cached : CachedNode) → slice_index_or cached_nodes place None ≡ Some cached
+FitSecond cached_nodes = (place : ℕ) (cached : CachedNode) → slice_index_or cached_nodes place None
+    ≡ Some cached
     → IsInode Two cached.fields
 
 -- a node in form two; nothing is written if the place is free
@@ -42,7 +43,8 @@ transactions_for places = (places + 46) / 47
 -- All of them, if the first `moved` places are already done
 abbrev pub plan : List (Option CachedNode) → (moved : ℕ) → List (List Update)
 plan cached_nodes moved =
-    map (step_at cached_nodes moved) (range_with_len 0 (transactions_for (length cached_nodes - moved)))
+    map (step_at cached_nodes moved)
+    (range_with_len 0 (transactions_for (length cached_nodes - moved)))
 
 -- The last transaction: the mark is removed
 abbrev pub clearing_updates : List Update

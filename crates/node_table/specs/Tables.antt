@@ -17,7 +17,8 @@ node_number_at cached_nodes place = node_number (slice_index_or cached_nodes pla
 
 -- each number has one place
 abbrev pub HaveOwnPlaces : List (Option CachedNode) → Type 0
-HaveOwnPlaces cached_nodes = (place other number : ℕ) → node_number_at cached_nodes place ≡ Some number
+HaveOwnPlaces cached_nodes = (place other number : ℕ) → node_number_at cached_nodes place
+    ≡ Some number
     → node_number_at cached_nodes other ≡ Some number → place ≡ other
 
 -- no node has the number, and each one has a lower one
@@ -25,11 +26,13 @@ abbrev pub HasNoNode : List (Option CachedNode) → (number : ℕ) → Type 0
 HasNoNode cached_nodes number = (place : ℕ) → node_number_at cached_nodes place ≢ Some number
 
 abbrev pub AreBelow : List (Option CachedNode) → (number : ℕ) → Type 0
-AreBelow cached_nodes number = (place other : ℕ) → node_number_at cached_nodes place ≡ Some other → other < number
+AreBelow cached_nodes number = (place other : ℕ) → node_number_at cached_nodes place ≡ Some other
+    → other < number
 
 -- each number is above 0
 abbrev pub AreNumbered : List (Option CachedNode) → Type 0
-AreNumbered cached_nodes = (place number : ℕ) → node_number_at cached_nodes place ≡ Some number → 0 < number
+AreNumbered cached_nodes = (place number : ℕ) → node_number_at cached_nodes place ≡ Some number
+    → 0 < number
 
 -- a place that exists and is free
 pub record IsFree (cached_nodes : List (Option CachedNode)) (place : ℕ) : Type 0 where
@@ -38,7 +41,8 @@ pub record IsFree (cached_nodes : List (Option CachedNode)) (place : ℕ) : Type
 
 -- no place is free
 abbrev pub AreTaken : List (Option CachedNode) → Type 0
-AreTaken cached_nodes = (place : ℕ) → place < length cached_nodes → slice_index_or cached_nodes place None ≢ None
+AreTaken cached_nodes = (place : ℕ) → place < length cached_nodes
+    → slice_index_or cached_nodes place None ≢ None
 
 -- what a node takes of the data region, and what all of them take; how many they are
 
@@ -57,7 +61,8 @@ count_of_all cached_nodes = sum_over (λ cached. 1) cached_nodes
 
 -- no node has more than 4,096 blocks
 abbrev pub AreFew : List (Option CachedNode) → Type 0
-AreFew cached_nodes = (place : ℕ) (cached : CachedNode) → slice_index_or cached_nodes place None ≡ Some cached
+AreFew cached_nodes = (place : ℕ) (cached : CachedNode) → slice_index_or cached_nodes place None
+    ≡ Some cached
     → length cached.blocks ≤ 4096
 
 -- how often a place is free
@@ -88,6 +93,7 @@ pub record IsIndexed (cached_nodes : List (Option CachedNode)) (index : Keyed �
   pub charge_is : charge ≡ charge_of_all cached_nodes
 
 -- and room for one of each at every place
-pub record HasCapacity (cached_nodes : List (Option CachedNode)) (index_room free_room : ℕ) : Type 0 where
+pub record HasCapacity (cached_nodes : List (Option CachedNode))
+    (index_room free_room : ℕ) : Type 0 where
   pub index : length cached_nodes ≤ index_room
   pub free : length cached_nodes ≤ free_room

@@ -75,7 +75,8 @@ impl<'a> Overlay<'a> {
 
     /// The place of the node with a number.
     pub fn find(&self, number: u64) -> Option<u32>
-        ensures some { IfSome result (λ place. node_number_at self.now.cached_nodes place ≡ Some number) }
+        ensures some { IfSome result
+            (λ place. node_number_at self.now.cached_nodes place ≡ Some number) }
         ensures none { IfNone result (HasNoNode self.now.cached_nodes number) }
     {
         if let Some(i) = change_to(&self.changes, number) {

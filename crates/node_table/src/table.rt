@@ -254,7 +254,7 @@ fn blocks_charge(blocks: &BlockList) -> u64
     ensures charge { result ≡ charge_of_blocks (length blocks.now) }
     ensures few { length blocks.now ≤ BlockList.MAX_BLOCKS }
 {
-    let count = u64::from(blocks.count());
+    let count = u64::from(blocks.len());
     count + count.div_ceil(MAX_SECTOR_RUNS as u64)
 }
 

@@ -30,9 +30,9 @@ use Rattle.model.specs.Operations.Need.{Right, granted_on, is_granted, are_grant
 use Rattle.model.specs.Operations.Open.{opening_refusals, share_refusals, place_refusals, creates, cuts, known_refusals, new_refusals, middle_at_open, access_rights, opening_rights, makes_file, cuts_file, file_opened, asked_open, cut_or_not, with_file, opening_done, change_at_open, set_at_open, opened_state, at_opened, open_file, new_file, given_by, size_alone}
 use Rattle.model.specs.Operations.Operation.{Argument, Attributes, ChangeInfo, CreateArguments, NewDirectory, OtherType, RenameArguments, SetAttrArguments, ReadDirArguments, ReadArguments, WriteArguments, OpenArguments, OpenType, NoCreate, Unchecked, Guarded, ByName, ByHandle, OtherClaim, Opening, Opens as Opening_of, Exclusive}
 use Rattle.model.specs.Attributes.NodeAttributes.{unreadable}
-use Rattle.model.specs.Operations.ReadDir.{names_after, listing_rights, asks_errors, may_read_list, listed_entry, all_entries, page, page_room, page_bytes, empty_page_bytes, page_refusals, fitting}
+use Rattle.model.specs.Operations.ReadDir.{names_after, listing_rights, asks_errors, may_read_acl, listed_entry, all_entries, page, page_room, page_bytes, empty_page_bytes, page_refusals, fitting}
 use Rattle.model.specs.Operations.Rename.{rename_refusals, removable, rename_rights, is_other, has_names, moved_number, target_number, late_at_rename, remove, rename}
-use Rattle.model.specs.Operations.SetAttr.{asks_lists, sets, sets_size, set_refusals, set_edits, size_edits, set_attributes}
+use Rattle.model.specs.Operations.SetAttr.{asks_acls, sets, sets_size, set_refusals, set_edits, size_edits, set_attributes}
 use Rattle.model.specs.Operations.State.{State, Stepped, current, saved, stamp_of, current_refusals, named_refusals, is_name_there, answered, refused, moved_to, change_to}
 use Rattle.model.specs.Operations.Step.{early, need_first, middle, need_then, late, alters, effect, refusals, without_rights, change_refusals, unless_refused, does}
 use Rattle.model.specs.Sessions.Opens.{Open, Opens}
@@ -100,7 +100,7 @@ module _ (secret : ℕ → Bool) (tree : Tree) where
 
   listing_rights_same : (context : Context) (arguments : ReadDirArguments) → listing_rights veiled context arguments ≡ listing_rights tree context arguments
   listing_rights_same context arguments =
-      ap (λ (names : Keyed DirEntry). cond (asks_lists arguments.bitmap && not (asks_errors arguments.bitmap))
+      ap (λ (names : Keyed DirEntry). cond (asks_acls arguments.bitmap && not (asks_errors arguments.bitmap))
       (map (λ (name : ℕ × DirEntry). record { number = name.1.number; mask = read_acl } ∷ []) (names_after arguments.cookie names)) [])
       (same_names secret tree (current_number context))
 
@@ -217,10 +217,10 @@ module _ (limits : Limits) (secret : ℕ → Bool) (state : State) where
 
   -- READDIR
 
-  may_read_same : (cred : Cred) (number : ℕ) → may_read_list cred (at number (hidden secret here_is)) ≡ may_read_list cred (at number here_is)
-  may_read_same cred = same_at secret here_is (may_read_list cred) by_if
+  may_read_same : (cred : Cred) (number : ℕ) → may_read_acl cred (at number (hidden secret here_is)) ≡ may_read_acl cred (at number here_is)
+  may_read_same cred = same_at secret here_is (may_read_acl cred) by_if
     where
-      by_if : (b : Bool) (node : Node) → may_read_list cred (Some (hidden_if b node)) ≡ may_read_list cred (Some node)
+      by_if : (b : Bool) (node : Node) → may_read_acl cred (Some (hidden_if b node)) ≡ may_read_acl cred (Some node)
       by_if true node = refl
       by_if false node = refl
 
@@ -229,7 +229,7 @@ module _ (limits : Limits) (secret : ℕ → Bool) (state : State) where
   entries_same cred bitmap [] = refl
   entries_same cred bitmap (name ∷ names) =
       ap₂ (λ (given : Attributes) (rest : List Entry). record { cookie = name.0; name = name.1.name; attributes = given } ∷ rest)
-      (ap₂ (λ (may : Bool) (given : Attributes). cond (asks_lists bitmap && not may) unreadable given)
+      (ap₂ (λ (may : Bool) (given : Attributes). cond (asks_acls bitmap && not may) unreadable given)
       (may_read_same cred name.1.number) (same_attributes secret here_is limits bitmap name.1.number name.1.number))
       (entries_same cred bitmap names)
 

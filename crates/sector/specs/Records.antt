@@ -27,7 +27,8 @@ module _ {A : Type 0} (encoding : A → List ℕ) (width : ℕ) (wide : AreWide 
   drop-records (suc k) [] rest h = absurd (omega arith)
   drop-records (suc k) (x ∷ xs) rest h =
       let moved : width * suc k ≡ width + width * k = omega arith in
-      let behind : drop width ((encoding x ++ flat_map encoding xs) ++ rest) ≡ flat_map encoding xs ++ rest =
+      let behind : drop width ((encoding x ++ flat_map encoding xs) ++ rest)
+      ≡ flat_map encoding xs ++ rest =
       ap (drop width) (append_assoc (encoding x) (flat_map encoding xs) rest)
       ∙ drop_at (encoding x) (flat_map encoding xs ++ rest) width (wide x) in
       rw moved (sym (drop-drop (width * k) width ((encoding x ++ flat_map encoding xs) ++ rest))
@@ -55,7 +56,8 @@ module _ {A : Type 0} (encoding : A → List ℕ) (width : ℕ) (wide : AreWide 
       → records_at_prefix read width (length xs) (flat_map encoding xs ++ rest) ≡ xs
   records-back read P back [] rest all = refl
   records-back read P back (x ∷ xs) rest all =
-      let apart : (encoding x ++ flat_map encoding xs) ++ rest ≡ encoding x ++ (flat_map encoding xs ++ rest) = append_assoc (encoding x) (flat_map encoding xs) rest in
+      let apart : (encoding x ++ flat_map encoding xs) ++ rest ≡ encoding x ++
+      (flat_map encoding xs ++ rest) = append_assoc (encoding x) (flat_map encoding xs) rest in
       rw apart (ap₂ (λ (y : A) (ys : List A). y ∷ ys) (back x (flat_map encoding xs ++ rest) all.0)
       (ap (records_at_prefix read width (length xs))
       (drop_at (encoding x) (flat_map encoding xs ++ rest) width (wide x))

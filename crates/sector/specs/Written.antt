@@ -33,7 +33,8 @@ module _ {A : Type 0} (encoding : A → List ℕ) (width base : ℕ) where
   AreWritten-more old mid new xs n at x far h is place prefix len =
       let end : base + width * (n + 1) ≡ at + width = omega arith in
       let more : take (n + 1) xs ≡ take n xs ++ x ∷ [] = take_more xs n x h ∙ ap (λ (y : A). take n xs ++ y ∷ []) (sym is) in
-      let encoded : flat_map encoding (take (n + 1) xs) ≡ flat_map encoding (take n xs) ++ encoding x =
+      let encoded : flat_map encoding (take (n + 1) xs)
+      ≡ flat_map encoding (take n xs) ++ encoding x =
       ap (flat_map encoding) more ∙ flat_map-append encoding (take n xs) (x ∷ [])
       ∙ ap (λ (bytes : List ℕ). flat_map encoding (take n xs) ++ bytes) (append-nil (encoding x)) in
       record {

@@ -24,7 +24,8 @@ IsContentAllowed limits kind.File cached_node = cached_node.fields.size ≤ limi
 IsContentAllowed limits kind.Directory cached_node = AreNamesAllowed limits cached_node.names
 
 pub record IsNodeAllowed (limits : Limits) (cached_node : CachedNode) : Type 0 where
-  pub entries : IsTrue (is_list_for limits.aces_set limits.aces cached_node.fields.kind cached_node.fields.acl)
+  pub entries : IsTrue
+      (is_list_for limits.aces_set limits.aces cached_node.fields.kind cached_node.fields.acl)
   pub content : IsContentAllowed limits cached_node.fields.kind cached_node
 
 -- the root's number is that of a directory
@@ -39,7 +40,9 @@ pub record HasRootDirectory (cached_nodes : List (Option CachedNode)) : Type 0 w
   pub there : slice_index_or cached_nodes place None ≡ Some cached
   pub is : IsRootDirectory cached
 
-pub record AreNodesAllowed (limits : Limits) (cached_nodes : List (Option CachedNode)) : Type 0 where
-  pub each : (place : ℕ) (cached_node : CachedNode) → slice_index_or cached_nodes place None ≡ Some cached_node
+pub record AreNodesAllowed (limits : Limits)
+    (cached_nodes : List (Option CachedNode)) : Type 0 where
+  pub each : (place : ℕ) (cached_node : CachedNode) → slice_index_or cached_nodes place None
+      ≡ Some cached_node
       → IsNodeAllowed limits cached_node
   pub rooted : HasRootDirectory cached_nodes

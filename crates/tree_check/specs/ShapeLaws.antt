@@ -35,7 +35,8 @@ abbrev pub EachStamp : Type 0
 EachStamp =
     (nodes : ℕ) (image : Image) (mark : ℕ → ℕ) (cached_nodes : List (Option CachedNode))
     → AreLaid nodes image mark cached_nodes
-    → AreStampsApart cached_nodes ↔ ((stamp : ℕ) → stamped_in (tree_of image cached_nodes) stamp ≤ 1)
+    → AreStampsApart cached_nodes ↔
+    ((stamp : ℕ) → stamped_in (tree_of image cached_nodes) stamp ≤ 1)
 
 -- and all of its stamps are from before one exactly if those of the nodes are
 abbrev pub EachAge : Type 0
@@ -52,7 +53,8 @@ EachFit =
     → AreLaid nodes image mark cached_nodes
     → (limits : Limits) → MAX_NAMES ≤ limits.names
     → fits limits (tree_of image cached_nodes)
-    ≡ (nat_le (charge_of_all cached_nodes) limits.data_sectors && nat_le (count_of_all cached_nodes) limits.nodes)
+    ≡ (nat_le (charge_of_all cached_nodes) limits.data_sectors && nat_le
+    (count_of_all cached_nodes) limits.nodes)
 
 -- if the sectors that nodes name hold bytes, two more: the limits allow each node, and the root is
 -- a directory
@@ -75,7 +77,8 @@ EachTree = (nodes : ℕ) (image : Image) (mark : ℕ → ℕ) (cached_nodes : Li
     → AreLaid nodes image mark cached_nodes → HoldBytes image mark
     → (limits : Limits) → MAX_NAMES ≤ limits.names → (stamp : ℕ)
     → AreWellFormed limits stamp cached_nodes
-    ↔ (IsWellFormed limits (tree_of image cached_nodes) × IsBefore stamp (tree_of image cached_nodes))
+    ↔ (IsWellFormed limits (tree_of image cached_nodes)
+    × IsBefore stamp (tree_of image cached_nodes))
 
 -- It also decides this for cached nodes that are known whatever the sectors hold: then it is the
 -- tree with zeros for the bytes of files, as sectors without content give it
@@ -84,4 +87,5 @@ EachKnownTree = (nodes : ℕ) (mark : ℕ → ℕ) (cached_nodes : List (Option 
     → AreCached nodes mark cached_nodes
     → (limits : Limits) → MAX_NAMES ≤ limits.names → (stamp : ℕ)
     → AreWellFormed limits stamp cached_nodes
-    ↔ (IsWellFormed limits (tree_of (λ n. []) cached_nodes) × IsBefore stamp (tree_of (λ n. []) cached_nodes))
+    ↔ (IsWellFormed limits (tree_of (λ n. []) cached_nodes)
+    × IsBefore stamp (tree_of (λ n. []) cached_nodes))

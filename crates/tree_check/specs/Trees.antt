@@ -19,7 +19,8 @@ led_at cached_nodes place = led_by (slice_index_or cached_nodes place None)
 -- reached: the root, and what a name in a reached directory leads to
 pub data IsReached (cached_nodes : List (Option CachedNode)) : ℕ → Type 0 where
   Root : IsReached cached_nodes root
-  Named : (place number i : ℕ) → node_number_at cached_nodes place ≡ Some number → IsReached cached_nodes number
+  Named : (place number i : ℕ) → node_number_at cached_nodes place ≡ Some number
+      → IsReached cached_nodes number
       → i < length (led_at cached_nodes place)
       → IsReached cached_nodes (slice_index_or (led_at cached_nodes place) i 0)
 

@@ -38,7 +38,8 @@ abbrev pub IsMissing : List (Option CachedNode) → List ℕ → (number : ℕ) 
 IsMissing cached_nodes met number = HasNoNode cached_nodes number ⊎ (0 < times number met)
 
 -- the walk goes on, and has also met the nodes with these numbers
-pub record Meets (cached_nodes : List (Option CachedNode)) (seen : List Bool) (old new numbers : List ℕ)
+pub record Meets (cached_nodes : List (Option CachedNode)) (seen : List Bool)
+    (old new numbers : List ℕ)
     : Type
     0 where
   pub walk : IsWalk cached_nodes seen new
@@ -47,8 +48,10 @@ pub record Meets (cached_nodes : List (Option CachedNode)) (seen : List Bool) (o
   pub met : numbers_at cached_nodes new ≡ numbers_at cached_nodes old ++ numbers
 
 -- a name at the place leads to no node, or to one that was met
-pub record IsStuck (cached_nodes : List (Option CachedNode)) (order : List ℕ) (place : ℕ) : Type 0 where
+pub record IsStuck (cached_nodes : List (Option CachedNode)) (order : List ℕ)
+    (place : ℕ) : Type 0 where
   pub i : ℕ
   pub within : i < length (led_at cached_nodes place)
-  pub missing : IsMissing cached_nodes (numbers_at cached_nodes order ++ take i (led_at cached_nodes place))
+  pub missing : IsMissing cached_nodes
+      (numbers_at cached_nodes order ++ take i (led_at cached_nodes place))
       (slice_index_or (led_at cached_nodes place) i 0)

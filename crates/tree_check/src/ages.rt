@@ -9,7 +9,7 @@ use node_table::{CachedNode, Table};
 fn are_names_before(names: &Names, last: u64) -> bool
     ensures { IsTrue result ↔ AreNamesBefore (last + 1) names.now }
 {
-    for place in 0..names.count() {
+    for place in 0..names.len() {
         if names.entry(place).stamp > last {
             return false;
         }

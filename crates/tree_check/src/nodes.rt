@@ -19,7 +19,7 @@ fn is_name_allowed(name: &[u8], limits: &Limits) -> bool
 fn are_names_allowed(names: &Names, limits: &Limits) -> bool
     ensures { IsTrue result ↔ AreNamesAllowed limits.now names.now }
 {
-    for place in 0..names.count() {
+    for place in 0..names.len() {
         if !is_name_allowed(&names.entry(place).name, limits) {
             return false;
         }

@@ -10,7 +10,7 @@ use std::alloc::{AllocError, Global};
 fn push_stamps(stamps: &mut Vec<u64>, names: &Names) -> Result<(), AllocError>
     ensures { OnOk result (stamps.new.items ≡ stamps.old.items ++ stamps_of names.now) }
 {
-    for place in 0..names.count() {
+    for place in 0..names.len() {
         stamps.push(names.entry(place).stamp)?;
     }
     Ok(())

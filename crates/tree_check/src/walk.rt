@@ -78,7 +78,7 @@ impl Walk {
         let Some(cached) = table.cached(place) else {
             return Ok(true);
         };
-        for i in 0..cached.names.count() {
+        for i in 0..cached.names.len() {
             if !self.follow(table, cached.names.entry(i).number)? {
                 return Ok(false);
             }

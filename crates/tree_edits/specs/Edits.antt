@@ -44,7 +44,8 @@ fresh_fields kind number metadata = record {
 }
 
 abbrev pub edit_of : Edit → model.Edit
-edit_of (declared.PutNode number kind metadata) = PutNode number (fresh_node kind (metadata_of metadata))
+edit_of (declared.PutNode number kind metadata) = PutNode number
+    (fresh_node kind (metadata_of metadata))
 edit_of (declared.DropNode number) = DropNode number
 edit_of (declared.Show number metadata) = Show number (metadata_of metadata)
 edit_of (declared.PutName directory stamp name number) =

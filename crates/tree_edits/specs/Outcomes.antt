@@ -48,7 +48,8 @@ PrefixesHaveRoom sectors places tree edits = (count : ℕ) → count ≤ length 
     → FitsOn sectors places (edited (take count (edits_of edits)) tree)
 
 -- what the cached nodes of a table are after an outcome
-abbrev pub cached_nodes_after : List (Option CachedNode) → PreparedTransaction → List (Option CachedNode)
+abbrev pub cached_nodes_after : List (Option CachedNode) → PreparedTransaction
+    → List (Option CachedNode)
 cached_nodes_after table outcome = overlaid table outcome.changes
 
 -- the sectors hold the outcome's cached nodes and marks, and represent the tree with the edits; the

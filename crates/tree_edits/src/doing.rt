@@ -99,7 +99,8 @@ fn drop_name(
     name: &[u8],
 ) -> Result<(), AllocError>
     requires known { IsKnown transaction.old }
-    requires can { IsName (tree_without_data (cached_nodes_of transaction.old)) directory stamp name.now }
+    requires can { IsName (tree_without_data (cached_nodes_of transaction.old)) directory stamp
+        name.now }
     ensures done { OnOk result (DoesAnywhere transaction.old transaction.new
         (edit.DropName directory stamp name.entry)) }
     ensures table { transaction.new.cached_nodes.table ≡ transaction.old.cached_nodes.table }
@@ -221,7 +222,7 @@ fn set_size<S: Sectors>(
 {
     let place = place_of(transaction, file);
     if size < size_at(transaction, place) {
-        return transaction.cut(base, place, size);
+        return transaction.truncate(base, place, size);
     }
     transaction.grow(place, size)?;
     Ok(())

@@ -28,7 +28,8 @@ pub record CanName (cached_nodes : List (Option CachedNode)) (place : ℕ) (name
   pub new_stamp : at stamp cached.names ≡ None
 
 -- a directory that has the name is at a place
-pub record HasNameAt (cached_nodes : List (Option CachedNode)) (place : ℕ) (name : List ℕ) : Type 0 where
+pub record HasNameAt (cached_nodes : List (Option CachedNode)) (place : ℕ)
+    (name : List ℕ) : Type 0 where
   pub cached : CachedNode
   pub there : slice_index_or cached_nodes place None ≡ Some cached
   pub directory : cached.fields.kind ≡ kind.Directory
@@ -46,7 +47,8 @@ abbrev pub with_name : Record → CachedNode → CachedNode
 with_name entry cached_node = renamed cached_node (with_record cached_node.names entry)
 
 abbrev pub without_name : List ℕ → CachedNode → CachedNode
-without_name name cached_node = renamed cached_node (without_place cached_node.names (place_of name cached_node.names))
+without_name name cached_node = renamed cached_node
+    (without_place cached_node.names (place_of name cached_node.names))
 
 -- over any base a transaction remains one, and its tree is the previous one without the name: it is
 -- removed from the directory at a place, with the stamp that it has there

@@ -53,7 +53,8 @@ fields_showing fields metadata = record fields {
 }
 
 abbrev pub showing : Metadata → CachedNode → CachedNode
-showing metadata cached_node = record cached_node { fields = fields_showing cached_node.fields metadata }
+showing metadata cached_node = record cached_node
+    { fields = fields_showing cached_node.fields metadata }
 
 -- a node is at a place, and one that can have this metadata
 
@@ -61,7 +62,8 @@ pub record HasNode (cached_nodes : List (Option CachedNode)) (place : ℕ) : Typ
   pub cached : CachedNode
   pub there : slice_index_or cached_nodes place None ≡ Some cached
 
-pub record CanShow (cached_nodes : List (Option CachedNode)) (place : ℕ) (metadata : Metadata) : Type 0 where
+pub record CanShow (cached_nodes : List (Option CachedNode)) (place : ℕ)
+    (metadata : Metadata) : Type 0 where
   pub cached : CachedNode
   pub there : slice_index_or cached_nodes place None ≡ Some cached
   pub fits : IsInode cached.form (fields_showing cached.fields metadata)

@@ -30,12 +30,14 @@ abbrev pub image_of : Image → Transaction → Image
 image_of base transaction = applied transaction.updates base
 
 abbrev pub changed_tree : Image → Transaction → Tree
-changed_tree base transaction = layout.tree_of (image_of base transaction) (cached_nodes_of transaction)
+changed_tree base transaction = layout.tree_of (image_of base transaction)
+    (cached_nodes_of transaction)
 
 -- What is known of a transaction whatever its sectors hold: its cached nodes with its places, and
 -- that its updates are of the node table and the data region
 pub record IsKnown (transaction : Transaction) : Type 0 where
-  pub cached_nodes : AreCached transaction.nodes (mark_by (148 + transaction.nodes) transaction.places)
+  pub cached_nodes : AreCached transaction.nodes
+      (mark_by (148 + transaction.nodes) transaction.places)
       (cached_nodes_of transaction)
   pub small : end_of transaction < 2 ^ 32
   pub targets : AreBetween 148 (end_of transaction) transaction.updates
@@ -92,7 +94,8 @@ NodeBecomes old new place change = (cached : CachedNode)
 
 -- a cached node that was taken out is back at its place, with its runs rewritten
 pub record IsBack (nodes place : ℕ) (places : List Bool) (updates : List Update)
-    (cached_nodes : List (Option CachedNode)) (new : Transaction) (cached : CachedNode) : Type 0 where
+    (cached_nodes : List (Option CachedNode)) (new : Transaction)
+    (cached : CachedNode) : Type 0 where
   pub is : CachedNode
   pub put : cached_nodes_of new ≡ set cached_nodes place (Some is)
   pub same : new.nodes ≡ nodes

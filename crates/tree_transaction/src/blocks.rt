@@ -250,7 +250,7 @@ pub(crate) fn write_names(
     blocks.grow(block + 1)?;
     let sector = sector_for(places, first, blocks, block)?;
     let mut encoded = [0; SECTOR];
-    names.to_sector(RECORDS * block as usize, &mut encoded);
+    names.write_sector(RECORDS * block as usize, &mut encoded);
     updates.put(sector, &encoded)?;
     Ok(filled)
 }
@@ -272,7 +272,7 @@ pub(crate) fn rewrite_names(
         return Ok(());
     };
     let mut encoded = [0; SECTOR];
-    names.to_sector(RECORDS * block as usize, &mut encoded);
+    names.write_sector(RECORDS * block as usize, &mut encoded);
     updates.put(sector, &encoded)?;
     Ok(())
 }

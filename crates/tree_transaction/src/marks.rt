@@ -29,7 +29,7 @@ pub(crate) fn put_marks(
         return Ok(());
     }
     let mut content = [0; SECTOR];
-    places.to_sector(part, &mut content);
+    places.write_sector(part, &mut content);
     updates.put(BITMAP + part, &content)?;
     Ok(())
 }

@@ -73,7 +73,7 @@ pub(crate) fn give_blocks(
         ≡ mark_by first places.old n + times_set n (take from blocks.now)) }
     ensures len { length places.new ≡ length places.old }
 {
-    for block in from..blocks.count() {
+    for block in from..blocks.len() {
         if let Some(sector) = blocks.at(block) {
             places.give(sector - first)?;
         }

@@ -74,7 +74,8 @@ fn take_cached(cached_nodes: &mut Overlay<'_>, place: u32) -> Result<CachedNode,
     requires { HasNode cached_nodes.old.cached_nodes place }
     ensures cached { IfOk result
         (λ cached. slice_index_or cached_nodes.old.cached_nodes place None ≡ Some cached) }
-    ensures cached_nodes { OnOk result (cached_nodes.new.cached_nodes ≡ set cached_nodes.old.cached_nodes place None) }
+    ensures cached_nodes { OnOk result
+        (cached_nodes.new.cached_nodes ≡ set cached_nodes.old.cached_nodes place None) }
     ensures table { cached_nodes.new.table ≡ cached_nodes.old.table }
 {
     let cached = cached_nodes.take(place)?;
@@ -88,7 +89,8 @@ fn put_cached(
     cached: CachedNode,
 ) -> Result<(), AllocError>
     requires { place < length cached_nodes.old.cached_nodes }
-    ensures cached_nodes { OnOk result (cached_nodes.new.cached_nodes ≡ set cached_nodes.old.cached_nodes place (Some cached)) }
+    ensures cached_nodes { OnOk result
+        (cached_nodes.new.cached_nodes ≡ set cached_nodes.old.cached_nodes place (Some cached)) }
     ensures table { cached_nodes.new.table ≡ cached_nodes.old.table }
 {
     cached_nodes.put(place, Some(cached))
@@ -265,7 +267,7 @@ impl<'a> Transaction<'a> {
         let Ok(at) = cached.names.put(name, stamp, number) else {
             return Err(SpaceFault::Memory);
         };
-        cached.inode.size = cached.names.count() as u64;
+        cached.inode.size = cached.names.len() as u64;
         let filled = write_names(
             &mut self.updates,
             &mut self.places,
@@ -295,11 +297,11 @@ impl<'a> Transaction<'a> {
     {
         let mut cached = take_cached(&mut self.cached_nodes, place)?;
         let (at, _entry) = cached.names.remove(name)?.unwrap();
-        let left = cached.names.count();
+        let left = cached.names.len();
         cached.inode.size = left as u64;
         let count = ((left + RECORDS - 1) / RECORDS) as u32;
         give_blocks(&mut self.places, NODES + self.nodes, &cached.blocks, count)?;
-        let before = cached.blocks.count();
+        let before = cached.blocks.len();
         cached.blocks.cut(count);
         let block = (at / RECORDS) as u32;
         let last = (left / RECORDS) as u32;
@@ -338,7 +340,7 @@ impl<'a> Transaction<'a> {
     /// # Errors
     ///
     /// [`TransactionFault::Device`] if the device failed, [`TransactionFault::Memory`].
-    pub fn cut<S: Sectors>(
+    pub fn truncate<S: Sectors>(
         &mut self,
         base: &mut S,
         place: u32,
@@ -526,7 +528,7 @@ impl<'a> Transaction<'a> {
         ensures count { length self.new.updates
             ≤ length self.old.updates + 1 + sectors_for (set_blocks cached.blocks) }
     {
-        if cached.blocks.count() < before {
+        if cached.blocks.len() < before {
             self.store_node_and_runs(place, cached)?;
         } else {
             self.store_node(place, cached)?;

@@ -31,7 +31,7 @@ use Rattle.volume.proofs.ServeLaws.{few_for_call, few_at_start, flush_adds, seat
 use Rattle.volume.proofs.OneTree.{Seats-set, Tree-set}
 use Rattle.volume.proofs.StandLaws.{placed_on, same_placed, settles_placed, stands_same}
 
--- each of the fronts is one of the list's
+-- each of the prefixes is one of the list's
 prefix_is : (base : Image) (list : List (List Update)) (prefix : Image) → IsAmong (prefixes_from base list) prefix
     → (count : ℕ) × (count ≤ length list) × (prefix ≡ applied_all (take count list) base)
 prefix_is base [] prefix among = ⊎_elim
@@ -44,7 +44,7 @@ prefix_is base (updates ∷ list) prefix among = ⊎_elim
     let it = prefix_is (applied updates base) list prefix rest in (suc it.0, omega (arith, it.1), it.2))
     (among_more base (prefixes_from (applied updates base) list) prefix among)
 
--- a call moved the list's first transactions into the base: each front is one from before
+-- a call moved the list's first transactions into the base: each prefix is one from before
 module _ (limits : Limits) (run : ℕ) (cached_nodes : List (Option CachedNode)) (old new : Log) (placed : old.area ≡ log_at_start old.size) (area : new.area ≡ old.area) (size : new.size ≡ old.size) (moved : Moved old.list old new)
     (settled : IsSettled new) (serving : ∥ IsServing old limits.nodes run cached_nodes ∥₁) where
   same : AreSame old.size (contents old) (contents new)

@@ -23,7 +23,7 @@ use Rattle.volume.proofs.OneTree.{Seats-set, Tree-set}
 use Rattle.volume.proofs.ServeLaws.{among_one, few_for_call, few_at_start, flush_adds, seats_stay, tree_stays}
 use Rattle.volume.proofs.StandLaws.{placed_on, same_placed, settles_placed, stands_same}
 
--- each of the moved base's fronts has the sectors of one of the old base's
+-- each of the moved base's prefixes has the sectors of one of the old base's
 prefix_same : (size : ℕ) (base moved : Image) (list : List (List Update)) (prefix : Image) → AreSame size base moved → IsAmong (prefixes_from moved list) prefix
     → (other : Image) × IsAmong (prefixes_from base list) other × AreSame size other prefix
 prefix_same size base moved [] prefix same among =

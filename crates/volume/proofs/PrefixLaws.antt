@@ -28,7 +28,7 @@ among_more {A = A} first rest one among = by_place among.0 among.1.0 among.1.1
     by_place zero less e = inl e
     by_place (suc place) less e = inr (place, (omega (arith, less), e))
 
--- the base with a prefix of the list applied is among the fronts
+-- the base with a prefix of the list applied is among the prefixes
 pub prefix_among : (base : Image) (list : List (List Update)) (count : ℕ) → count ≤ length list → IsAmong (prefixes_from base list) (applied_all (take count list) base)
 prefix_among base [] zero few = (0, (omega arith, refl))
 prefix_among base [] (suc count) few = absurd (omega (arith, few))
@@ -36,7 +36,7 @@ prefix_among base (updates ∷ list) zero few = (0, (omega arith, refl))
 prefix_among base (updates ∷ list) (suc count) few =
     among_rest base (prefixes_from (applied updates base) list) _ (prefix_among (applied updates base) list count (omega (arith, few)))
 
--- with one more transaction there is one more front
+-- with one more transaction there is one more prefix
 pub prefix_more : (base : Image) (list : List (List Update)) (updates : List Update) (prefix : Image) → IsAmong (prefixes_from base (list ++ updates ∷ [])) prefix
     → IsAmong (prefixes_from base list) prefix ⊎ (prefix ≡ applied updates (applied_all list base))
 prefix_more base [] updates prefix among = ⊎_elim

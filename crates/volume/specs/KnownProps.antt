@@ -9,9 +9,11 @@ use Rattle.model_tree.specs.Trees.Tree.{Tree}
 use Rattle.volume.specs.Formed.{IsFormed}
 use Rattle.volume.specs.Known.{AreKnownNodes}
 
-pub AreKnownNodes-prop : (sectors nodes : ℕ) (cached_nodes : List (Option CachedNode)) (places : List Bool)
+pub AreKnownNodes-prop : (sectors nodes : ℕ) (cached_nodes : List (Option CachedNode))
+    (places : List Bool)
     → IsProp (AreKnownNodes sectors nodes cached_nodes places)
-AreKnownNodes-prop sectors nodes cached_nodes places = Prim.hlevel (props, AreCached-prop, HaveForms-prop)
+AreKnownNodes-prop sectors nodes cached_nodes places = Prim.hlevel
+    (props, AreCached-prop, HaveForms-prop)
 
 pub IsFormed-prop : (limits : Limits) (before_stamp : ℕ) (tree : Tree)
     → IsProp (IsFormed limits before_stamp tree)

@@ -86,7 +86,8 @@ pub record IsRaisedTo (mark : Option ℕ) (found : Superblock) (kept : Kept) (ol
   pub keeps : AreKept (found.run + 1) kept.seats
   pub stands : layout.TreeStands (version_2 mark kept.seats)
       found.sectors found.nodes new (found.run + 1) kept.tree
-  pub cached_nodes : all_second (cached_nodes_in found.nodes new) ≡ all_second (cached_nodes_in found.nodes old)
+  pub cached_nodes : all_second (cached_nodes_in found.nodes new)
+      ≡ all_second (cached_nodes_in found.nodes old)
 
 -- The count is raised with the version, once the nodes have moved, by a write and a sync
 pub record RaisesSafely (found : Superblock) (old : Log) (new : History) : Type 0 where

@@ -6,7 +6,8 @@ use Rattle.layout.specs.Marks.{times}
 
 -- at the place of each node of one of these numbers is the directory's number, and at the places of
 -- the other nodes is what was there
-pub record IsNoted (cached_nodes : List (Option CachedNode)) (old new numbers : List ℕ) (directory : ℕ)
+pub record IsNoted (cached_nodes : List (Option CachedNode)) (old new numbers : List ℕ)
+    (directory : ℕ)
     : Type 0 where
   pub count : length new ≡ length old
   pub led : (place number : ℕ) → node_number_at cached_nodes place ≡ Some number

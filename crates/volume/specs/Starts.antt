@@ -39,7 +39,8 @@ is_marked Two (Some moved) = true
 pub record HasMovedTo (found : Superblock) (mark : Option ℕ) (kept : Kept) (old new : Image)
     : Type 0 where
   pub stands : StandsIn found (moved_mark found.version found.nodes mark) new kept
-  pub cached_nodes : all_second (cached_nodes_in found.nodes new) ≡ all_second (cached_nodes_in found.nodes old)
+  pub cached_nodes : all_second (cached_nodes_in found.nodes new)
+      ≡ all_second (cached_nodes_in found.nodes old)
 
 -- The commit record was written again as it is, with a sync: the log is as it was, except that its
 -- history has two more steps
@@ -75,7 +76,8 @@ pub record StandsInSecond (mark : Option ℕ) (size nodes run : ℕ) (base : Ima
 -- it is held in the current version, with the same cached nodes except for their forms
 pub record IsCleared (nodes run : ℕ) (kept : Kept) (old new : Log) : Type 0 where
   pub stands : StandsNow old.size nodes new.base run kept
-  pub cached_nodes : all_second (cached_nodes_in nodes new.base) ≡ all_second (cached_nodes_in nodes old.base)
+  pub cached_nodes : all_second (cached_nodes_in nodes new.base)
+      ≡ all_second (cached_nodes_in nodes old.base)
 
 -- The mark, if there is one, is removed, and the volume holds what is kept at each moment
 pub record Clears (keeps_word : Type 0) (marked : Bool) (old new : Log)
@@ -97,7 +99,8 @@ pub record Clears (keeps_word : Type 0) (marked : Bool) (old new : Log)
 pub record ServesFrom (found : Superblock) (cached_nodes : List (Option CachedNode)) (seats : Seats)
     (old new : Image) : Type 0 where
   pub read : cached_nodes ≡ cached_nodes_in found.nodes new
-  pub stands : StandsNow found.sectors found.nodes new (found.run + 1) (read_as old cached_nodes seats)
+  pub stands : StandsNow found.sectors found.nodes new (found.run + 1)
+      (read_as old cached_nodes seats)
 
 -- However it ends, the volume holds at each moment what it held before, under either count. If
 -- nothing moves, it writes at most the commit record and sector 0, with a sync after each.
@@ -106,7 +109,8 @@ pub record StartsSafely (found : Superblock) (mark : Option ℕ) (old new : Log)
   pub brief : found.version ≡ Two → mark ≡ None → moment new.history ≤ moment old.history + 4
   pub bounded : MakesAtMost (begin_cost found) old new
 
-pub record HasStarted (keeps_word : Type 0) (found : Superblock) (cached_nodes : List (Option CachedNode))
+pub record HasStarted (keeps_word : Type 0) (found : Superblock)
+    (cached_nodes : List (Option CachedNode))
     (seats : Seats) (old new : Log) : Type 0 where
   pub rests : IsAtRest new
   pub serves : keeps_word → ∥ ServesFrom found cached_nodes seats old.base new.base ∥₁

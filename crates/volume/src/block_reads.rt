@@ -25,7 +25,7 @@ fn count_from(size: u64, offset: u64, len: usize) -> usize
 fn sector_of(blocks: &BlockList, block: u64) -> Option<u32>
     ensures { result ≡ slice_index_or blocks.now block None }
 {
-    if block >= u64::from(blocks.count()) {
+    if block >= u64::from(blocks.len()) {
         return None;
     }
     blocks.at(block as u32)

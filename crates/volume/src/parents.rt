@@ -73,7 +73,7 @@ fn note_names(numbers: &mut Vec<u64>, table: &Table, names: &Names, directory: u
     ensures { IsNoted table.now numbers.old.items numbers.new.items
         (numbers_of names.now) directory }
 {
-    for i in 0..names.count() {
+    for i in 0..names.len() {
         if let Some(place) = table.find(names.entry(i).number) {
             numbers[place as usize] = directory;
         }

@@ -29,10 +29,12 @@ pub record FindsBlocks (word : Type 0) (image : Image) (fields : Fields) (runs :
 -- and its blocks
 pub record FindsRest (word : Type 0) (image : Image) (cached : CachedNode) : Type 0 where
   pub in_blocks : FindsBlocks word image cached.fields cached.runs cached.blocks
-  pub content : FindsContent word image cached.fields.kind cached.fields.size cached.blocks cached.names
+  pub content : FindsContent word image cached.fields.kind cached.fields.size cached.blocks
+      cached.names
 
 -- a place whose node has this form
-pub record FindsOneCached (word : Type 0) (own : Form) (image : Image) (place : ℕ) (cached : CachedNode)
+pub record FindsOneCached (word : Type 0) (own : Form) (image : Image) (place : ℕ)
+    (cached : CachedNode)
     : Type 0 where
   pub form : cached.form ≡ own
   pub node : FindsNode word own (image (node_sector place)) cached.fields

@@ -14,7 +14,8 @@ use Rattle.layout.specs.Stands.{version_by, with_region}
 
 -- no node has more blocks than a file may have
 abbrev pub AreFew : List (Option CachedNode) → Type 0
-AreFew cached_nodes = (place : ℕ) (cached : CachedNode) → slice_index_or cached_nodes place None ≡ Some cached
+AreFew cached_nodes = (place : ℕ) (cached : CachedNode) → slice_index_or cached_nodes place None
+    ≡ Some cached
     → length cached.blocks ≤ 4096
 
 -- A mark of a migration, seats that a volume with it may keep after `run` mounts, cached nodes in

@@ -16,7 +16,7 @@ fn mark_sector(places: &mut Bitmap, first: u32, sector: u32) -> bool
     let Some(place) = sector.checked_sub(first) else {
         return false;
     };
-    if place >= places.count() || places.is_used(place) {
+    if place >= places.len() || places.is_used(place) {
         return false;
     }
     places.mark(place);
@@ -44,7 +44,7 @@ pub(crate) fn mark_blocks(places: &mut Bitmap, first: u32, blocks: &BlockList) -
         → AreMarked first places.old places.new (λ n. times_set n blocks.now) }
     ensures refused { result ≡ false → ¬ CanMark first places.old (λ n. times_set n blocks.now) }
 {
-    for block in 0..blocks.count() {
+    for block in 0..blocks.len() {
         if let Some(sector) = blocks.at(block) {
             if !mark_sector(places, first, sector) {
                 return false;

@@ -65,7 +65,7 @@ fn read_entries<S: Sectors>(
         (IsErrOf result ScanFault.Device) }
 {
     let mut entries = Vec::new(alloc);
-    for block in 0..blocks.count() {
+    for block in 0..blocks.len() {
         let Some(sector) = blocks.at(block) else {
             return Err(ScanFault::Damaged);
         };

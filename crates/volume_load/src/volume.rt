@@ -55,7 +55,7 @@ fn check_marks<S: Sectors>(sectors: &mut S, places: &Bitmap, part: u32) -> Resul
 {
     let content = fetch(sectors, BITMAP + part)?;
     let mut shown = [0; SECTOR];
-    places.to_sector(part, &mut shown);
+    places.write_sector(part, &mut shown);
     if !are_same(&content, &shown) {
         return Err(ScanFault::Damaged);
     }

@@ -9,12 +9,12 @@ use Rattle.wire_attributes.specs.declared.listed.ListedEntry.{ListedEntry}
 use Rattle.wire_attributes.specs.NodeValues.{HasFewEntries, answer_view}
 
 abbrev pub listed_view : ListedAttributes → operation.Attributes
-listed_view (listed.Metadata shown) = answer_view shown
+listed_view (listed.Readable shown) = answer_view shown
 listed_view listed.Unreadable = unreadable
 listed_view listed.Gone = record { bitmap = []; values = [] }
 
 abbrev pub ListedFits : ListedAttributes → Type 0
-ListedFits (listed.Metadata shown) = HasFewEntries shown.node
+ListedFits (listed.Readable shown) = HasFewEntries shown.node
 ListedFits listed.Unreadable = Unit {0}
 ListedFits listed.Gone = Unit {0}
 

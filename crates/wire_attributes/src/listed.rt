@@ -17,7 +17,7 @@ const RDATTR_ERROR: u32 = 0x800;
 /// The attributes of an entry.
 #[derive(Clone, Copy)]
 pub enum ListedAttributes<'a> {
-    Metadata(AttributesAnswer<'a>),
+    Readable(AttributesAnswer<'a>),
     /// Its list is asked for, and the caller may not read it: only rdattr_error, with ACCESS.
     Unreadable,
     /// Its node is gone: no attribute.
@@ -60,7 +60,7 @@ impl ListedAttributes<'_> {
         ensures bound { result ≤ 2 ^ 17 }
     {
         match self {
-            ListedAttributes::Metadata(shown) => shown.size(),
+            ListedAttributes::Readable(shown) => shown.size(),
             ListedAttributes::Unreadable => 16,
             ListedAttributes::Gone => 8,
         }
@@ -72,7 +72,7 @@ impl ListedAttributes<'_> {
         ensures { Wrote w.old w.new result (answered_attributes.encoding (listed_view self.now)) }
     {
         match self {
-            ListedAttributes::Metadata(shown) => shown.write(w),
+            ListedAttributes::Readable(shown) => shown.write(w),
             ListedAttributes::Unreadable => write_unreadable(w),
             ListedAttributes::Gone => write_gone(w),
         }

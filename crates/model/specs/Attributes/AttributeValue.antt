@@ -56,7 +56,8 @@ encoded_kind kind.File = arm 1 void tt
 encoded_kind kind.Directory = arm 2 void tt
 
 abbrev pub node_kind : Grammar NodeKind
-node_kind = union encoded_kind (on 1 void (λ _. kind.File) (on 2 void (λ _. kind.Directory) no_other))
+node_kind = union encoded_kind
+    (on 1 void (λ _. kind.File) (on 2 void (λ _. kind.Directory) no_other))
 
 -- the value of an attribute
 pub data Value : Type 0 where

@@ -14,7 +14,7 @@ use Rattle.model_tree.specs.declared.limits.Limits.{Limits}
 use Rattle.model.specs.Attributes.NodeAttributes.{unreadable}
 use Rattle.model.specs.Operations.Operation.{Attributes, ReadDirArguments}
 use Rattle.model_tree.specs.Refusals.Refusal.{Refusals}
-use Rattle.model.specs.Operations.SetAttr.{attributes_at, asks_lists}
+use Rattle.model.specs.Operations.SetAttr.{attributes_at, asks_acls}
 use Rattle.model.specs.Operations.State.{State, current, current_refusals, answered}
 use Rattle.model_tree.specs.Trees.Tree.{Tree, Node, DirEntry, names_at, is_directory_at}
 use Rattle.model.specs.Wire.WireAnswers as answers
@@ -41,21 +41,21 @@ cookie_refusals arguments = (
 -- that one may not be read
 abbrev pub listing_rights : Tree → Context → ReadDirArguments → List (List Right)
 listing_rights tree context arguments =
-    if asks_lists arguments.bitmap && not (asks_errors arguments.bitmap)
+    if asks_acls arguments.bitmap && not (asks_errors arguments.bitmap)
     then map (λ (name : ℕ × DirEntry). record { number = name.1.number; mask = read_acl } ∷ [])
     (names_after arguments.cookie (names_at tree (current_number context)))
     else []
 
 -- An entry, as it is returned
 
-abbrev pub may_read_list : Cred → Option Node → Bool
-may_read_list cred None = false
-may_read_list cred (Some node) = granted node.acl node.owner node.group cred read_acl
+abbrev pub may_read_acl : Cred → Option Node → Bool
+may_read_acl cred None = false
+may_read_acl cred (Some node) = granted node.acl node.owner node.group cred read_acl
 
 abbrev pub entry_attributes : Limits → Cred → (bitmap : List ℕ) → (number : ℕ) → Option Node
     → Attributes
 entry_attributes limits cred bitmap number node =
-    if asks_lists bitmap && not (may_read_list cred node)
+    if asks_acls bitmap && not (may_read_acl cred node)
     then unreadable
     else attributes_at limits bitmap number node
 

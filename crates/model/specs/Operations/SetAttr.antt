@@ -107,12 +107,12 @@ abbrev pub attributes_at : Limits → (bitmap : List ℕ) → (number : ℕ) →
 attributes_at limits bitmap number None = record { bitmap = []; values = [] }
 attributes_at limits bitmap number (Some node) = node_attributes limits bitmap number node
 
-abbrev pub asks_lists : (bitmap : List ℕ) → Bool
-asks_lists bitmap = is_among (attributes_of bitmap) acl_number
+abbrev pub asks_acls : (bitmap : List ℕ) → Bool
+asks_acls bitmap = is_among (attributes_of bitmap) acl_number
 
 -- GETATTR (section 18.7)
 abbrev pub GETATTR : (bitmap : List ℕ) → Definition
 GETATTR bitmap = on_current
-    (λ tree context. right_if (asks_lists bitmap) (current_number context) read_acl)
+    (λ tree context. right_if (asks_acls bitmap) (current_number context) read_acl)
     (λ limits state now. answered state (Answer.GetAttr
     (attributes_at limits bitmap (current state) (at (current state) state.tree))))

@@ -9,12 +9,12 @@ returns-then-not-is_name_allowed c = (
   λ never. absurd (true≢false (sym never)),
   λ allowed.
       let here = each_entry (λ (entry : Record). IsNameAllowed c.args.limits.now (name_of entry))
-      c.args.names.now c.loop-place.place (record_of c.entry.result.now) c.entry.ensures (omega (arith, c.loop-place-test.true, c.count-place-end.ensures.count)) allowed in
+      c.args.names.now c.loop-place.place (record_of c.entry.result.now) c.entry.ensures (omega (arith, c.loop-place-test.true, c.len-place-end.ensures.count)) allowed in
       sym c.if-not-is_name_allowed.true ∙ c.is_name_allowed.ensures.1 (subst (IsNameAllowed c.args.limits.now) (sym c.deref.ensures.value) here),
 )
 
 pub loop-place-preserved : goal.loop-place-preserved
 loop-place-preserved c =
     each_more (λ (entry : Record). IsNameAllowed c.args.limits.now (name_of entry)) c.args.names.now c.loop-place.place (record_of c.entry.result.now) c.entry.ensures
-    (omega (arith, c.loop-place-test.true, c.count-place-end.ensures.count)) c.loop-place.invariant
+    (omega (arith, c.loop-place-test.true, c.len-place-end.ensures.count)) c.loop-place.invariant
     (subst (IsNameAllowed c.args.limits.now) c.deref.ensures.value (c.is_name_allowed.ensures.0 c.if-not-is_name_allowed.false))

@@ -14,4 +14,4 @@ loop-place-preserved c =
     c.in_ok-push.ensures.items
     ∙ (ap (λ l. l ++ stamp ∷ []) c.loop-place.invariant
     ∙ (append_assoc old (stamps_of (take i names)) (stamp ∷ [])
-    ∙ ap (λ l. old ++ l) (sym (stamps-more names i (record_of c.entry.result.now) c.entry.ensures (omega (arith, c.loop-place-test.true, c.count-place-end.ensures.count))))))
+    ∙ ap (λ l. old ++ l) (sym (stamps-more names i (record_of c.entry.result.now) c.entry.ensures (omega (arith, c.loop-place-test.true, c.len-place-end.ensures.count))))))

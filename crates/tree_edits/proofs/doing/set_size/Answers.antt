@@ -13,8 +13,8 @@ use Rattle.tree_edits.proofs.doing.set_size.Goals as goal
 pub place_of-place-requires : goal.place_of-place-requires
 place_of-place-requires g c = c.requires.can.there
 
-pub cut-requires-clause-file : goal.cut-requires-clause-file
-cut-requires-clause-file g c =
+pub truncate-requires-clause-file : goal.truncate-requires-clause-file
+truncate-requires-clause-file g c =
     let old = c.args.transaction.now in
     let it : IsThere (cached_nodes_of old) c.place_of-place.result c.args.file = there_at (cached_nodes_of old) c.place_of-place.result c.args.file c.place_of-place.ensures in
     can_cut (cached_nodes_of old) old.nodes (mark_by (148 + old.nodes) old.places) c.requires.known.0.cached_nodes c.place_of-place.result c.args.file c.args.size it c.requires.can
@@ -30,14 +30,14 @@ grow-requires-clause-file g c =
 pub returns-then-size-size_at-clause-done : goal.returns-then-size-size_at-clause-done
 returns-then-size-size_at-clause-done g c =
     let old = c.args.transaction.now in
-    let new = c.cut.new.self in
+    let new = c.truncate.new.self in
     let place = c.place_of-place.result in
     let size = c.args.size in
     let known = c.requires.known.0 in
     let it : IsThere (cached_nodes_of old) place c.args.file = there_at (cached_nodes_of old) place c.args.file c.place_of-place.ensures in
     let is = is_file (cached_nodes_of old) old.nodes (mark_by (148 + old.nodes) old.places) known.cached_nodes place c.args.file size it c.requires.can in
     let turn : CachedNode → CachedNode = λ cached_node. sized cached_node size in
-    all_four c.cut.result c.cut.ensures.known c.cut.ensures.cached_nodes c.cut.ensures.count (under _ c.cut.result c.cut.ensures.tree)
+    all_four c.truncate.result c.truncate.ensures.known c.truncate.ensures.cached_nodes c.truncate.ensures.count (under _ c.truncate.result c.truncate.ensures.tree)
     (λ stays turns count cuts. record {
       known = stays;
       outline = turned old new known place c.args.file it turn (turns it.cached it.there) refl (λ (node : Node). with_content node (File (resized (bytes_of node.content) size))) (node_sized size it.cached is);

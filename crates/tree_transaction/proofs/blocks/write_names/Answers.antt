@@ -26,7 +26,7 @@ returns-clause-names c = λ image.
     let region = c.requires.region in
     writes_one c.args.first c.args.places.now c.sector_for.new.places (applied c.args.updates.now image) (applied c.put.new.self image) c.args.blocks.now c.sector_for.new.blocks c.args.block c.in_ok-sector.sector _ c.requires.within.0 region.marked
     (subst (λ (blocks : List (Option ℕ)). GetsSector c.args.first c.args.places.now c.sector_for.new.places blocks c.sector_for.new.blocks c.args.block c.in_ok-sector.sector) c.in_ok-grow.ensures.ok c.in_ok-sector.ensures.gets)
-    (c.in_ok-put.ensures.image image ∙ ap (λ (content : List ℕ). put (applied c.args.updates.now image) (record { target = c.in_ok-sector.sector; content = content })) c.to_sector.ensures)
+    (c.in_ok-put.ensures.image image ∙ ap (λ (content : List ℕ). put (applied c.args.updates.now image) (record { target = c.in_ok-sector.sector; content = content })) c.write_sector.ensures)
 
 pub returns-clause-gets : goal.returns-clause-gets
 returns-clause-gets c =

@@ -15,7 +15,7 @@ pub returns-then-not-mark_sector-clause-refused : goal.returns-then-not-mark_sec
 returns-then-not-mark_sector-clause-refused c = λ is can.
     let i = c.loop-block.block in
     let blocks : List (Option ℕ) = c.args.blocks.now in
-    let within : i < length blocks = omega (arith, c.loop-block-test.true, c.count-block-end.ensures.count) in
+    let within : i < length blocks = omega (arith, c.loop-block-test.true, c.len-block-end.ensures.count) in
     let one : get_or blocks i None ≡ Some c.in-Some.sector = sym c.at.ensures ∙ c.in-Some.is in
     c.mark_sector.ensures.refused c.if-not-mark_sector.true
     (can_more c.args.first c.args.places.now c.loop-block.places (λ n. times_set n (take i blocks)) (λ n. once_if (eqb n c.in-Some.sector)) (λ n. times_set n blocks)
@@ -25,7 +25,7 @@ pub loop-block-preserved : goal.loop-block-preserved
 loop-block-preserved c =
     let i = c.loop-block.block in
     let blocks : List (Option ℕ) = c.args.blocks.now in
-    let within : i < length blocks = omega (arith, c.loop-block-test.true, c.count-block-end.ensures.count) in
+    let within : i < length blocks = omega (arith, c.loop-block-test.true, c.len-block-end.ensures.count) in
     elim c.match-at.branch [
       | in-Some+else-not-mark_sector w ↦
           let one : get_or blocks i None ≡ Some w.in-Some.sector = sym c.at.ensures ∙ w.in-Some.is in
@@ -44,6 +44,6 @@ pub returns-clause-marked : goal.returns-clause-marked
 returns-clause-marked c = λ is.
     let blocks : List (Option ℕ) = c.args.blocks.now in
     let i = c.loop-block.block in
-    let whole : take i blocks ≡ blocks = take_all i blocks (omega (arith, c.loop-block-test.false, c.count-block-end.ensures.count)) in
+    let whole : take i blocks ≡ blocks = take_all i blocks (omega (arith, c.loop-block-test.false, c.len-block-end.ensures.count)) in
     marked_more c.args.first c.args.places.now c.loop-block.places c.loop-block.places (λ n. times_set n (take i blocks)) (λ n. 0) (λ n. times_set n blocks) (λ n. let e = ap (times_set n) whole in omega arith) c.loop-block.invariant
     (marked_none c.args.first c.loop-block.places (λ n. 0) (λ n. refl))

@@ -65,7 +65,7 @@ pub returns-in-GetFh : goal.returns-in-GetFh
 returns-in-GetFh g c = reads_or c.args.engine.now (in_progress_of c.args.self.now) (argument_view c.args.argument.now) (rw c.in-GetFh.is refl) c.requires.agrees (rw c.in-GetFh.is refl) c.requires.ready.up _ (rw c.in-GetFh.is c.get_handle.ensures)
 
 pub returns-in-ReadDir : goal.returns-in-ReadDir
-returns-in-ReadDir g c = reads_or c.args.engine.now (in_progress_of c.args.self.now) (argument_view c.args.argument.now) (rw c.in-ReadDir.is refl) c.requires.agrees (rw c.in-ReadDir.is refl) c.requires.ready.up _ (rw c.in-ReadDir.is c.list.ensures)
+returns-in-ReadDir g c = reads_or c.args.engine.now (in_progress_of c.args.self.now) (argument_view c.args.argument.now) (rw c.in-ReadDir.is refl) c.requires.agrees (rw c.in-ReadDir.is refl) c.requires.ready.up _ (rw c.in-ReadDir.is c.read_dir.ensures)
 
 -- It changes the opens
 

@@ -4,7 +4,7 @@ use Rattle.model.specs.Operations.Answer.{Answer}
 use Rattle.model.specs.Attributes.Attribute.{attributes_of, is_among}
 use Rattle.model.specs.Attributes.NodeAttributes.{node_attributes}
 use Rattle.model.specs.Operations.Operation.{Argument, Attributes}
-use Rattle.model.specs.Operations.SetAttr.{asks_lists}
+use Rattle.model.specs.Operations.SetAttr.{asks_acls}
 use Rattle.model.specs.Operations.Step.{answered, does}
 use Rattle.fs.specs.Views.{fs_of}
 use Rattle.fs.proofs.AttributeLaws.{attributes_are}
@@ -36,7 +36,7 @@ returns-clause-attributes g c state now is =
     let cached_node = c.in-Some.cached.now in
     let node = c.in-Some.ensures.some in
     let bitmap = c.args.asked.now in
-    let listed : c.is_asked.result ≡ asks_lists bitmap = c.is_asked.ensures ∙ ap (is_among (attributes_of bitmap)) c.number.ensures in
+    let listed : c.is_asked.result ≡ asks_acls bitmap = c.is_asked.ensures ∙ ap (is_among (attributes_of bitmap)) c.number.ensures in
     let told : does held.limits state now (Argument.GetAttr bitmap) ≡ answered state (Answer.GetAttr (node_attributes held.limits bitmap c.args.number node.node)) =
     elim c.else-is_asked.branch [
       | else-is_asked-via-then-is_asked+else-not-grants w ↦

@@ -75,13 +75,13 @@ module _ (c : goal.After-store_cut-arg-1) where
   abbrev cached_node : CachedNode
   cached_node = seen c.cached.inside.form c.cached.inside.inode c.cached.inside.runs c.cached.inside.blocks c.cached.inside.names
 
-  left_can : IsLeft c.in_ok-cached.cached cached_node c.args.name.now c.remove.new.self c.unwrap-at.result.0 c.count-left.result c.cut.new.self
-  left_can = is_left c.in_ok-cached.cached _ c.cached.view_is c.args.name.now c.remove.new.self c.unwrap-at.result.0 c.count-left.result c.cut.new.self (of_some _ c.in_ok-remove.field-0 c.unwrap-at.result c.unwrap-at.ensures c.in_ok-remove.ensures.place).0
-      (of_some _ c.in_ok-remove.field-0 c.unwrap-at.result c.unwrap-at.ensures c.in_ok-remove.ensures.removed) c.count-left.ensures.count c.cut.ensures
+  left_can : IsLeft c.in_ok-cached.cached cached_node c.args.name.now c.remove.new.self c.unwrap-at.result.0 c.len-left.result c.cut.new.self
+  left_can = is_left c.in_ok-cached.cached _ c.cached.view_is c.args.name.now c.remove.new.self c.unwrap-at.result.0 c.len-left.result c.cut.new.self (of_some _ c.in_ok-remove.field-0 c.unwrap-at.result c.unwrap-at.ensures c.in_ok-remove.ensures.place).0
+      (of_some _ c.in_ok-remove.field-0 c.unwrap-at.result c.unwrap-at.ensures c.in_ok-remove.ensures.removed) c.len-left.ensures.count c.cut.ensures
 
   marks_can : (n : ℕ) → mark_by (148 + c.args.self.now.nodes) c.give_blocks.new.places n + times_set n c.in_ok-cached.cached.blocks
       ≡ mark_by (148 + c.args.self.now.nodes) c.args.self.now.places n + times_set n (take (blocks_of kind.Directory (length c.remove.new.self)) c.in_ok-cached.cached.blocks)
-  marks_can = marks_left c.in_ok-cached.cached _ c.cached.view_is c.remove.new.self c.count-left.result (148 + c.args.self.now.nodes) c.args.self.now.places c.give_blocks.new.places c.count-left.ensures.count c.in_ok-give_blocks.ensures.marks
+  marks_can = marks_left c.in_ok-cached.cached _ c.cached.view_is c.remove.new.self c.len-left.result (148 + c.args.self.now.nodes) c.args.self.now.places c.give_blocks.new.places c.len-left.ensures.count c.in_ok-give_blocks.ensures.marks
 
 pub store_cut-requires-clause-can : goal.store_cut-requires-clause-can
 store_cut-requires-clause-can c =
@@ -102,12 +102,12 @@ store_cut-requires-clause-same c more =
     let left = ap length it.cut_is in
     subst (HasItsRuns c.args.place) (sym it.now_is)
     (drop_runs c.args.self.now c.args.place c.in_ok-cached.cached c.args.name.now c.requires.known c.in_ok-cached.ensures.cached c.requires.names c.remove.new.self it.are
-    (omega (arith, more, long, left, c.count-before.ensures, length-take (blocks_of kind.Directory (length c.remove.new.self)) c.in_ok-cached.cached.blocks)) c.count-left.ensures.names)
+    (omega (arith, more, long, left, c.len-before.ensures, length-take (blocks_of kind.Directory (length c.remove.new.self)) c.in_ok-cached.cached.blocks)) c.len-left.ensures.names)
 
 pub returns-in_err-store_cut-clause-count : goal.returns-in_err-store_cut-clause-count
 returns-in_err-store_cut-clause-count c =
-    let it = is_left c.in_ok-cached.cached _ c.cached.view_is c.args.name.now c.remove.new.self c.unwrap-at.result.0 c.count-left.result c.cut.new.self (of_some _ c.in_ok-remove.field-0 c.unwrap-at.result c.unwrap-at.ensures c.in_ok-remove.ensures.place).0
-    (of_some _ c.in_ok-remove.field-0 c.unwrap-at.result c.unwrap-at.ensures c.in_ok-remove.ensures.removed) c.count-left.ensures.count c.cut.ensures in
+    let it = is_left c.in_ok-cached.cached _ c.cached.view_is c.args.name.now c.remove.new.self c.unwrap-at.result.0 c.len-left.result c.cut.new.self (of_some _ c.in_ok-remove.field-0 c.unwrap-at.result c.unwrap-at.ensures c.in_ok-remove.ensures.place).0
+    (of_some _ c.in_ok-remove.field-0 c.unwrap-at.result c.unwrap-at.ensures c.in_ok-remove.ensures.removed) c.len-left.ensures.count c.cut.ensures in
     let few = drop_few c.args.self.now c.args.place c.in_ok-cached.cached c.args.name.now c.requires.known c.in_ok-cached.ensures.cached c.requires.names c.remove.new.self it.are in
     let cut = ap (λ (b : List (Option ℕ)). set_blocks b) it.cut_is in
     omega (arith, few, cut, c.rewrite_names.ensures.count, c.rewrite_names-2.ensures.count, c.store_cut.ensures.count)
@@ -135,20 +135,20 @@ module _ (c : goal.After-drop-entry-2) where
   abbrev blocks : List (Option ℕ)
   blocks = take (blocks_of kind.Directory (length names)) was.blocks
 
-  it : IsLeft was mid_cached name names c.unwrap-at.result.0 c.count-left.result c.cut.new.self
-  it = is_left c.in_ok-cached.cached _ c.cached.view_is c.args.name.now c.remove.new.self c.unwrap-at.result.0 c.count-left.result c.cut.new.self (of_some _ c.in_ok-remove.field-0 c.unwrap-at.result c.unwrap-at.ensures c.in_ok-remove.ensures.place).0
-      (of_some _ c.in_ok-remove.field-0 c.unwrap-at.result c.unwrap-at.ensures c.in_ok-remove.ensures.removed) c.count-left.ensures.count c.cut.ensures
+  it : IsLeft was mid_cached name names c.unwrap-at.result.0 c.len-left.result c.cut.new.self
+  it = is_left c.in_ok-cached.cached _ c.cached.view_is c.args.name.now c.remove.new.self c.unwrap-at.result.0 c.len-left.result c.cut.new.self (of_some _ c.in_ok-remove.field-0 c.unwrap-at.result c.unwrap-at.ensures c.in_ok-remove.ensures.place).0
+      (of_some _ c.in_ok-remove.field-0 c.unwrap-at.result c.unwrap-at.ensures c.in_ok-remove.ensures.removed) c.len-left.ensures.count c.cut.ensures
 
   marks : (n : ℕ) → mark_by (148 + c.args.self.now.nodes) c.give_blocks.new.places n + times_set n was.blocks ≡ mark_by (148 + c.args.self.now.nodes) c.args.self.now.places n + times_set n blocks
-  marks = marks_left c.in_ok-cached.cached _ c.cached.view_is c.remove.new.self c.count-left.result (148 + c.args.self.now.nodes) c.args.self.now.places c.give_blocks.new.places c.count-left.ensures.count c.in_ok-give_blocks.ensures.marks
+  marks = marks_left c.in_ok-cached.cached _ c.cached.view_is c.remove.new.self c.len-left.result (148 + c.args.self.now.nodes) c.args.self.now.places c.give_blocks.new.places c.len-left.ensures.count c.in_ok-give_blocks.ensures.marks
 
   one : (image : Image) → Rewrites (applied c.args.self.now.updates image) (applied c.rewrite_names.new.updates image) (get_or blocks (place_of name was.names / 15) None) (directory_sector (names_of_block (place_of name was.names / 15) names))
   one image = written (applied c.args.self.now.updates image) (applied c.rewrite_names.new.updates image) c.cut.new.self blocks (c.unwrap-at.result.0 / 15) (place_of name was.names / 15) names it.cut_is
       (ap (λ (p : ℕ). p / 15) it.at_is) (c.in_ok-rewrite_names.ensures.names image)
 
   other : (image : Image) → Rewrites (applied c.rewrite_names.new.updates image) (applied c.rewrite_names-2.new.updates image) (get_or blocks (length names / 15) None) (directory_sector (names_of_block (length names / 15) names))
-  other image = written (applied c.rewrite_names.new.updates image) (applied c.rewrite_names-2.new.updates image) c.cut.new.self blocks (c.count-left.result / 15) (length names / 15) names it.cut_is
-      (ap (λ (p : ℕ). p / 15) c.count-left.ensures.count) (c.in_ok-rewrite_names-2.ensures.names image)
+  other image = written (applied c.rewrite_names.new.updates image) (applied c.rewrite_names-2.new.updates image) c.cut.new.self blocks (c.len-left.result / 15) (length names / 15) names it.cut_is
+      (ap (λ (p : ℕ). p / 15) c.len-left.ensures.count) (c.in_ok-rewrite_names-2.ensures.names image)
 
   back : StandsAgain c.args.self.now c.store_cut.new.self c.args.place (named_cached was blocks names) c.give_blocks.new.places c.rewrite_names-2.new.updates
   back =
@@ -177,18 +177,18 @@ pub returns-clause-known : goal.returns-clause-known
 returns-clause-known c =
     let it_is = it c in
     drop_stays c.args.self.now c.args.place (was c) (name c) c.requires.known c.in_ok-cached.ensures.cached c.requires.names (names c) it_is.are c.give_blocks.new.places (marks c) c.give_blocks.ensures.len
-    c.store_cut.new.self c.rewrite_names.new.updates c.rewrite_names-2.new.updates c.count-left.ensures.names (one c) (other c) (back c)
+    c.store_cut.new.self c.rewrite_names.new.updates c.rewrite_names-2.new.updates c.len-left.ensures.names (one c) (other c) (back c)
 
 pub returns-clause-cached_nodes : goal.returns-clause-cached_nodes
 returns-clause-cached_nodes c =
     let it_is = it c in
     turns c.args.self.now c.store_cut.new.self c.args.place (was c) c.in_ok-cached.ensures.cached (without_name (name c))
     (drop_now c.args.self.now c.args.place (was c) (name c) c.requires.known c.in_ok-cached.ensures.cached c.requires.names (names c) it_is.are c.give_blocks.new.places (marks c) c.give_blocks.ensures.len
-    c.store_cut.new.self c.rewrite_names.new.updates c.rewrite_names-2.new.updates c.count-left.ensures.names (one c) (other c) (back c))
+    c.store_cut.new.self c.rewrite_names.new.updates c.rewrite_names-2.new.updates c.len-left.ensures.names (one c) (other c) (back c))
 
 pub returns-clause-dropped : goal.returns-clause-dropped
 returns-clause-dropped c =
     let it_is = it c in
     dropped c.args.self.now c.store_cut.new.self c.args.place (was c) (name c) c.in_ok-cached.ensures.cached
     (λ entry found base size. drop_made c.args.self.now c.args.place (was c) (name c) c.requires.known c.in_ok-cached.ensures.cached c.requires.names (names c) it_is.are c.give_blocks.new.places (marks c) c.give_blocks.ensures.len
-    c.store_cut.new.self c.rewrite_names.new.updates c.rewrite_names-2.new.updates c.count-left.ensures.names (one c) (other c) (back c) base size entry.0 (map_is c entry found))
+    c.store_cut.new.self c.rewrite_names.new.updates c.rewrite_names-2.new.updates c.len-left.ensures.names (one c) (other c) (back c) base size entry.0 (map_is c entry found))

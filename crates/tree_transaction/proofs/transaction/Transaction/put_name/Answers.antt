@@ -77,7 +77,7 @@ store_written-requires-clause-can c =
     let blocks : List (Option ℕ) = c.write_names.new.blocks in
     let entry : Record = record_from c.args.stamp c.args.name.now c.args.number in
     let at = at_block c.in-Ok.at c.args.name.now c.cached.inside.names was c.in-Ok.ensures.place (names_of _ _ c.cached.view_is) in
-    subst (λ (one : CachedNode). CanBeLaid old.nodes c.args.place c.write_names.new.places one) (sym (cached_is was _ c.cached.view_is blocks names c.count.result c.count.ensures.count))
+    subst (λ (one : CachedNode). CanBeLaid old.nodes c.args.place c.write_names.new.places one) (sym (cached_is was _ c.cached.view_is blocks names c.len.result c.len.ensures.count))
     (can_be_named old c.args.place was c.args.name.now c.args.stamp c.args.number c.requires.known c.in_ok-cached.ensures.cached c.requires.names names (are was _ c.cached.view_is blocks names entry c.in-Ok.ensures.ok) blocks c.write_names.new.places
     c.write_names.new.updates (gets was _ c.cached.view_is blocks names (148 + old.nodes) old.places c.write_names.new.places c.in_ok-filled.ensures.gets)
     (λ image. writes was _ c.cached.view_is blocks names (applied old.updates image) (applied c.write_names.new.updates image) (c.in-Ok.at / 15) (place_of c.args.name.now was.names / 15) at (c.in_ok-filled.ensures.names image)))
@@ -90,11 +90,11 @@ store_written-requires-clause-same c none =
     let blocks : List (Option ℕ) = c.write_names.new.blocks in
     let entry : Record = record_from c.args.stamp c.args.name.now c.args.number in
     let at = at_block c.in-Ok.at c.args.name.now c.cached.inside.names was c.in-Ok.ensures.place (names_of _ _ c.cached.view_is) in
-    subst (HasItsRuns c.args.place) (sym (cached_is was _ c.cached.view_is blocks names c.count.result c.count.ensures.count))
+    subst (HasItsRuns c.args.place) (sym (cached_is was _ c.cached.view_is blocks names c.len.result c.len.ensures.count))
     (named_runs old c.args.place was c.args.name.now c.args.stamp c.args.number c.requires.known c.in_ok-cached.ensures.cached c.requires.names names (are was _ c.cached.view_is blocks names entry c.in-Ok.ensures.ok) blocks c.write_names.new.places
     c.write_names.new.updates (gets was _ c.cached.view_is blocks names (148 + old.nodes) old.places c.write_names.new.places c.in_ok-filled.ensures.gets)
     (λ image. writes was _ c.cached.view_is blocks names (applied old.updates image) (applied c.write_names.new.updates image) (c.in-Ok.at / 15) (place_of c.args.name.now was.names / 15) at (c.in_ok-filled.ensures.names image))
-    c.count.ensures.names (c.in_ok-filled.ensures.same none ∙ ap (λ (one : CachedNode). one.blocks) c.cached.view_is))
+    c.len.ensures.names (c.in_ok-filled.ensures.same none ∙ ap (λ (one : CachedNode). one.blocks) c.cached.view_is))
 
 pub returns-in_err-store_written-clause-full : goal.returns-in_err-store_written-clause-full
 returns-in_err-store_written-clause-full c full =
@@ -109,7 +109,7 @@ returns-in_err-store_written-clause-full c full =
     (named_last old c.args.place was c.args.name.now c.args.stamp c.args.number c.requires.known c.in_ok-cached.ensures.cached c.requires.names names (are was _ c.cached.view_is blocks names entry c.in-Ok.ensures.ok) blocks c.write_names.new.places
     c.write_names.new.updates (gets was _ c.cached.view_is blocks names (148 + old.nodes) old.places c.write_names.new.places c.in_ok-filled.ensures.gets)
     (λ image. writes was _ c.cached.view_is blocks names (applied old.updates image) (applied c.write_names.new.updates image) (c.in-Ok.at / 15) (place_of c.args.name.now was.names / 15) at (c.in_ok-filled.ensures.names image))
-    (subst (λ (one : CachedNode). free_places c.write_names.new.places + length one.fields.run_sectors < sectors_for (set_blocks one.blocks)) (cached_is was _ c.cached.view_is blocks names c.count.result c.count.ensures.count) more))
+    (subst (λ (one : CachedNode). free_places c.write_names.new.places + length one.fields.run_sectors < sectors_for (set_blocks one.blocks)) (cached_is was _ c.cached.view_is blocks names c.len.result c.len.ensures.count) more))
 
 pub returns-in_err-store_written-clause-count : goal.returns-in_err-store_written-clause-count
 returns-in_err-store_written-clause-count c =
@@ -165,7 +165,7 @@ module _ (c : goal.In_ok-store_written) where
   back =
       let stands = c.in_ok-store_written.ensures.stands in
       subst (λ (one : CachedNode). StandsAgain c.args.self.now c.store_written.new.self c.args.place one c.write_names.new.places c.write_names.new.updates)
-      (cached_is was cached_node c.cached.view_is blocks names c.count.result c.count.ensures.count)
+      (cached_is was cached_node c.cached.view_is blocks names c.len.result c.len.ensures.count)
       (record {
         is = stands.is;
         put = stands.put ∙ ap (λ (l : List (Option CachedNode)). set l c.args.place (Some stands.is)) c.in_ok-cached.ensures.cached_nodes ∙ put-back c.args.self.now.cached_nodes.cached_nodes c.args.place stands.is;
@@ -181,17 +181,17 @@ module _ (c : goal.In_ok-store_written) where
 pub returns-clause-known : goal.returns-clause-known
 returns-clause-known c =
     put_stays c.args.self.now c.args.place (was c) c.args.name.now c.args.stamp c.args.number c.requires.known c.in_ok-cached.ensures.cached c.requires.names (names c) (are_now c) (blocks c) c.write_names.new.places
-    c.write_names.new.updates (gets_now c) (writes_now c) c.store_written.new.self c.count.ensures.names (back c)
+    c.write_names.new.updates (gets_now c) (writes_now c) c.store_written.new.self c.len.ensures.names (back c)
 
 pub returns-clause-cached_nodes : goal.returns-clause-cached_nodes
 returns-clause-cached_nodes c = turns c.args.self.now c.store_written.new.self c.args.place (was c) c.in_ok-cached.ensures.cached (with_name (entry c))
     (put_now c.args.self.now c.args.place (was c) c.args.name.now c.args.stamp c.args.number c.requires.known c.in_ok-cached.ensures.cached c.requires.names (names c) (are_now c) (blocks c) c.write_names.new.places
-    c.write_names.new.updates (gets_now c) (writes_now c) c.store_written.new.self c.count.ensures.names (back c))
+    c.write_names.new.updates (gets_now c) (writes_now c) c.store_written.new.self c.len.ensures.names (back c))
 
 pub returns-clause-put : goal.returns-clause-put
 returns-clause-put c = edits c.args.self.now c.store_written.new.self c.args.place (was c) c.in_ok-cached.ensures.cached (λ to. PutName to c.args.stamp (record { name = c.args.name.now; number = c.args.number }))
     (λ base size. put_made c.args.self.now c.args.place (was c) c.args.name.now c.args.stamp c.args.number c.requires.known c.in_ok-cached.ensures.cached c.requires.names (names c) (are_now c) (blocks c) c.write_names.new.places
-    c.write_names.new.updates (gets_now c) (writes_now c) c.store_written.new.self c.count.ensures.names (back c) base size (map_is c))
+    c.write_names.new.updates (gets_now c) (writes_now c) c.store_written.new.self c.len.ensures.names (back c) base size (map_is c))
 
 pub returns-clause-count : goal.returns-clause-count
 returns-clause-count c =

@@ -13,6 +13,6 @@ returns-in_ok-store_node_and_runs-clause-stands c =
 
 pub returns-in_ok-store_node-clause-stands : goal.returns-in_ok-store_node-clause-stands
 returns-in_ok-store_node-clause-stands c =
-    let has = c.requires.same (omega (arith, c.if-count-before.false, c.count.ensures, ap (λ (one : CachedNode). length one.blocks) c.cached.view_is)) in
+    let has = c.requires.same (omega (arith, c.if-len-before.false, c.len.ensures, ap (λ (one : CachedNode). length one.blocks) c.cached.view_is)) in
     put_again c.args.self.now c.store_node.new.self c.args.place c.args.cached c.args.self.now.places c.args.self.now.updates has.is_cached has.apart
     (c.in_ok-store_node.ensures.cached_nodes ∙ sym (put-back (cached_nodes_of c.args.self.now) c.args.place c.args.cached)) c.store_node.ensures.nodes c.store_node.ensures.places c.in_ok-store_node.ensures.node

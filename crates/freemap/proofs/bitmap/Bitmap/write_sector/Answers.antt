@@ -2,7 +2,7 @@ use Rattle.std.proofs.Common.{◌≡◌, ◌*◌, ◌+◌, List, ℕ, Bool, leng
 use Rattle.freemap.specs.Places.{ShowsPlaces}
 use Rattle.freemap.proofs.Bits.{Shows-part, part-there}
 use Rattle.freemap.proofs.PartLaws.{part-within}
-use Rattle.freemap.proofs.bitmap.Bitmap.to_sector.Goals as goal
+use Rattle.freemap.proofs.bitmap.Bitmap.write_sector.Goals as goal
 
 pub slice_bounds-copy_from_slice-end-2 : goal.slice_bounds-copy_from_slice-end-2
 slice_bounds-copy_from_slice-end-2 c =

@@ -13,8 +13,8 @@ use Rattle.tree_transaction.specs.Laying.{CanBeLaid, HasEnough}
 use Rattle.tree_transaction.proofs.BackLaws.{laid_again}
 use Rattle.tree_transaction.proofs.CutLaws.{cut_cached, blocks_marked, sectors_here, can_be_cut, cut_enough, cut_stays, cut_now, cut_made}
 use Rattle.tree_transaction.proofs.KnownLaws.{same_cached, edits_over, turns}
-use Rattle.tree_transaction.proofs.transaction.Transaction.cut.Goals as goal
-use Rattle.tree_transaction.proofs.transaction.Transaction.cut.Given as given
+use Rattle.tree_transaction.proofs.transaction.Transaction.truncate.Goals as goal
+use Rattle.tree_transaction.proofs.transaction.Transaction.truncate.Given as given
 
 pub clear_tail-requires-clause-sectors : goal.clear_tail-requires-clause-sectors
 clear_tail-requires-clause-sectors g c =

@@ -19,7 +19,7 @@ use Rattle.compound.proofs.Outcomes.{read_or}
 use Rattle.compound.proofs.Rooms.{gives_refusal}
 use Rattle.compound.proofs.Telling.{tells_ok}
 use Rattle.compound.proofs.Trees.{is_on, is_there, of_request, wants}
-use Rattle.compound.proofs.reading.Reading.list.Goals as goal
+use Rattle.compound.proofs.reading.Reading.read_dir.Goals as goal
 
 pub returns-in-Err : goal.returns-in-Err
 unfolding in_progress_of
@@ -34,21 +34,21 @@ returns-in-Err g c = record {
       (gives_refusal now (shared fs table opens) (shared fs table opens) request kind 26 _ (wants now fs table opens request kind refl c.in-Err.ensures.err.1)));
 }
 
-pub returns-in_ok-values-in-Ok-list : goal.returns-in_ok-values-in-Ok-list
+pub returns-in_ok-values-in-Ok-read_dir : goal.returns-in_ok-values-in-Ok-read_dir
 unfolding in_progress_of
-returns-in_ok-values-in-Ok-list g c = record {
+returns-in_ok-values-in-Ok-read_dir g c = record {
   answered = c.settle_encoded.ensures.answered;
   gives = λ now table opens.
       let fs = fs_of c.args.self.now.fs.now in
       let request = in_progress_of c.args.self.now.running.now in
       let arguments = read_dir_view c.args.arguments.now in
       let kind = Argument.ReadDir arguments in
-      let answer = Answer.ReadDir (page_view c.in-Ok-list.page) in
+      let answer = Answer.ReadDir (page_view c.in-Ok-read_dir.page) in
       c.settle_encoded.ensures.gives now (shared fs table opens) kind answer
-      (record { number_is = refl; values_are = sym c.in_ok-values-in-Ok-list.ensures }) refl
+      (record { number_is = refl; values_are = sym c.in_ok-values-in-Ok-read_dir.ensures }) refl
       (tells_ok now fs table opens request kind (list_on_tree arguments) answer
-      (λ state there. subst (λ (asked : ReadDirArguments). Lists fs state now asked (Ok c.in-Ok-list.page)) c.listing.ensures.arguments
-      (c.in-Ok-list.ensures.step state now c.args.arguments.now.dir_count (is_on fs request _ _ c.args.self.now.ready.run c.in-Ok.ensures.ok.0 (c.in-Ok.ensures.ok.1 ∙ sym c.listing.ensures.directory) there))));
+      (λ state there. subst (λ (asked : ReadDirArguments). Lists fs state now asked (Ok c.in-Ok-read_dir.page)) c.listing.ensures.arguments
+      (c.in-Ok-read_dir.ensures.step state now c.args.arguments.now.dir_count (is_on fs request _ _ c.args.self.now.ready.run c.in-Ok.ensures.ok.0 (c.in-Ok.ensures.ok.1 ∙ sym c.listing.ensures.directory) there))));
 }
 
 -- If it is not done
@@ -59,22 +59,22 @@ tell_fault-requires g c =
     let fs = fs_of c.args.self.now.fs.now in
     let request = in_progress_of c.args.self.now.running.now in
     let state = of_request fs request in
-    lists_up fs state 0 (read_dir_view c.args.arguments.now) c.in-Err-list.fault c.args.self.now.ready.up
-    (subst (λ (asked : ReadDirArguments). Lists fs state 0 asked (Err c.in-Err-list.fault)) c.listing.ensures.arguments
-    (c.in-Err-list.ensures.step state 0 c.args.arguments.now.dir_count (is_on fs request _ _ c.args.self.now.ready.run c.in-Ok.ensures.ok.0 (c.in-Ok.ensures.ok.1 ∙ sym c.listing.ensures.directory) (is_there fs request))))
+    lists_up fs state 0 (read_dir_view c.args.arguments.now) c.in-Err-read_dir.fault c.args.self.now.ready.up
+    (subst (λ (asked : ReadDirArguments). Lists fs state 0 asked (Err c.in-Err-read_dir.fault)) c.listing.ensures.arguments
+    (c.in-Err-read_dir.ensures.step state 0 c.args.arguments.now.dir_count (is_on fs request _ _ c.args.self.now.ready.run c.in-Ok.ensures.ok.0 (c.in-Ok.ensures.ok.1 ∙ sym c.listing.ensures.directory) (is_there fs request))))
 
-pub returns-in-Err-list : goal.returns-in-Err-list
+pub returns-in-Err-read_dir : goal.returns-in-Err-read_dir
 unfolding in_progress_of
-returns-in-Err-list g c =
+returns-in-Err-read_dir g c =
     let fs = fs_of c.args.self.now.fs.now in
     let request = in_progress_of c.args.self.now.running.now in
     let state = of_request fs request in
     let arguments = read_dir_view c.args.arguments.now in
-    let fault = c.in-Err-list.fault in
+    let fault = c.in-Err-read_dir.fault in
     let up = c.args.self.now.ready.up in
     let on = λ (state : State) (there : IsHere fs request state). is_on fs request _ _ c.args.self.now.ready.run c.in-Ok.ensures.ok.0 (c.in-Ok.ensures.ok.1 ∙ sym c.listing.ensures.directory) there in
     let step = λ (state : State) (now : ℕ) (there : IsHere fs request state). subst (λ (asked : ReadDirArguments). Lists fs state now asked (Err fault)) c.listing.ensures.arguments
-    (c.in-Err-list.ensures.step state now c.args.arguments.now.dir_count (on state there)) in
+    (c.in-Err-read_dir.ensures.step state now c.args.arguments.now.dir_count (on state there)) in
     let first = step state 0 (is_there fs request) in
     subst (λ (r : Result Executed Fault). OrMemory r (Reads fs request (Argument.ReadDir arguments))) (sym c.tell_fault.ensures)
     (read_or fs request (Argument.ReadDir arguments) (fault_result 26 fault) (told_lists fs request arguments fault step)

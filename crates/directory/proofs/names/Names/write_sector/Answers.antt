@@ -1,7 +1,7 @@
 use Rattle.std.proofs.Common.{◌≡◌, ◌+◌, min, length, take, drop, ap, ◌∙◌, arith}
 use Rattle.directory.specs.Encoding.{directory_sector}
 use Rattle.directory.proofs.Sector.{same_part}
-use Rattle.directory.proofs.names.Names.to_sector.Goals as goal
+use Rattle.directory.proofs.names.Names.write_sector.Goals as goal
 
 pub returns : goal.returns
 returns c =

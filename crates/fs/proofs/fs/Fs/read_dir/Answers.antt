@@ -16,8 +16,8 @@ use Rattle.fs.specs.declared.fault.FsFault.TheVariants as fault
 use Rattle.fs.proofs.ListLaws.{each_listed, all, all_shown, list_refused, list_small, list_crowded, list_done}
 use Rattle.volume.proofs.ServeLaws.{is_err_of}
 use Rattle.wire_attributes.specs.Listed.{entry_view}
-use Rattle.fs.proofs.fs.Fs.list.Goals as goal
-use Rattle.fs.proofs.fs.Fs.list.Goals.{else-is_empty-via-then-is_empty+else-not-page, else-is_empty-via-else-is_empty}
+use Rattle.fs.proofs.fs.Fs.read_dir.Goals as goal
+use Rattle.fs.proofs.fs.Fs.read_dir.Goals.{else-is_empty-via-then-is_empty+else-not-page, else-is_empty-via-else-is_empty}
 
 pub returns-in_err-cached-clause-step : goal.returns-in_err-cached-clause-step
 returns-in_err-cached-clause-step g c state now dir_count on =

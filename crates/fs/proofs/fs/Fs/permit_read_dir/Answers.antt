@@ -11,16 +11,16 @@ use Rattle.model.specs.Operations.Operation.{ReadDirArguments}
 use Rattle.model.specs.Operations.ReadDir.{asks_errors}
 use Rattle.model_tree.specs.Refusals.Refusal.{first_refusal}
 use Rattle.model_tree.specs.Trees.Tree.{Tree, Node, is_directory, is_directory_at, is_directory_node, names_at, names_of, names_of_node}
-use Rattle.fs.specs.Listing.{list_arguments, list_refusals, may_read_lists}
+use Rattle.fs.specs.Listing.{list_arguments, list_refusals, may_read_acls}
 use Rattle.fs.specs.Views.{fs_of}
 use Rattle.fs.proofs.CachedNodeViews.{granted_by, names_are}
-use Rattle.fs.proofs.fs.Fs.permit_list.Goals as goal
-use Rattle.model.specs.Operations.SetAttr.{asks_lists}
+use Rattle.fs.proofs.fs.Fs.permit_read_dir.Goals as goal
+use Rattle.model.specs.Operations.SetAttr.{asks_acls}
 
 -- if lists are asked for and that of an entry may not be read, the last of the tests refuses
 unreadable : (tree : Tree) (cred : Cred) (number : ℕ) (asked : ReadDirArguments) → is_key number tree ≡ true → is_directory_at tree number ≡ true
     → granted_on (at number tree) cred read_data ≡ true → (not (asked.cookie == 0) && not (bytes_eq asked.verifier (replicate 8 0))) ≡ false
-    → (asks_lists asked.bitmap && not (asks_errors asked.bitmap)) ≡ true → may_read_lists tree cred number asked.cookie ≡ false
+    → (asks_acls asked.bitmap && not (asks_errors asked.bitmap)) ≡ true → may_read_acls tree cred number asked.cookie ≡ false
     → first_refusal (list_refusals tree cred number asked) ≡ Some status.Access
 unreadable tree cred number asked key directory granted cookie must may = rw (key, directory, granted, cookie, must, may) refl
 
@@ -32,9 +32,9 @@ pub returns-then-has_other_verifier-clause-tests : goal.returns-then-has_other_v
 unfolding fs_of
 returns-then-has_other_verifier-clause-tests g c = search rules
 
-pub returns-then-not-may_read_lists-clause-tests : goal.returns-then-not-may_read_lists-clause-tests
+pub returns-then-not-may_read_acls-clause-tests : goal.returns-then-not-may_read_acls-clause-tests
 unfolding fs_of
-returns-then-not-may_read_lists-clause-tests g c dir_count =
+returns-then-not-may_read_acls-clause-tests g c dir_count =
     let tree = (fs_of c.args.self.now).volume.tree in
     let number = c.args.listing.now.directory in
     let cookie = c.args.listing.now.cookie in
@@ -45,5 +45,5 @@ returns-then-not-may_read_lists-clause-tests g c dir_count =
     ap (λ (cached_node : CachedNode). by_stamp cached_node.names) c.cached.view_is ∙ sym (ap names_of_node node.there ∙ ap names_of content) in
     unreadable tree cred number (list_arguments c.args.listing.now dir_count) (ap is_some node.there) (ap is_directory_node node.there ∙ ap is_directory content)
     (ap (λ (found : Option Node). granted_on found cred read_data) node.there ∙ sym (granted_by tree number c.in-Some.cached.now node cred read_data) ∙ (sym c.grants.ensures ∙ c.if-not-grants.false))
-    (sym c.has_other_verifier.ensures ∙ c.if-has_other_verifier.false) (sym c.must_read_lists.ensures ∙ c.if-must_read_lists.true)
-    (search (rules, names, c.may_read_lists.ensures, c.list_after-names.ensures, c.if-not-may_read_lists.true))
+    (sym c.has_other_verifier.ensures ∙ c.if-has_other_verifier.false) (sym c.must_read_acls.ensures ∙ c.if-must_read_acls.true)
+    (search (rules, names, c.may_read_acls.ensures, c.list_after-names.ensures, c.if-not-may_read_acls.true))
