@@ -1,6 +1,6 @@
 //! A device over a file.
 
-ghost use Rattle.std.specs.Prelude.{◌≡◌, ◌≢◌, ◌≤◌, ◌<◌, ◌*◌, ◌⊎◌, ◌↔◌, ℕ, [], Some, None, false, IsTrue, IfOk, IfSome, OnOk, OnErr, IsErrOf, IsNone};
+ghost use Rattle.std.specs.Prelude.{◌≡◌, ◌≢◌, ◌≤◌, ◌<◌, ◌*◌, ◌⊎◌, ◌↔◌, ℕ, [], Some, None, Err, false, IsTrue, IfOk, IfSome, OnOk, OnErr, IsErrOf, IsNone};
 ghost use Rattle.disk.specs.Moments.{at_rest};
 ghost use Rattle.std.specs.IoError.{error_kind};
 ghost use Rattle.disk.specs.Cause.{IsCounted, HasCause};
@@ -11,15 +11,15 @@ use crate::{CallKind, Counts, Device, DiskFault, Failure, SECTOR};
 use std::alloc::Global;
 use std::fs::{File, OpenOptions, TryLockError};
 use std::io;
-use std::io::ErrorKind;
-use std::os::unix::fs::{FileExt, OpenOptionsExt};
+use std::io::{ErrorKind, Seek, SeekFrom};
+use std::os::unix::fs::{FileExt, FileTypeExt, OpenOptionsExt};
 use std::path::AsPath;
 use std::rt::Files;
 
 /// The mode of a new file: a volume has the files of all its users, so only its owner may read it.
 const OWNER_ONLY: u32 = 0o600;
 
-/// A file, sector by sector.
+/// A file or a block device, sector by sector.
 ///
 /// No contract can say what a file holds: this device never claims to keep its word, and its
 /// history is empty.
@@ -52,7 +52,7 @@ impl FileDevice {
     ghost use Rattle.disk.specs.File.{file_size, file_failures, file_is_whole, file_may_write, file_counts, file_last_failure, gathered, BeginsAnew, IsUnopened, IsUncalled};
     ghost use Rattle.disk.specs.Run.{newest_in};
 
-    /// Opens an existing file for reading and writing.
+    /// Opens an existing file, or a block device, for reading and writing.
     ///
     /// Its sectors are the whole ones of its length; [`FileDevice::is_whole`] says whether bytes
     /// are left over. Of a file with more than 2^32 - 1 sectors the first 2^32 - 1 are taken.
@@ -104,7 +104,8 @@ impl FileDevice {
 
     /// Opens a file for reading and writing, creates it if it does not exist, and sets its length
     /// to `sectors` sectors. What it held up to there stays, and what is new is zero. Only its
-    /// owner may read or write a new file; an existing one keeps its mode.
+    /// owner may read or write a new file; an existing one keeps its mode. A block device has to
+    /// have this length already.
     ///
     /// Fails with `Memory` for lack of memory, and otherwise with `Open`: also if the length cannot
     /// be set, and if another has a lock on the file, which is then as it was.
@@ -124,7 +125,7 @@ impl FileDevice {
         ensures err { OnErr result (IsUnopened result) }
     {
         let run = Run::new(alloc)?;
-        let file = OpenOptions::new()
+        let mut file = OpenOptions::new()
             .mode(OWNER_ONLY)
             .read(true)
             .write(true)
@@ -132,8 +133,7 @@ impl FileDevice {
             .open(rt, path)
             .map_err(refusal)?;
         file.try_lock().map_err(lock_refusal)?;
-        file.set_len(u64::from(sectors) * SECTOR as u64)
-            .map_err(refusal)?;
+        set_len(&mut file, u64::from(sectors) * SECTOR as u64)?;
         Ok(FileDevice {
             file,
             sectors,
@@ -147,14 +147,15 @@ impl FileDevice {
     }
 
     /// The device over an open file, of the sectors that it has.
-    fn over(file: File, run: Run, may_write: bool) -> Result<FileDevice, DiskFault>
+    fn over(mut file: File, run: Run, may_write: bool) -> Result<FileDevice, DiskFault>
         ensures failures { IfOk result (λ device. file_failures device ≡ 0) }
         ensures uncalled { IfOk result (λ device. IsUncalled device) }
         ensures gathered { IfOk result (λ device. (n : ℕ) → gathered device n ≡ newest_in run n) }
         ensures may_write { IfOk result (λ device. file_may_write device ≡ may_write) }
         ensures err { OnErr result (IsUnopened result) }
     {
-        let len = file.metadata().map_err(refusal)?.len();
+        // The metadata of a block device has no length.
+        let len = file.seek(SeekFrom::End(0)).map_err(refusal)?;
         let sector = SECTOR as u64;
         Ok(FileDevice {
             file,
@@ -344,6 +345,20 @@ fn offset_of(n: u32) -> u64
     ensures { result ≡ n * SECTOR }
 {
     u64::from(n) * SECTOR as u64
+}
+
+/// Sets the length of a file. A block device keeps its own, which has to be this one.
+fn set_len(file: &mut File, len: u64) -> Result<(), DiskFault>
+    ensures { OnErr result ((result ≡ Err DiskFault.Memory) ⊎ (result ≡ Err DiskFault.Open)) }
+{
+    let kind = file.metadata().map_err(refusal)?.file_type();
+    if !kind.is_block_device() {
+        return file.set_len(len).map_err(refusal);
+    }
+    if file.seek(SeekFrom::End(0)).map_err(refusal)? != len {
+        return Err(DiskFault::Open);
+    }
+    Ok(())
 }
 
 fn refusal(error: io::Error) -> DiskFault

@@ -1,4 +1,4 @@
-//! The volume in a file.
+//! The volume in a file, or on a block device.
 
 use crate::refused::Refused;
 use crate::size::VolumeSize;
@@ -7,7 +7,7 @@ use fs::{Checked, Fs};
 use server::{Server, is_volume_size};
 use std::fs::{File, metadata};
 use std::io::{ErrorKind, Write};
-use std::os::unix::fs::FileExt;
+use std::os::unix::fs::{FileExt, FileTypeExt};
 use std::rt::Files;
 use volume::superblock::MAGIC;
 
@@ -74,7 +74,7 @@ where
     R: Files<File = File>,
 {
     // Opening a pipe for reading waits for its writer.
-    if !is_file(rt, file)? {
+    if !has_sectors(rt, file)? {
         return Ok(false);
     }
     let opened = match File::open(rt, file) {
@@ -92,8 +92,8 @@ where
 /// The volume in a file, which nobody else uses meanwhile.
 ///
 /// # Errors
-/// Open if the file is not there, may not be written, is no file, or is locked; NotVolume if its
-/// size is not a whole number of sectors; Memory.
+/// Open if the file is not there, may not be written, is neither a file nor a block device, or is
+/// locked; NotVolume if its size is not a whole number of sectors; Memory.
 pub fn open_volume<R>(rt: &R, file: &str) -> Result<FileDevice, Refused>
 where
     R: Files<File = File> + AllocGlobal,
@@ -110,15 +110,16 @@ where
     R: Files<File = File> + AllocGlobal,
 {
     // Opening a pipe for reading waits for its writer.
-    if !is_file(rt, file)? {
+    if !has_sectors(rt, file)? {
         return Err(Refused::Open);
     }
     whole(FileDevice::open_to_read(rt, rt.alloc(), file)?)
 }
 
-fn is_file<R: Files>(rt: &R, file: &str) -> Result<bool, Refused> {
+/// Whether it is a file or a block device.
+fn has_sectors<R: Files>(rt: &R, file: &str) -> Result<bool, Refused> {
     match metadata(rt, file) {
-        Ok(found) => Ok(found.is_file()),
+        Ok(found) => Ok(found.is_file() || found.file_type().is_block_device()),
         Err(error) => Err(open_refusal(error.kind())),
     }
 }
