@@ -38,7 +38,7 @@ impl EncodedResult<'_> {
 
     /// It is encoded after other results.
     pub(crate) fn write(&self, results: Writer) -> Writer
-        requires encode { CanBeEncoded self.now }
+        requires encodable { CanBeEncoded self.now }
         requires room { length results.bytes + length (text_of_result self.now) ≤ results.capacity }
         ensures bytes { result.bytes ≡ results.bytes ++ text_of_result self.now }
         ensures capacity { results.capacity ≤ result.capacity }

@@ -19,7 +19,7 @@ use model_tree::status::Status;
 use opens::Opens;
 use wire::{Answer, Operation, Outcome, RenameAnswer, RenameArguments};
 
-/// What a directory shows if its change value does not matter.
+/// The change values of a directory if they do not matter.
 const NO_CHANGE: Change = Change {
     before: 0,
     after: 0,

@@ -177,7 +177,7 @@ impl Progress {
 
     /// With one more result, after those so far.
     pub(crate) fn with_result(self, encoded: EncodedResult<'_>) -> Progress
-        requires encode { CanBeEncoded encoded }
+        requires encodable { CanBeEncoded encoded }
         requires more { self.answered + 1 < 2 ^ 32 }
         requires room { length self.results.bytes + length (text_of_result encoded) ≤ RESULT_BUFFER }
         ensures request { (asked : Asked) → resumed asked result
@@ -214,7 +214,7 @@ impl Progress {
 
     /// With one more result, which is the last one.
     pub(crate) fn with_last(self, encoded: EncodedResult<'_>) -> Progress
-        requires encode { CanBeEncoded encoded }
+        requires encodable { CanBeEncoded encoded }
         requires more { self.answered + 1 < 2 ^ 32 }
         requires room { length self.results.bytes + length (text_of_result encoded) ≤ RESULT_BUFFER }
         ensures request { (asked : Asked) → resumed asked result

@@ -18,7 +18,7 @@ use Rattle.wire_attributes.specs.NodeValues.{answer_view, attributes_answered}
 use Rattle.wire_attributes.specs.declared.answer.AttributesAnswer.{AttributesAnswer}
 use Rattle.wire_attributes.specs.declared.node.NodeAttributes.{NodeAttributes}
 
--- what a cached node shows, whichever attributes are asked for
+-- the attributes of a cached node, whichever are asked for
 abbrev pub ShowsCached : Limits → CachedNode → NodeAttributes → Type 0
 ShowsCached limits cached node = (bitmap : List ℕ) → attributes_answered node bitmap
     ≡ node_attributes limits bitmap cached.fields.number (node_metadata cached)

@@ -17,18 +17,18 @@ pub record Place : Type 0 where
 -- The changes that there are, and what each consists of
 pub data Change : Type 0 where
   -- a node, and for a file its size if it has one; its name, whose entry has its number as the
-  -- stamp; and what its directory then shows
+  -- stamp; and its directory's metadata
   Making : (number : ℕ) → NodeKind → (size : ℕ) → Metadata
       → (directory : ℕ) → (name : Bor (List ℕ)) → (directory_metadata : Metadata) → Change
-  -- a name and the node of this number are gone, and what the directory then shows
+  -- a name and the node of this number are gone, and the directory has this metadata
   Removing : Place → (number : ℕ) → (directory_metadata : Metadata) → Change
   -- what has the new name is gone, if something has it (its entry's stamp and number); the old name
-  -- of the node is gone, the new one is there; and what both directories then show
+  -- of the node is gone, the new one is there; and both directories' metadata
   Moving : (number : ℕ) → (old new : Place) → (target : Option (ℕ × ℕ))
       → (old_metadata new_metadata : Metadata) → Change
-  -- bytes of a file from `offset` on, and what it then shows
+  -- bytes of a file from `offset` on, and its metadata
   Writing : (file offset : ℕ) → (bytes : Bor (List ℕ)) → Metadata → Change
-  -- the size of a file, if one is set, and what the node then shows
+  -- the size of a file, if one is set, and the node's metadata
   Setting : (number : ℕ) → (size : Option ℕ) → Metadata → Change
 
 -- Their edits

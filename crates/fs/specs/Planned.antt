@@ -24,7 +24,7 @@ pub record IsPlanned (fs : FileSystem) (edits : List Edit) : Type 0 where
   pub formed : IsFormed fs.volume.limits (next_stamp fs.volume.run (fs.changes + 1))
       (edited_by fs.volume edits)
 
--- what a node shows after a change alters its content
+-- a node's metadata after a change of its content
 abbrev pub metadata_by : Fields → (stamp now : ℕ) → Metadata
 metadata_by fields stamp now = record {
   owner = fields.owner;
@@ -38,7 +38,7 @@ metadata_by fields stamp now = record {
 abbrev pub list_by : NodeKind → (parent : List Ace) → Settings → List Ace
 list_by of parent settings = created_list parent of settings.is_empty settings.mode settings.acl
 
--- what a new node of this caller with such a list shows
+-- the metadata of a new node of this caller with such a list
 abbrev pub child_metadata : Cred → (acl : List Ace) → (stamp now : ℕ) → Metadata
 child_metadata cred acl stamp now = record {
   owner = cred.uid;

@@ -110,7 +110,7 @@ setting_tests limits tree cred number verdict given =
       status.Access,
     ) ∷ [])))
 
--- what a node then shows
+-- the node's metadata then
 abbrev pub metadata_with : Fields → Settings → (stamp now : ℕ) → Metadata
 metadata_with fields settings stamp now = record {
   owner = unwrap_or settings.owner fields.owner;

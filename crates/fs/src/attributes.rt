@@ -69,7 +69,7 @@ impl<D: Device> Fs<D> {
         })
     }
 
-    /// What a cached node shows.
+    /// The attributes of a cached node.
     pub(crate) fn metadata<'a>(&self, cached: &'a CachedNode) -> NodeAttributes<'a>
         requires fits { IsCached cached.now }
         requires few { length cached.now.fields.acl ≤ MAX_STORED }

@@ -17,7 +17,7 @@ use std::alloc::{AllocError, Global};
 use tree_edits::Edit;
 use tree_transaction::Metadata;
 
-/// What a node shows after a change alters its content.
+/// A node's metadata after a change of its content.
 pub(crate) fn metadata_with_change(
     cached: &CachedNode,
     stamp: u64,
@@ -47,7 +47,7 @@ pub(crate) struct NewNode<'a> {
     pub(crate) size: u64,
 }
 
-/// The edits of a new node with the change's number, its name, and what its directory then shows.
+/// The edits of a new node with the change's number, its name, and its directory's metadata.
 pub(crate) fn made_edits<'a>(
     alloc: Global,
     new: NewNode<'a>,
@@ -84,8 +84,7 @@ pub(crate) fn made_edits<'a>(
     Ok(vec![in alloc; node, size, name, shows]?)
 }
 
-/// The edits that remove a name and the node that it leads to, and set what its directory then
-/// shows.
+/// The edits that remove a name and the node that it leads to, and set its directory's metadata.
 pub(crate) fn removed_edits<'a>(
     alloc: Global,
     directory: u64,
@@ -110,7 +109,7 @@ pub(crate) fn removed_edits<'a>(
     Ok(vec![in alloc; name_gone, Edit::DropNode { number }, shows]?)
 }
 
-/// The edits that write bytes of a file from `offset` on, and set what the file then shows. Needs
+/// The edits that write bytes of a file from `offset` on, and set the file's metadata. Needs
 /// no memory.
 pub(crate) fn written_edits<'a>(
     file: u64,
@@ -132,7 +131,7 @@ pub(crate) fn written_edits<'a>(
     [put, shows]
 }
 
-/// The edits that set the size of a file, if there is one, and what the node then shows.
+/// The edits that set the size of a file, if there is one, and the node's metadata.
 pub(crate) fn set_edits<'a>(
     alloc: Global,
     number: u64,
@@ -185,8 +184,8 @@ impl<D: Device> Fs<D> {
     }
 
     /// The stamp of a change, if the tree after it has room and a stamp is left; otherwise NOSPC or
-    /// SERVERFAULT. The edits are those of the change, or others that need the same room: what a
-    /// node shows needs none, and a new node and its name need the same whichever number they get.
+    /// SERVERFAULT. The edits are those of the change, or others that need the same room: metadata
+    /// needs none, and a new node and its name need the same whichever number they get.
     pub(crate) fn stamp_for(&self, edits: &[Edit<'_>]) -> Result<u64, Status>
         requires { AreMeasurable (fs_of self.now).volume.tree edits.now }
         // Its tests, in their order

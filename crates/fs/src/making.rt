@@ -37,7 +37,7 @@ struct Planned<'a> {
     created: Created,
 }
 
-/// What a node shows if only its room matters. Needs no memory.
+/// A node's metadata if only its room matters. Needs no memory.
 fn blank_metadata(alloc: Global) -> Metadata {
     Metadata {
         owner: 0,
@@ -267,7 +267,7 @@ impl<D: Device> Fs<D> {
         Ok(edits)
     }
 
-    /// What a new node of this caller shows.
+    /// The metadata of a new node of this caller.
     pub(crate) fn new_node(
         &self,
         cred: &Cred,

@@ -1,4 +1,4 @@
-//! Nodes by number, and what their cached nodes show.
+//! Nodes by number, and what their cached nodes hold.
 
 ghost use Rattle.std.specs.Prelude.{◌≡◌, ◌↔◌, IsTrue, option_map};
 ghost use Rattle.directory.specs.Records.{record_from};

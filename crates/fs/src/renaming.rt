@@ -86,7 +86,7 @@ fn number_of(entry: Option<(u64, u64)>) -> Option<u64>
 }
 
 /// The edits of a rename: what has the new name is gone, if something has it; what had the old one
-/// has the new one; and what both directories then show.
+/// has the new one; and both directories' metadata.
 fn renamed_edits<'a>(
     alloc: Global,
     asked: Renaming<'a>,

@@ -205,7 +205,7 @@ impl<D: Device> Fs<D> {
         Ok((cached, settings))
     }
 
-    /// What a node shows with these settings, which passed their tests.
+    /// A node's metadata with these settings, which passed their tests.
     fn metadata_set(
         &self,
         cached: &CachedNode,
