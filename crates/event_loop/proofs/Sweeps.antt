@@ -1,18 +1,15 @@
 -- Calls that give no peer a step, and what the steps after them make of a round.
-use Rattle.std.proofs.Common.{◌≡◌, ◌≢◌, ℕ, Bool, Option, Some, None, MatchOption, inl, inr, ap, refl, sym, subst, ◌∙◌, ◌⊎◌}
+use Rattle.std.proofs.Common.{◌≡◌, ◌≢◌, ℕ, Bool, Option, Some, None, MatchOption, inl, inr, ap, refl, sym, subst, ◌∙◌}
 use Rattle.std.proofs.lemmas.Bool.{cases_eq}
 use Rattle.std.proofs.lemmas.Option.{same_Some}
 use Rattle.disk.specs.declared.device.Device.{Ghosts}
 use Rattle.server.specs.declared.server.Server.{Server}
 use Rattle.slab.specs.Slab.{get}
 use Rattle.std.specs.declared.time.Instant.{Instant}
-use Rattle.peer.proofs.Rounds.{any_then, then_has_turn}
+use Rattle.peer.proofs.Rounds.{any_then}
 use Rattle.peer.specs.Between.{AddsPeer, ChangesPeer, IsDismissed, IsWoken, LeavesPeers}
-use Rattle.peer.specs.Calls.{Goes}
 use Rattle.peer.specs.Peers.{IsSame}
-use Rattle.peer.specs.Rounds.{EndedWithin, HaveTurn}
 use Rattle.peer.specs.Served.{ServesFurther, ServesOneMore}
-use Rattle.peer.specs.Steps.{HasBytes}
 use Rattle.peer.specs.declared.peer.Peer.{Peer}
 use Rattle.peer.specs.declared.peers.Peers.{Peers}
 use Rattle.peer.specs.declared.stream.Stream as stream
@@ -48,10 +45,6 @@ module _ {S : Type 0} {h : stream.Ghosts S} where
       | inr ends ↦ absurd (never ends.0)
     ];
   }
-
-  bytes_same : (peer found : Peer S h) → IsSame peer found → found.stage ≡ peer.stage → HasBytes peer → HasBytes found
-  bytes_same peer found same stage (inl runs) = inl (stage ∙ runs)
-  bytes_same peer found same stage (inr (gathers, some)) = inr (stage ∙ gathers, λ none. some (sym same.inbox ∙ none))
 
 -- All peers
 
@@ -139,72 +132,14 @@ module _ {D S : Type 0} {g : Ghosts D} {h : stream.Ghosts S} {keeps : Type 0} wh
   pub meets : {old new : Peers D S g h} → KeepsPeers keeps None old new → MeetsPeers keeps old new
   meets kept = (None, kept)
 
-  pub meets_then : {old between new : Peers D S g h} → KeepsPeers keeps None old between → MeetsPeers keeps between new → MeetsPeers keeps old new
-  meets_then one two = (two.0, keeps_then one two.1)
-
   -- A round
 
-  ended_since : (old between new : Server D g) (peer : Peer S h) → GoesAny keeps old between → EndedWithin keeps between new peer → EndedWithin keeps old new peer
-  ended_since old between new peer goes ended =
-      record { old = ended.old; new = ended.new; until = any_then goes ended.until; ended = ended.ended; since = ended.since }
-
-  module _ (old met new : Peers D S g h) (way : Option ℕ) (kept : KeepsPeers keeps way old met) (had : HadTurns keeps met new) where
-    -- what one was given
-    abbrev HasHad : (key : ℕ) → Peer S h → Type 0
-    HasHad key peer =
-        Goes keeps old.server had.between.server (HaveTurn peer.conn)
-        ⊎ ((get had.between.peers key ≡ None) × ((found : Peer S h) × IsFound (way ≡ Some key) peer found × EndedWithin keeps old.server had.between.server found))
-
-    has_ended : (key : ℕ) (peer found : Peer S h) → IsFound (way ≡ Some key) peer found
-        → (get had.between.peers key ≡ None) × EndedWithin keeps met.server had.between.server found → HasHad key peer
-    has_ended key peer found is ended = inr (ended.0, (found, is, ended_since old.server met.server had.between.server found kept.goes ended.1))
-
-    has_had : (key : ℕ) (peer found : Peer S h) → IsFound (way ≡ Some key) peer found
-        → Goes keeps met.server had.between.server (HaveTurn found.conn) ⊎ ((get had.between.peers key ≡ None) × EndedWithin keeps met.server had.between.server found)
-        → HasHad key peer
-    has_had key peer found is (inl turn) =
-        inl (then_has_turn peer.conn kept.goes (subst (λ (connection : ℕ). Goes keeps met.server had.between.server (HaveTurn connection)) is.same.conn turn))
-    has_had key peer found is (inr ended) = has_ended key peer found is ended
-
-    pub had_round : HadRound keeps old new
-    had_round = record {
-      between = had.between;
-      way = way;
-      turned = λ key peer few held has.
-          let left = kept.found key peer held in
-          elim left.2.stage [
-            | inl same ↦ has_had key peer left.0 left.2 (had.turned key left.0 few left.1 (bytes_same peer left.0 left.2.same same has))
-            | inr ends ↦ has_ended key peer left.0 left.2 (had.over key left.0 few left.1 ends.1)
-          ];
-      goes = had.goes;
-    }
+  pub round_of : {old met new : Peers D S g h} → MeetsPeers keeps old met → HadTurns keeps met new → HadRound keeps old new
+  round_of {met = met} meets had = record { way = meets.0; met = met; kept = meets.1; between = had.between; round = had.round; goes = had.goes }
 
   -- and calls before it and since
-  pub round_of : {old met new : Peers D S g h} → MeetsPeers keeps old met → HadTurns keeps met new → HadRound keeps old new
-  round_of {old = old} {met = met} {new = new} meets had = had_round old met new meets.0 meets.1 had
-
   pub round_then : {old between new : Peers D S g h} → HadRound keeps old between → RunsOn keeps between new → HadRound keeps old new
-  round_then had more = record { between = had.between; way = had.way; turned = had.turned; goes = runs_then had.goes more }
+  round_then had more = record { way = had.way; met = had.met; kept = had.kept; between = had.between; round = had.round; goes = runs_then had.goes more }
 
   pub round_since : {old between new : Peers D S g h} → KeepsPeers keeps None old between → HadRound keeps between new → HadRound keeps old new
-  round_since {old = old} {between = between} kept had = record {
-    between = had.between;
-    way = had.way;
-    turned = λ key peer few held has.
-        let left = kept.found key peer held in
-        let stage : left.0.stage ≡ peer.stage = elim left.2.stage [ inl same ↦ same | inr ends ↦ absurd (no_way key ends.0) ] in
-        elim (had.turned key left.0 few left.1 (bytes_same peer left.0 left.2.same stage has)) [
-          | inl turn ↦
-              inl (then_has_turn peer.conn kept.goes (subst (λ (connection : ℕ). Goes keeps between.server had.between.server (HaveTurn connection)) left.2.same.conn turn))
-          | inr ended ↦
-              inr (
-                ended.0,
-                (
-                  ended.1.0,
-                  found_then (None ≡ Some key) (had.way ≡ Some key) peer left.0 ended.1.0 (no_way key) left.2 ended.1.1,
-                  ended_since old.server between.server had.between.server ended.1.0 kept.goes ended.1.2,
-                ),
-              )
-        ];
-    goes = had.goes;
-  }
+  round_since kept had = record { way = had.way; met = had.met; kept = keeps_then kept had.kept; between = had.between; round = had.round; goes = had.goes }

@@ -1,6 +1,6 @@
 -- What the loop does with a server and its peers: calls of `Peers`, of which its law `every_wire`
 -- speaks, one after the other.
-use Rattle.std.specs.Prelude.{ℕ, ◌<◌, false, List, [], ◌++◌, Option, Some, None, Result, Ok, ◌≡◌, ◌⊎◌}
+use Rattle.std.specs.Prelude.{ℕ, false, List, [], ◌++◌, Option, Some, None, Result, Ok, ◌≡◌, ◌⊎◌}
 use Rattle.disk.specs.declared.device.Device.{Ghosts}
 use Rattle.model.specs.Sessions.Session.{Settings}
 use Rattle.server.specs.Headline.{BeginsServing}
@@ -10,9 +10,8 @@ use Rattle.slab.specs.Slab.{get}
 use Rattle.system.specs.declared.refused.Refused.{Refused}
 use Rattle.peer.specs.Calls.{Goes}
 use Rattle.peer.specs.Peers.{IsSame}
-use Rattle.peer.specs.Rounds.{EndedWithin, HaveTurn, StepsKey}
+use Rattle.peer.specs.Rounds.{IsRound, StepsKey}
 use Rattle.peer.specs.Served.{AreOfRun, Serves}
-use Rattle.peer.specs.Steps.{HasBytes}
 use Rattle.peer.specs.declared.pace.Pace.{Pace}
 use Rattle.peer.specs.declared.pace.Pace.TheVariants as paces
 use Rattle.peer.specs.declared.peer.Peer.{Peer}
@@ -103,17 +102,12 @@ pub record StepsOne {D S : Type 0} {g : Ghosts D} {h : stream.Ghosts S} (keeps :
   pub paced : pace ≡ pace_of step
   pub steps : StepsKey keeps key old.server new.server (get old.peers) (get new.peers) step
 
--- At some moment since, each peer that had bytes was given a turn, or has ended for a reason of its
--- own, and each that had been dismissed has ended.
+-- Each of the 16 keys has had a step, in order, and then came other calls of `Peers`. What each peer
+-- had by its step, `Peers::every_round` says.
 pub record HadTurns {D S : Type 0} {g : Ghosts D} {h : stream.Ghosts S} (keeps : Type 0)
     (old new : Peers D S g h) : Type 0 where
   pub between : Peers D S g h
-  pub turned : (key : ℕ) (peer : Peer S h) → key < 16 → get old.peers key ≡ Some peer
-      → HasBytes peer → Goes keeps old.server between.server (HaveTurn peer.conn)
-      ⊎ ((get between.peers key ≡ None) × EndedWithin keeps old.server between.server peer)
-  pub over : (key : ℕ) (peer : Peer S h) → key < 16 → get old.peers key ≡ Some peer
-      → peer.stage ≡ stages.Ends
-      → (get between.peers key ≡ None) × EndedWithin keeps old.server between.server peer
+  pub round : IsRound keeps old.server (get old.peers) 16 between.server (get between.peers)
   pub goes : RunsOn keeps between new
 
 -- Rounds
@@ -139,14 +133,14 @@ abbrev pub MeetsPeers : {D S : Type 0} {g : Ghosts D} {h : stream.Ghosts S} → 
     → (old new : Peers D S g h) → Type 0
 MeetsPeers keeps old new = (way : Option ℕ) × KeepsPeers keeps way old new
 
--- A round: each peer that had bytes when it began was given a turn, or has ended, for a reason of
--- its own, or, at most one of them, since it was dismissed.
+-- A round: at most one peer is dismissed, then each of the 16 keys has a step, in order, in which it
+-- finds its peer as that was, except that one, and then come other calls of `Peers`. What each peer
+-- had by its step, `Peers::every_round` says.
 pub record HadRound {D S : Type 0} {g : Ghosts D} {h : stream.Ghosts S} (keeps : Type 0)
     (old new : Peers D S g h) : Type 0 where
-  pub between : Peers D S g h
   pub way : Option ℕ
-  pub turned : (key : ℕ) (peer : Peer S h) → key < 16 → get old.peers key ≡ Some peer
-      → HasBytes peer → Goes keeps old.server between.server (HaveTurn peer.conn)
-      ⊎ ((get between.peers key ≡ None) × ((found : Peer S h)
-      × IsFound (way ≡ Some key) peer found × EndedWithin keeps old.server between.server found))
+  pub met : Peers D S g h
+  pub kept : KeepsPeers keeps way old met
+  pub between : Peers D S g h
+  pub round : IsRound keeps met.server (get met.peers) 16 between.server (get between.peers)
   pub goes : RunsOn keeps between new

@@ -1,8 +1,7 @@
 //! A mounted volume, its peers, and the loop over them.
 
-ghost use Rattle.std.specs.Prelude.{◌≡◌, ◌≢◌, true, IfOk, None, Ok, OnOk};
+ghost use Rattle.std.specs.Prelude.{◌≡◌, IfOk, None, Ok, OnOk};
 ghost use Rattle.slab.specs.Slab.{get};
-ghost use Rattle.peer.specs.declared.pace.Pace.TheVariants.{Pauses};
 ghost use Rattle.event_loop.specs.Runs.{EveryLoop, GoesAny, HadRound, HadTurns, HasBegun, HasNoPeer, KeepsPeers, LoopBegins, LoopBeginsAnew, MeetsPeers, RunsOn, StepsOne};
 ghost use Rattle.event_loop.specs.Settled.{settings_served};
 
@@ -125,31 +124,8 @@ pub struct Hub<D: Watched, S: Socket> {
     desk: Desk,
     /// How soon to go on.
     pace: Pace,
-    /// Whether there was memory for the first step of each peer in the last round.
-    had_memory: bool,
     /// Whether nothing has changed since the last checkpoint.
     is_rested: bool,
-}
-
-/// What a step of each peer came to.
-#[derive(Clone, Copy)]
-struct Sweep {
-    /// How soon to go on.
-    pace: Pace,
-    /// Whether there was memory for each.
-    had_memory: bool,
-}
-
-impl Sweep {
-    /// And a step that came to this.
-    fn and(self, pace: Pace) -> Sweep
-        ensures { result.had_memory ≡ true → (self.had_memory ≡ true) × (pace ≢ Pauses) }
-    {
-        Sweep {
-            pace: self.pace.or(pace),
-            had_memory: self.had_memory && pace != Pace::Pauses,
-        }
-    }
 }
 
 impl<D: Watched, S: Socket> Hub<D, S> {
@@ -204,7 +180,6 @@ impl<D: Watched, S: Socket> Hub<D, S> {
                 peers,
                 desk,
                 pace: Pace::Goes,
-                had_memory: true,
                 is_rested: true,
             }),
             Err(refused) => {
@@ -314,8 +289,8 @@ impl<D: Watched, S: Socket> Hub<D, S> {
     }
 
     /// Waits for the system, at most for this time; then connections that wait are given places,
-    /// each peer has up to 16 steps, with at most one operation each, and what waits is flushed.
-    /// Returns how soon to go on.
+    /// each key has a step, in order, and up to 15 more, with at most one operation each, and what
+    /// waits is flushed. Returns how soon to go on.
     ///
     /// # Errors
     /// What ends the program: Device if the device fails; Io if the clock or epoll does; Io and
@@ -330,15 +305,13 @@ impl<D: Watched, S: Socket> Hub<D, S> {
         R: Clock + AllocGlobal,
         E: Write + Drop,
         ensures calls { RunsOn D.keeps_word self.old.peers self.new.peers }
-        ensures fair { OnOk result (self.new.had_memory ≡ true
-            → HadRound D.keeps_word self.old.peers self.new.peers) }
+        ensures fair { OnOk result (HadRound D.keeps_word self.old.peers self.new.peers) }
     {
         let has_heard = self.desk.sockets.hear(&mut self.peers, timeout)?;
         self.rest(has_heard)?;
-        let sweep = self.round(rt, rt.alloc(), Instant::now(rt)?, lines)?;
-        self.pace = sweep.pace;
-        self.had_memory = sweep.had_memory;
-        Ok(self.pace)
+        let pace = self.round(rt, rt.alloc(), Instant::now(rt)?, lines)?;
+        self.pace = pace;
+        Ok(pace)
     }
 
     /// How long it may wait for the system. Unless the pace is `Goes`, this is zero only if no peer
@@ -375,31 +348,29 @@ impl<D: Watched, S: Socket> Hub<D, S> {
         Ok(())
     }
 
-    /// Connections that wait are given places; each peer has steps until none goes on; then what
-    /// waits is flushed, and the replies go out.
+    /// Connections that wait are given places; each key has a step, in order, and the same again
+    /// until no peer goes on; then what waits is flushed, and the replies go out.
     fn round<C, E>(
         &mut self,
         clock: &C,
         alloc: Global,
         now: Instant,
         lines: &mut Lines<E>,
-    ) -> Result<Sweep, Refused>
+    ) -> Result<Pace, Refused>
     where
         C: Clock,
         E: Write + Drop,
         ensures calls { RunsOn D.keeps_word self.old.peers self.new.peers }
-        ensures fair { IfOk result (λ sweep. sweep.had_memory ≡ true
-            → HadRound D.keeps_word self.old.peers self.new.peers) }
+        ensures fair { OnOk result (HadRound D.keeps_word self.old.peers self.new.peers) }
     {
         let met = self.meet(alloc, now, lines)?;
-        let mut sweep = self.step_on(clock, now, lines)?;
-        sweep.pace = met.or(sweep.pace);
+        let stepped = self.step_on(clock, now, lines)?;
+        let pace = met.or(stepped);
         if !self.flush()? {
-            return Ok(sweep);
+            return Ok(pace);
         }
         let sent = self.step_all(clock, now, lines)?;
-        sweep.pace = sweep.pace.or(sent.pace);
-        Ok(sweep)
+        Ok(pace.or(sent))
     }
 
     /// Whoever reads the counts is served, and so is whoever connects; a connection that waits is
@@ -420,53 +391,49 @@ impl<D: Watched, S: Socket> Hub<D, S> {
         Ok(shown.or(received).or(welcomed))
     }
 
-    /// Each peer has a step, and the same again as long as one goes on, up to `MAX_STEPS` times.
+    /// Each key has a step, in order, and the same again as long as a peer goes on, up to `MAX_STEPS`
+    /// times.
     fn step_on<C, E>(
         &mut self,
         clock: &C,
         now: Instant,
         lines: &mut Lines<E>,
-    ) -> Result<Sweep, Refused>
+    ) -> Result<Pace, Refused>
     where
         C: Clock,
         E: Write + Drop,
         ensures calls { RunsOn D.keeps_word self.old.peers self.new.peers }
-        ensures fair { IfOk result (λ sweep. sweep.had_memory ≡ true
-            → HadTurns D.keeps_word self.old.peers self.new.peers) }
+        ensures fair { OnOk result (HadTurns D.keeps_word self.old.peers self.new.peers) }
     {
-        let mut sweep = self.step_all(clock, now, lines)?;
+        let mut pace = self.step_all(clock, now, lines)?;
         for _ in 1..MAX_STEPS {
-            if sweep.pace != Pace::Goes {
-                return Ok(sweep);
+            if pace != Pace::Goes {
+                return Ok(pace);
             }
-            sweep.pace = self.step_all(clock, now, lines)?.pace;
+            pace = self.step_all(clock, now, lines)?;
         }
-        Ok(sweep)
+        Ok(pace)
     }
 
-    /// Each peer has a step.
+    /// Each key has a step, in order.
     fn step_all<C, E>(
         &mut self,
         clock: &C,
         now: Instant,
         lines: &mut Lines<E>,
-    ) -> Result<Sweep, Refused>
+    ) -> Result<Pace, Refused>
     where
         C: Clock,
         E: Write + Drop,
         ensures calls { RunsOn D.keeps_word self.old.peers self.new.peers }
-        ensures fair { IfOk result (λ sweep. sweep.had_memory ≡ true
-            → HadTurns D.keeps_word self.old.peers self.new.peers) }
+        ensures fair { OnOk result (HadTurns D.keeps_word self.old.peers self.new.peers) }
     {
-        let mut sweep = Sweep {
-            pace: Pace::Sleeps,
-            had_memory: true,
-        };
+        let mut pace = Pace::Sleeps;
         for key in 0..MAX_CONNECTIONS {
-            sweep = sweep.and(self.step(key, clock, now, lines)?);
+            pace = pace.or(self.step(key, clock, now, lines)?);
         }
-        self.is_rested = self.is_rested && sweep.pace != Pace::Goes;
-        Ok(sweep)
+        self.is_rested = self.is_rested && pace != Pace::Goes;
+        Ok(pace)
     }
 
     /// Keeps what waits, all of it with one flush. Returns whether something waited.

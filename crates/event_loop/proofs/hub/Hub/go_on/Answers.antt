@@ -11,11 +11,11 @@ returns-in_err-rest-clause-calls g c = runs_then c.hear.ensures.calls c.rest.ens
 pub returns-in_err-now-clause-calls : goal.returns-in_err-now-clause-calls
 returns-in_err-now-clause-calls g c = runs_then c.hear.ensures.calls c.rest.ensures.calls
 
-pub returns-in_err-sweep-clause-calls : goal.returns-in_err-sweep-clause-calls
-returns-in_err-sweep-clause-calls g c = runs_then (runs_then c.hear.ensures.calls c.rest.ensures.calls) c.round.ensures.calls
+pub returns-in_err-pace-clause-calls : goal.returns-in_err-pace-clause-calls
+returns-in_err-pace-clause-calls g c = runs_then (runs_then c.hear.ensures.calls c.rest.ensures.calls) c.round.ensures.calls
 
 pub returns-clause-calls : goal.returns-clause-calls
 returns-clause-calls g c = runs_then (runs_then c.hear.ensures.calls c.rest.ensures.calls) c.round.ensures.calls
 
 pub returns-clause-fair : goal.returns-clause-fair
-returns-clause-fair g c = λ had. round_since (keeps_then c.hear.ensures c.rest.ensures) (c.in_ok-sweep.ensures.fair had)
+returns-clause-fair g c = round_since (keeps_then c.hear.ensures c.rest.ensures) c.in_ok-pace.ensures.fair

@@ -3,17 +3,17 @@ use Rattle.event_loop.proofs.Turns.{had_turns_then}
 use Rattle.event_loop.proofs.hub.Hub.step_on.Goals as goal
 
 pub loop-init : goal.loop-init
-loop-init g c = (c.step_all.ensures.calls, c.in_ok-sweep.ensures.fair)
+loop-init g c = (c.step_all.ensures.calls, c.in_ok-pace.ensures.fair)
 
 pub loop-preserved : goal.loop-preserved
 loop-preserved g c =
-    (runs_then c.loop.invariant.0 c.step_all-in-loop.ensures.calls, λ had. had_turns_then (c.loop.invariant.1 had) c.step_all-in-loop.ensures.calls)
+    (runs_then c.loop.invariant.0 c.step_all-in-loop.ensures.calls, had_turns_then c.loop.invariant.1 c.step_all-in-loop.ensures.calls)
 
-pub returns-in_err-sweep-clause-calls : goal.returns-in_err-sweep-clause-calls
-returns-in_err-sweep-clause-calls g c = c.step_all.ensures.calls
+pub returns-in_err-pace-clause-calls : goal.returns-in_err-pace-clause-calls
+returns-in_err-pace-clause-calls g c = c.step_all.ensures.calls
 
-pub returns-in_err-sweep-2-clause-calls : goal.returns-in_err-sweep-2-clause-calls
-returns-in_err-sweep-2-clause-calls g c = runs_then c.loop.invariant.0 c.step_all-in-loop.ensures.calls
+pub returns-in_err-pace-2-clause-calls : goal.returns-in_err-pace-2-clause-calls
+returns-in_err-pace-2-clause-calls g c = runs_then c.loop.invariant.0 c.step_all-in-loop.ensures.calls
 
 pub returns-then-ne-clause-calls : goal.returns-then-ne-clause-calls
 returns-then-ne-clause-calls g c = c.loop.invariant.0
