@@ -1,5 +1,5 @@
 -- What a step of a peer carries, part by part.
-use Rattle.std.proofs.Common.{◌≡◌, ℕ, List, [], ◌∷◌, ◌++◌, take, drop, Option, Some, None, Result, Ok, Err, IfOk, IfErr, OnOk, Bool, true, false, not, if◌then◌else◌, inl, inr, refl, ap, sym, subst, ◌∙◌, append-nil, length-append, arith}
+use Rattle.std.proofs.Common.{◌≡◌, ℕ, List, [], ◌∷◌, ◌++◌, take, drop, Option, Some, None, Result, Ok, Err, IfOk, IfErr, OnOk, Bool, true, false, not, ◌<◌, ◌⊎◌, if◌then◌else◌, inl, inr, refl, ap, sym, subst, ◌∙◌, append-nil, length, length-append, arith}
 use Rattle.std.proofs.lemmas.List.{take-append-drop}
 use Rattle.std.specs.Global.{Vec}
 use Rattle.std.specs.Io.KnownBytes.{Appends, Consumes, Keeps}
@@ -14,9 +14,10 @@ use Rattle.server.specs.declared.fault.ServerFault.{ServerFault}
 use Rattle.server.specs.declared.fault.ServerFault.TheVariants as faults
 use Rattle.server.specs.declared.server.Server.{Server}
 use Rattle.system.specs.declared.refused.Refused.{Refused}
+use Rattle.system.specs.declared.refused.Refused.TheVariants as refusals
 use Rattle.peer.specs.Calls.{Goes, IsNone, IsOne, RefusesBytes, RefusesOutput}
 use Rattle.peer.specs.Partings.{parting_of}
-use Rattle.peer.specs.Steps.{AreAll, Tally, IsTallied, Carries, HasWorked, Turned, Asked, Wrote, Read_broken, Write_broken, Reason, Dismissed, Read_over, Write_over, Closes, Was_closed, Has_none, Parts, HasBytes, Advances, Runs, GivesNoTurn, Sends, ServesOn, EndsPeer, EndsAgain, IsEndBy, WaitsToWrite, IsStuck, To_write, unsent}
+use Rattle.peer.specs.Steps.{AreAll, Tally, IsTallied, Carries, HasWorked, Turned, Asked, Wrote, Read_broken, Write_broken, Reason, Dismissed, Read_over, Write_over, Closes, Was_closed, Has_none, Parts, HasBytes, IsFed, IsUnfed, HasRead, Advances, Reads, Runs, GivesNoTurn, Sends, ServesOn, EndsPeer, EndsAgain, IsEndBy, WaitsToWrite, IsStuck, To_write, unsent}
 use Rattle.peer.specs.Streams.{IsOver}
 use Rattle.peer.specs.declared.pace.Pace.{Pace}
 use Rattle.peer.specs.declared.pace.Pace.TheVariants as paces
@@ -40,12 +41,7 @@ on_any : {E : Type 0} (result : Result Pace E) (A : Type 0) → A → OnOk resul
 on_any (Ok pace) A is = is
 on_any (Err parting) A is = tt
 
--- what was read since adds to them
-bytes_still : {S : Type 0} {h : stream.Ghosts S} (before mid : Peer S h) → before.inbox ≡ [] → mid.stage ≡ before.stage → HasBytes before → HasBytes mid
-bytes_still before mid empty stage (inl runs) = inl (stage ∙ runs)
-bytes_still before mid empty stage (inr gathers) = absurd (gathers.1 empty)
-
--- none of one that gathers and has read nothing, and of one that gives its reply
+-- none of one that gathers and has read nothing, of one that gives its reply, and of one that ends
 pub dry_has_none : {S : Type 0} {h : stream.Ghosts S} (peer : Peer S h) → peer.stage ≡ stages.Gathers → peer.inbox ≡ [] → HasBytes peer → ⊥
 dry_has_none peer gathers empty (inl runs) = let never : ⊥ = cc in never
 dry_has_none peer gathers empty (inr has) = has.1 empty
@@ -57,6 +53,25 @@ made_has_none peer made (inr has) = let gathers = has.0 in let never : ⊥ = cc 
 pub replying_has_none : {S : Type 0} {h : stream.Ghosts S} (peer : Peer S h) (reply : List ℕ) → peer.stage ≡ stages.Replies reply → HasBytes peer → ⊥
 replying_has_none peer reply replies (inl runs) = let never : ⊥ = cc in never
 replying_has_none peer reply replies (inr has) = let gathers = has.0 in let never : ⊥ = cc in never
+
+pub ending_has_none : {S : Type 0} {h : stream.Ghosts S} (peer : Peer S h) → peer.stage ≡ stages.Ends → HasBytes peer → ⊥
+ending_has_none peer ends (inl runs) = let never : ⊥ = cc in never
+ending_has_none peer ends (inr has) = let gathers = has.0 in let never : ⊥ = cc in never
+
+-- What the server is shown
+
+-- of one without bytes, to which none come, there is nothing to show
+none_to_feed : {S : Type 0} {h : stream.Ghosts S} (peer : Peer S h) (tally : Tally) → (HasBytes peer → ⊥) → tally.came ≡ [] → IsFed peer tally
+none_to_feed peer tally none unread gathers some =
+    absurd (none (inr (gathers, λ empty. some (ap (λ (came : List ℕ). peer.inbox ++ came) unread ∙ append-nil peer.inbox ∙ empty))))
+
+-- nor of one that does not gather
+runs_fed : {S : Type 0} {h : stream.Ghosts S} (peer : Peer S h) (tally : Tally) → peer.stage ≡ stages.Runs → IsFed peer tally
+runs_fed peer tally runs gathers some = let never : ⊥ = cc in absurd never
+
+or_else : {A B C : Type 0} → (B → C) → A ⊎ B → A ⊎ C
+or_else map (inl a) = inl a
+or_else map (inr b) = inr (map b)
 
 -- Part after part
 
@@ -167,6 +182,8 @@ refused_bytes {h = h} peer faults.Closed refuses =
       shown = (sym (append-nil peer.inbox), tt);
       few = omega arith;
       turned = λ has. tt;
+      feeds = inl (λ gathers some. ap (λ (piece : List ℕ). piece ∷ []) (sym (append-nil peer.inbox)));
+      unread = λ has. refl;
       works = λ is. let never : ⊥ = cc in absurd never;
       parts = Closes (omega arith);
     }
@@ -178,6 +195,8 @@ refused_bytes {new = new} peer faults.NoConnection refuses =
       shown = tt;
       few = omega arith;
       turned = λ has. tt;
+      feeds = inr none;
+      unread = λ has. refl;
       works = λ is. let never : ⊥ = cc in absurd never;
       parts = Has_none none;
     }
@@ -187,6 +206,8 @@ refused_bytes peer faults.Device refuses = record {
   shown = tt;
   few = omega arith;
   turned = λ has. tt;
+  feeds = inr refuses.0;
+  unread = λ has. refl;
   works = λ is. let never : ⊥ = cc in absurd never;
   parts = refuses.0;
 }
@@ -234,6 +255,8 @@ bytes_then {keeps = keeps} {moments = moments} {old = old} {between = between} {
       shown = subst (λ (shown : List (List ℕ)). AreAll (before.inbox ++ rest.came) (before.inbox ∷ shown)) (sym runs.unshown) (all, tt);
       few = omega (arith, runs.advances.few);
       turned = λ has. on_ok result (rest.turns ≡ 1) ((joined first rest).turns ≡ 1) (λ once. omega (arith, once)) (runs.advances.turned (inl runs_now));
+      feeds = inl (λ gathers some. ap (λ (shown : List (List ℕ)). before.inbox ∷ shown) runs.unshown ∙ ap (λ (piece : List ℕ). piece ∷ []) all);
+      unread = λ has. runs.unread;
       works = λ is. works_after first rest after (runs.advances.works is);
       parts = parted_after first rest new after result runs.advances.parts;
     }
@@ -249,9 +272,9 @@ turn_carries before after now said shows one same inbox conn left stays =
 pub reply_then : {D S : Type 0} {g : Ghosts D} {h : stream.Ghosts S} {keeps : Type 0} {moments : ℕ → Type 0} {old between new : Server D g} (before mid after : Peer S h) (now : ℕ) (said : Said)
     (result : Result Pace Parting) → moments now → Goes keeps old between (IsOne (Did (Turns before.conn now) said))
     → mid.stream ≡ before.stream → mid.inbox ≡ before.inbox → mid.conn ≡ before.conn → unsent mid.stage ≡ unsent before.stage
-    → (mid.stage ≡ stages.Ends → ⊥)
+    → (mid.stage ≡ stages.Ends → ⊥) → before.stage ≡ stages.Runs
     → GivesNoTurn keeps between new mid after result → Runs keeps moments old new before after result
-reply_then {h = h} {keeps = keeps} {moments = moments} {old = old} {between = between} {new = new} before mid after now said result shows one same inbox conn left stays gives =
+reply_then {h = h} {keeps = keeps} {moments = moments} {old = old} {between = between} {new = new} before mid after now said result shows one same inbox conn left stays runs_now gives =
     let first : Tally = record nothing { turns = 1 } in
     let rest : Tally = gives.tally in
     let advances : Advances keeps moments old new before after result = record {
@@ -261,6 +284,8 @@ reply_then {h = h} {keeps = keeps} {moments = moments} {old = old} {between = be
       shown = subst (λ (shown : List (List ℕ)). AreAll (before.inbox ++ rest.came) shown) (sym gives.unshown) tt;
       few = omega (arith, gives.unturned);
       turned = λ has. on_any result ((joined first rest).turns ≡ 1) (omega (arith, gives.unturned));
+      feeds = inl (runs_fed before (joined first rest) runs_now);
+      unread = λ has. gives.unread;
       works = λ is. Turned (omega arith);
       parts = parted_after first rest new after result gives.parts;
     } in
@@ -270,8 +295,8 @@ reply_then {h = h} {keeps = keeps} {moments = moments} {old = old} {between = be
 pub turn_alone : {D S : Type 0} {g : Ghosts D} {h : stream.Ghosts S} {keeps : Type 0} {moments : ℕ → Type 0} {old new : Server D g} (before after : Peer S h) (now : ℕ) (said : Said)
     → moments now → Goes keeps old new (IsOne (Did (Turns before.conn now) said))
     → after.stream ≡ before.stream → after.inbox ≡ before.inbox → after.conn ≡ before.conn → unsent after.stage ≡ unsent before.stage
-    → (after.stage ≡ stages.Ends → ⊥) → Runs keeps moments old new before after (Ok paces.Goes)
-turn_alone {keeps = keeps} {moments = moments} {old = old} {new = new} before after now said shows one same inbox conn left stays =
+    → (after.stage ≡ stages.Ends → ⊥) → before.stage ≡ stages.Runs → Runs keeps moments old new before after (Ok paces.Goes)
+turn_alone {keeps = keeps} {moments = moments} {old = old} {new = new} before after now said shows one same inbox conn left stays runs_now =
     let tally : Tally = record nothing { turns = 1 } in
     let advances : Advances keeps moments old new before after (Ok paces.Goes) = record {
       tally = tally;
@@ -279,6 +304,8 @@ turn_alone {keeps = keeps} {moments = moments} {old = old} {new = new} before af
       shown = tt;
       few = omega arith;
       turned = λ has. refl;
+      feeds = inl (runs_fed before tally runs_now);
+      unread = λ has. refl;
       works = λ is. Turned (omega arith);
       parts = tt;
     } in
@@ -286,14 +313,16 @@ turn_alone {keeps = keeps} {moments = moments} {old = old} {new = new} before af
 
 -- no turn, as it is refused or the clock fails
 pub no_turn : {D S : Type 0} {g : Ghosts D} {h : stream.Ghosts S} {keeps : Type 0} {moments : ℕ → Type 0} {old new : Server D g} (before : Peer S h) (parting : Parting)
-    → Goes keeps old new IsNone → Parts nothing new before parting → Runs keeps moments old new before before (Err parting)
-no_turn {keeps = keeps} {moments = moments} {old = old} {new = new} before parting none parts =
+    → before.stage ≡ stages.Runs → Goes keeps old new IsNone → Parts nothing new before parting → Runs keeps moments old new before before (Err parting)
+no_turn {keeps = keeps} {moments = moments} {old = old} {new = new} before parting runs_now none parts =
     let advances : Advances keeps moments old new before before (Err parting) = record {
       tally = nothing;
       carries = carries_same before none;
       shown = tt;
       few = omega arith;
       turned = λ has. tt;
+      feeds = inl (runs_fed before nothing runs_now);
+      unread = λ has. refl;
       works = λ is. let never : ⊥ = cc in absurd never;
       parts = parts;
     } in
@@ -346,6 +375,8 @@ sends_on {h = h} server before after result none sends =
       shown = tt;
       few = omega arith;
       turned = λ has. absurd (none has);
+      feeds = inl (none_to_feed before tally none refl);
+      unread = λ has. refl;
       works = λ is. elim (sends.works is) [ inl some ↦ Wrote some | inr broken ↦ Write_broken broken ];
       parts = over_parts tally server after result sends.over;
     }
@@ -435,62 +466,90 @@ gives_on {moments = moments} before after result none gives = record {
   shown = subst (λ (shown : List (List ℕ)). AreAll (before.inbox ++ gives.tally.came) shown) (sym gives.unshown) tt;
   few = omega (arith, gives.unturned);
   turned = λ has. absurd (none has);
+  feeds = inl (none_to_feed before gives.tally none gives.unread);
+  unread = λ has. gives.unread;
   works = gives.works;
   parts = gives.parts;
 }
 
 -- Reads
 
+-- what came is shown with what is shown then
+fed_since : {D S : Type 0} {g : Ghosts D} {h : stream.Ghosts S} (before mid after : Peer S h) (server : Server D g) (rest : Tally) (result : Result Pace Parting) → before.inbox ≡ []
+    → mid.stage ≡ before.stage → IsFed mid rest ⊎ IsUnfed server after result → IsFed before (joined (record nothing { came = mid.inbox }) rest) ⊎ IsUnfed server after result
+fed_since before mid after server rest result empty stage (inl fed) =
+    inl (λ gathers some.
+    fed (stage ∙ gathers) (λ none. some (ap (λ (waiting : List ℕ). waiting ++ (mid.inbox ++ rest.came)) empty ∙ none))
+    ∙ ap (λ (waiting : List ℕ). (waiting ++ (mid.inbox ++ rest.came)) ∷ []) (sym empty))
+fed_since before mid after server rest result empty stage (inr unfed) = inr unfed
+
 -- what came is handed over
 pub reads_then : {D S : Type 0} {g : Ghosts D} {h : stream.Ghosts S} {keeps : Type 0} {moments : ℕ → Type 0} {old new : Server D g} (before mid after : Peer S h)
-    (result : Result Pace Parting) → Consumes (h.coming before.stream) (h.coming mid.stream) mid.inbox → before.inbox ≡ []
-    → h.gone mid.stream ≡ h.gone before.stream → mid.stage ≡ before.stage → mid.conn ≡ before.conn
-    → Advances keeps moments old new mid after result → Advances keeps moments old new before after result
-reads_then {keeps = keeps} {moments = moments} {old = old} {new = new} before mid after result consumed empty gone stage conn advances =
+    (result : Result Pace Parting) → Consumes (h.coming before.stream) (h.coming mid.stream) mid.inbox → before.stage ≡ stages.Gathers → before.inbox ≡ []
+    → 0 < length mid.inbox → h.gone mid.stream ≡ h.gone before.stream → mid.stage ≡ before.stage → mid.conn ≡ before.conn
+    → Advances keeps moments old new mid after result → Reads keeps moments old new before after result
+reads_then {keeps = keeps} {moments = moments} {old = old} {new = new} before mid after result consumed gathers empty some gone stage conn advances =
     let first : Tally = record nothing { came = mid.inbox } in
     let rest : Tally = advances.tally in
     let read : Carries keeps moments old old before mid first =
     carries_none before mid mid.inbox (not_called old) consumed (rw empty refl) gone (ap unsent stage) conn (λ is. sym stage ∙ is) in
-    record {
+    let all : Advances keeps moments old new before after result = record {
       tally = joined first rest;
       carries = carries_then before mid after first rest read advances.carries;
       shown = rw empty advances.shown;
       few = omega (arith, advances.few);
-      turned = λ has. on_ok result (rest.turns ≡ 1) ((joined first rest).turns ≡ 1) (λ once. omega (arith, once)) (advances.turned (bytes_still before mid empty stage has));
+      turned = λ has. absurd (dry_has_none before gathers empty has);
+      feeds = fed_since before mid after new rest result empty stage advances.feeds;
+      unread = λ has. absurd (dry_has_none before gathers empty has);
       works = λ is. works_after first rest after (advances.works is);
       parts = parted_after first rest new after result advances.parts;
-    }
+    } in
+    record { advances = all; reads = λ gathers empty. inl (simp length-append (omega (arith, some))) }
 
--- a step that makes no call
-pub quiet : {D S : Type 0} {g : Ghosts D} {h : stream.Ghosts S} {keeps : Type 0} {moments : ℕ → Type 0} (server : Server D g) (before after : Peer S h) (came : List ℕ)
-    (result : Result Pace Parting) → Consumes (h.coming before.stream) (h.coming after.stream) came → after.inbox ≡ before.inbox ++ came
+-- a step that makes no call, and to which no byte comes
+pub quiet : {D S : Type 0} {g : Ghosts D} {h : stream.Ghosts S} {keeps : Type 0} {moments : ℕ → Type 0} (server : Server D g) (before after : Peer S h)
+    (result : Result Pace Parting) → Consumes (h.coming before.stream) (h.coming after.stream) [] → after.inbox ≡ before.inbox
     → h.gone after.stream ≡ h.gone before.stream → after.stage ≡ before.stage → after.conn ≡ before.conn
-    → (HasBytes before → OnOk result ⊥) → (result ≡ Ok paces.Goes → HasWorked after (record nothing { came = came }))
-    → IfErr result (Parts (record nothing { came = came }) server after) → Advances keeps moments server server before after result
-quiet server before after came result consumed waits gone stage conn turned works parts = record {
-  tally = record nothing { came = came };
-  carries = carries_none before after came (not_called server) consumed waits gone (ap unsent stage) conn (λ is. sym stage ∙ is);
-  shown = tt;
-  few = omega arith;
-  turned = λ has. on_ok result ⊥ (nothing.turns ≡ 1) (λ never. absurd never) (turned has);
-  works = works;
-  parts = parts;
-}
+    → (HasBytes before → ⊥) → (before.stage ≡ stages.Gathers → HasRead after nothing) → (result ≡ Ok paces.Goes → HasWorked after nothing)
+    → IfErr result (Parts nothing server after) → Reads keeps moments server server before after result
+quiet {keeps = keeps} {moments = moments} server before after result consumed waits gone stage conn none reads works parts =
+    let advances : Advances keeps moments server server before after result = record {
+      tally = nothing;
+      carries = carries_none before after [] (not_called server) consumed (waits ∙ sym (append-nil before.inbox)) gone (ap unsent stage) conn (λ is. sym stage ∙ is);
+      shown = tt;
+      few = omega arith;
+      turned = λ has. absurd (none has);
+      feeds = inl (none_to_feed before nothing none refl);
+      unread = λ has. refl;
+      works = works;
+      parts = parts;
+    } in
+    record { advances = advances; reads = λ gathers empty. reads gathers }
+
+-- one that does not gather need not read
+pub reads_as : {D S : Type 0} {g : Ghosts D} {h : stream.Ghosts S} {keeps : Type 0} {moments : ℕ → Type 0} {old new : Server D g} (before after : Peer S h)
+    (result : Result Pace Parting) → (before.stage ≡ stages.Gathers → ⊥) → Advances keeps moments old new before after result → Reads keeps moments old new before after result
+reads_as before after result other advances = record { advances = advances; reads = λ gathers empty. absurd (other gathers) }
 
 -- The whole step
 
 -- of a step that leaves the peer to be served on, by what it returns
 pub serves_as : {D S : Type 0} {g : Ghosts D} {h : stream.Ghosts S} {keeps : Type 0} {moments : ℕ → Type 0} {old new : Server D g} (before after : Peer S h) (result : Result Pace Parting) (answer : Result Step Refused)
-    → Advances keeps moments old new before after result → ((pace : Pace) → answer ≡ Ok (steps.Stays pace) → (pace ≡ paces.Pauses → ⊥) → result ≡ Ok pace)
-    → ServesOn keeps moments old new before after answer
-serves_as before after result answer advances told = record {
-  tally = advances.tally;
-  carries = advances.carries;
-  shown = advances.shown;
-  few = advances.few;
-  turned = λ has had. subst (λ (r : Result Pace Parting). OnOk r (advances.tally.turns ≡ 1)) (told had.0 had.1 had.2) (advances.turned has);
-  works = λ is. advances.works (told paces.Goes is (λ e. let never : ⊥ = cc in never));
-}
+    → Reads keeps moments old new before after result → ((pace : Pace) → answer ≡ Ok (steps.Stays pace) → (pace ≡ paces.Pauses → ⊥) → result ≡ Ok pace)
+    → (IsUnfed new after result → answer ≡ Err refusals.Device) → ServesOn keeps moments old new before after answer
+serves_as {keeps = keeps} {moments = moments} {old = old} {new = new} before after result answer reads told failed =
+    let advances : Advances keeps moments old new before after result = reads.advances in
+    record {
+      tally = advances.tally;
+      carries = advances.carries;
+      shown = advances.shown;
+      few = advances.few;
+      turned = λ has had. subst (λ (r : Result Pace Parting). OnOk r (advances.tally.turns ≡ 1)) (told had.0 had.1 had.2) (advances.turned has);
+      feeds = or_else failed advances.feeds;
+      unread = advances.unread;
+      reads = reads.reads;
+      works = λ is. advances.works (told paces.Goes is (λ e. let never : ⊥ = cc in never));
+    }
 
 pub ok_pace : (a b : Pace) → (let one : Result Step Refused = Ok (steps.Stays a) in one ≡ Ok (steps.Stays b)) → (let two : Result Pace Parting = Ok a in two ≡ Ok b)
 ok_pace a b is = cc
@@ -502,17 +561,20 @@ pub paused : (pace : Pace) (A : Type 0) → (let one : Result Step Refused = Ok 
 paused pace A is awake = let same : pace ≡ paces.Pauses = cc in absurd (awake same)
 
 pub ends_peer : {D S : Type 0} {g : Ghosts D} {h : stream.Ghosts S} {keeps : Type 0} {moments : ℕ → Type 0} {old between new : Server D g} (before left after : Peer S h) (result : Result Step Refused)
-    → Advances keeps moments old between before left (Err partings.Peer) → Goes keeps between new (IsEndBy moments result left.conn)
+    → Reads keeps moments old between before left (Err partings.Peer) → Goes keeps between new (IsEndBy moments result left.conn)
     → (after.stream ≡ left.stream) × (after.inbox ≡ left.inbox) × (after.conn ≡ left.conn)
     → EndsPeer keeps moments old new before after result
-ends_peer {between = between} before left after result advances hung same = record {
+ends_peer {between = between} before left after result reads hung same = record {
   between = between;
   left = left;
-  tally = advances.tally;
-  carries = advances.carries;
-  shown = advances.shown;
-  few = advances.few;
-  reason = advances.parts;
+  tally = reads.advances.tally;
+  carries = reads.advances.carries;
+  shown = reads.advances.shown;
+  few = reads.advances.few;
+  feeds = reads.advances.feeds;
+  unread = reads.advances.unread;
+  reads = reads.reads;
+  reason = reads.advances.parts;
   hung = hung;
   same = same;
 }

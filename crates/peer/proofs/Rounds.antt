@@ -1,5 +1,5 @@
 -- What a round gives each peer.
-use Rattle.std.proofs.Common.{◌≡◌, ◌≢◌, ◌<◌, ◌≤◌, ◌==◌, ℕ, if◌then◌else◌, List, [], ◌∷◌, ◌++◌, Option, Some, None, Result, Ok, IfOk, inl, inr, refl, sym, ap, subst, ◌∙◌, eq-eqb, ne_eqb, arith}
+use Rattle.std.proofs.Common.{◌≡◌, ◌≢◌, ◌<◌, ◌≤◌, ◌==◌, ℕ, if◌then◌else◌, List, [], ◌∷◌, ◌++◌, Option, Some, None, Result, Ok, Err, IfOk, ◌⊎◌, inl, inr, refl, sym, ap, subst, ◌∙◌, append-nil, eq-eqb, ne_eqb, arith}
 use Rattle.std.proofs.lemmas.Bool.{cases_order}
 use Rattle.std.proofs.lemmas.Option.{same_Some}
 use Rattle.disk.specs.declared.device.Device.{Ghosts}
@@ -8,10 +8,11 @@ use Rattle.server.specs.Refused.{connection_at, view}
 use Rattle.server.specs.Seen.{ServerCall, Did, Failed}
 use Rattle.server.specs.declared.server.Server.{Server}
 use Rattle.system.specs.declared.refused.Refused.{Refused}
+use Rattle.system.specs.declared.refused.Refused.TheVariants as refusals
 use Rattle.peer.specs.Calls.{Goes, IsEnd}
-use Rattle.peer.specs.Rounds.{AnyCalls, HaveOneTurn, HaveTurn, StaysOn, HasEnded, Leaves, StepsKey, EndedWithin, IsRound, step_of, HadTurn, HadEnd, EveryRound}
+use Rattle.peer.specs.Rounds.{Among, AnyCalls, HaveOneTurn, HaveTurn, IsTurnOf, Shows, StaysOn, HasEnded, Leaves, StepsKey, EndedWithin, IsRound, step_of, HadTurn, HadEnd, EveryRound}
 use Rattle.peer.specs.Rounds as rounds
-use Rattle.peer.specs.Steps.{AnyMoment, AreOn, EndsAgain, EndsPeer, HasBytes, IsEndBy, IsTallied, ServesOn, StaysServed, Tally, count_by, turns_by}
+use Rattle.peer.specs.Steps.{AnyMoment, AreOn, EndsAgain, EndsPeer, HasBytes, IsEndBy, IsFed, IsTallied, ServesOn, StaysServed, Tally, all_by, count_by, shown_by, turns_by}
 use Rattle.peer.specs.declared.pace.Pace.{Pace}
 use Rattle.peer.specs.declared.pace.Pace.TheVariants as paces
 use Rattle.peer.specs.declared.peer.Peer.{Peer}
@@ -27,7 +28,7 @@ use Rattle.peer.proofs.Tallies.{tallies_any}
 
 -- Calls among which is a turn
 
-turn_among : (connection : ℕ) (calls : List ServerCall) → AreOn AnyMoment connection calls → 0 < count_by turns_by calls → HaveTurn connection calls
+turn_among : (connection : ℕ) (calls : List ServerCall) → AreOn AnyMoment connection calls → 0 < count_by turns_by calls → Among (IsTurnOf connection) calls
 turn_among connection [] on some = absurd (omega (arith, some))
 turn_among connection (Did (Turns number now) said ∷ calls) on some = inl on.0.0
 turn_among connection (Did (Arrives number piece) said ∷ calls) on some = inr (turn_among connection calls on.1 (omega (arith, some)))
@@ -36,14 +37,29 @@ turn_among connection (Did (HangsUp number) said ∷ calls) on some = absurd on.
 turn_among connection (Did (Connects number) said ∷ calls) on some = absurd on.0
 turn_among connection (Failed event ∷ calls) on some = absurd on.0
 
-turn_before : (connection : ℕ) (calls more : List ServerCall) → HaveTurn connection calls → HaveTurn connection (more ++ calls)
-turn_before connection calls [] has = has
-turn_before connection calls (call ∷ more) has = inr (turn_before connection calls more has)
+-- the last of one is that one
+last_is : {A : Type 0} (before : List A) (last only : A) → before ++ (last ∷ []) ≡ only ∷ [] → last ≡ only
+last_is [] last only is = let same : last ∷ [] ≡ only ∷ [] = is in cc
+last_is (head ∷ []) last only is = let same : head ∷ last ∷ [] ≡ only ∷ [] = is in let never : ⊥ = cc in absurd never
+last_is (head ∷ next ∷ before) last only is = let same : head ∷ next ∷ (before ++ (last ∷ [])) ≡ only ∷ [] = is in let never : ⊥ = cc in absurd never
 
-turn_since : (connection : ℕ) (calls more : List ServerCall) → HaveTurn connection more → HaveTurn connection (more ++ calls)
-turn_since connection calls [] has = absurd has
-turn_since connection calls (call ∷ more) (inl is) = inl is
-turn_since connection calls (call ∷ more) (inr has) = inr (turn_since connection calls more has)
+piece_among : (connection : ℕ) (piece : List ℕ) (calls : List ServerCall) → AreOn AnyMoment connection calls → all_by shown_by calls ≡ piece ∷ [] → Among (Shows connection piece) calls
+piece_among connection piece [] on is = let none : [] ≡ piece ∷ [] = is in let never : ⊥ = cc in absurd never
+piece_among connection piece (Did (Arrives number shown) said ∷ calls) on is = inl (on.0, last_is (all_by shown_by calls) shown piece is)
+piece_among connection piece (Did (Turns number now) said ∷ calls) on is = inr (piece_among connection piece calls on.1 (sym (append-nil (all_by shown_by calls)) ∙ is))
+piece_among connection piece (Did (Takes number) said ∷ calls) on is = inr (piece_among connection piece calls on.1 (sym (append-nil (all_by shown_by calls)) ∙ is))
+piece_among connection piece (Did (HangsUp number) said ∷ calls) on is = absurd on.0
+piece_among connection piece (Did (Connects number) said ∷ calls) on is = absurd on.0
+piece_among connection piece (Failed event ∷ calls) on is = absurd on.0
+
+among_before : (such : ServerCall → Type 0) (calls more : List ServerCall) → Among such calls → Among such (more ++ calls)
+among_before such calls [] has = has
+among_before such calls (call ∷ more) has = inr (among_before such calls more has)
+
+among_since : (such : ServerCall → Type 0) (calls more : List ServerCall) → Among such more → Among such (more ++ calls)
+among_since such calls [] has = absurd has
+among_since such calls (call ∷ more) (inl here) = inl here
+among_since such calls (call ∷ more) (inr has) = inr (among_since such calls more has)
 
 module _ {D : Type 0} {g : Ghosts D} {keeps : Type 0} where
   pub any_calls : {old new : Server D g} (kind : List ServerCall → Type 0) → Goes keeps old new kind → Goes keeps old new AnyCalls
@@ -53,35 +69,44 @@ module _ {D : Type 0} {g : Ghosts D} {keeps : Type 0} where
   any_then before after =
       goes_on {first = AnyCalls} {then = AnyCalls} {kind = AnyCalls} (λ (calls more : List ServerCall) (one : AnyCalls calls) (two : AnyCalls more). tt) before after
 
-  turn_then : {old between new : Server D g} (connection : ℕ) → Goes keeps old between (HaveTurn connection) → Goes keeps between new AnyCalls
-      → Goes keeps old new (HaveTurn connection)
-  turn_then connection before after =
-      goes_on {first = HaveTurn connection} {then = AnyCalls} {kind = HaveTurn connection}
-      (λ (calls more : List ServerCall) (has : HaveTurn connection calls) (any : AnyCalls more). turn_before connection calls more has) before after
+  module _ {S : Type 0} {h : stream.Ghosts S} (peer : Peer S h) where
+    turn_then : {old between new : Server D g} → Goes keeps old between (HaveTurn peer) → Goes keeps between new AnyCalls → Goes keeps old new (HaveTurn peer)
+    turn_then before after =
+        goes_on {first = HaveTurn peer} {then = AnyCalls} {kind = HaveTurn peer}
+        (λ (calls more : List ServerCall) (has : HaveTurn peer calls) (any : AnyCalls more).
+        (among_before (IsTurnOf peer.conn) calls more has.0, λ gathers. among_before (Shows peer.conn peer.inbox) calls more (has.1 gathers))) before after
 
-  pub then_has_turn : {old between new : Server D g} (connection : ℕ) → Goes keeps old between AnyCalls → Goes keeps between new (HaveTurn connection)
-      → Goes keeps old new (HaveTurn connection)
-  then_has_turn connection before after =
-      goes_on {first = AnyCalls} {then = HaveTurn connection} {kind = HaveTurn connection}
-      (λ (calls more : List ServerCall) (any : AnyCalls calls) (has : HaveTurn connection more). turn_since connection calls more has) before after
-
-  then_turn : {old between new : Server D g} (connection : ℕ) → Goes keeps old between AnyCalls → Goes keeps between new (HaveOneTurn connection)
-      → Goes keeps old new (HaveTurn connection)
-  then_turn connection before after =
-      goes_on {first = AnyCalls} {then = HaveOneTurn connection} {kind = HaveTurn connection}
-      (λ (calls more : List ServerCall) (any : AnyCalls calls) (has : HaveOneTurn connection more).
-      turn_since connection calls more (turn_among connection more has.0 (omega (arith, has.1)))) before after
+    then_turn : {old between new : Server D g} → Goes keeps old between AnyCalls → Goes keeps between new (HaveOneTurn peer) → Goes keeps old new (HaveTurn peer)
+    then_turn before after =
+        goes_on {first = AnyCalls} {then = HaveOneTurn peer} {kind = HaveTurn peer}
+        (λ (calls more : List ServerCall) (any : AnyCalls calls) (has : HaveOneTurn peer more). (
+          among_since (IsTurnOf peer.conn) calls more (turn_among peer.conn more has.0 (omega (arith, has.1))),
+          λ gathers. among_since (Shows peer.conn peer.inbox) calls more (piece_among peer.conn peer.inbox more has.0 (has.2 gathers)),
+        )) before after
 
 -- Steps
 
+bytes_wait : {S : Type 0} {h : stream.Ghosts S} (peer : Peer S h) → HasBytes peer → peer.stage ≡ stages.Gathers → peer.inbox ≡ [] → ⊥
+bytes_wait peer (inl runs) gathers empty = let never : ⊥ = cc in never
+bytes_wait peer (inr has) gathers empty = has.1 empty
+
+-- a step that returns no error has fed a peer what it had
+fed_by : {S : Type 0} {h : stream.Ghosts S} (peer : Peer S h) (tally : Tally) (result : Result Step Refused) (step : Step) → HasBytes peer → tally.came ≡ [] → result ≡ Ok step
+    → IsFed peer tally ⊎ (result ≡ Err refusals.Device) → peer.stage ≡ stages.Gathers → tally.shown ≡ peer.inbox ∷ []
+fed_by peer tally result step has unread told (inl fed) gathers =
+    let all : peer.inbox ++ tally.came ≡ peer.inbox = ap (λ (came : List ℕ). peer.inbox ++ came) unread ∙ append-nil peer.inbox in
+    fed gathers (λ none. bytes_wait peer has gathers (sym all ∙ none)) ∙ ap (λ (piece : List ℕ). piece ∷ []) all
+fed_by peer tally result step has unread told (inr failed) gathers = let never : ⊥ = cc in absurd never
+
 -- one that leaves the peer to be served on
 turns_once : {D S : Type 0} {g : Ghosts D} {h : stream.Ghosts S} {keeps : Type 0} (moments : ℕ → Type 0) {old new : Server D g} (peer left : Peer S h) (result : Result Step Refused) (pace : Pace)
-    → ServesOn keeps moments old new peer left result → HasBytes peer → result ≡ Ok (steps.Stays pace) → (pace ≡ paces.Pauses → ⊥) → Goes keeps old new (HaveOneTurn peer.conn)
+    → ServesOn keeps moments old new peer left result → HasBytes peer → result ≡ Ok (steps.Stays pace) → (pace ≡ paces.Pauses → ⊥) → Goes keeps old new (HaveOneTurn peer)
 turns_once moments peer left result pace serves has is awake =
     let tally : Tally = serves.tally in
     let once : tally.turns ≡ 1 = serves.turned has (pace, is, awake) in
-    goes_as {first = IsTallied AnyMoment peer.conn tally} {kind = HaveOneTurn peer.conn}
-    (λ (calls : List ServerCall) (tallied : IsTallied AnyMoment peer.conn tally calls). (tallied.on, tallied.turns ∙ once))
+    let fed : peer.stage ≡ stages.Gathers → tally.shown ≡ peer.inbox ∷ [] = fed_by peer tally result (steps.Stays pace) has (serves.unread has) is serves.feeds in
+    goes_as {first = IsTallied AnyMoment peer.conn tally} {kind = HaveOneTurn peer}
+    (λ (calls : List ServerCall) (tallied : IsTallied AnyMoment peer.conn tally calls). (tallied.on, tallied.turns ∙ once, λ gathers. tallied.shown ∙ fed gathers))
     (tallies_any moments AnyMoment peer.conn tally (λ now shows. tt) serves.carries.calls)
 
 -- whatever it came to
@@ -129,6 +154,9 @@ ends_any moments peer left end = record {
   carries = carries_any moments AnyMoment peer end.left end.tally (λ now shows. tt) end.carries;
   shown = end.shown;
   few = end.few;
+  feeds = end.feeds;
+  unread = end.unread;
+  reads = end.reads;
   reason = end.reason;
   hung = goes_as {first = IsEnd moments end.left.conn} {kind = IsEnd AnyMoment end.left.conn}
       (λ (calls : List ServerCall) (is : IsEnd moments end.left.conn calls). end_any moments end.left.conn calls is) end.hung;
@@ -243,9 +271,9 @@ module _ {D S : Type 0} {g : Ghosts D} {h : stream.Ghosts S} (keeps : Type 0) (f
   had_now old new here left peer (Some steps.Ended) there has so_far leaves = inr (inl (ended_now old new here left peer there so_far leaves))
   had_now old new here left peer (Some (steps.Stays paces.Pauses)) there has so_far leaves = inr (inr refl)
   had_now old new here left peer (Some (steps.Stays paces.Goes)) there has so_far leaves =
-      inl (then_turn peer.conn so_far ((stayed_now old new here left peer paces.Goes there leaves).turned has (λ pauses. let never : ⊥ = cc in never)))
+      inl (then_turn peer so_far ((stayed_now old new here left peer paces.Goes there leaves).turned has (λ pauses. let never : ⊥ = cc in never)))
   had_now old new here left peer (Some (steps.Stays paces.Sleeps)) there has so_far leaves =
-      inl (then_turn peer.conn so_far ((stayed_now old new here left peer paces.Sleeps there leaves).turned has (λ pauses. let never : ⊥ = cc in never)))
+      inl (then_turn peer so_far ((stayed_now old new here left peer paces.Sleeps there leaves).turned has (λ pauses. let never : ⊥ = cc in never)))
 
   -- one that had been dismissed
   over_now : (old new : Server D g) (here left : Option (Peer S h)) (peer : Peer S h) (step : Option Step) → here ≡ Some peer → peer.stage ≡ stages.Ends
@@ -263,7 +291,7 @@ module _ {D S : Type 0} {g : Ghosts D} {h : stream.Ghosts S} (keeps : Type 0) (f
 
   had_before : (old new : Server D g) (peer : Peer S h) (left : Option (Peer S h)) (step : Option Step) → Goes keeps old new AnyCalls
       → HadTurn keeps first old peer left step → HadTurn keeps first new peer left step
-  had_before old new peer left step more (inl turn) = inl (turn_then peer.conn turn more)
+  had_before old new peer left step more (inl turn) = inl (turn_then peer turn more)
   had_before old new peer left step more (inr (inl ended)) = inr (inl (ended_before old new peer left more ended))
   had_before old new peer left step more (inr (inr paused)) = inr (inr paused)
 

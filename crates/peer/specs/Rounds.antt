@@ -1,12 +1,12 @@
 -- A round: each key has one step, in order. Each peer that has bytes is given a turn.
 use Rattle.std.specs.Prelude.{ℕ, suc, ◌<◌, ◌==◌, List, [], ◌∷◌, Option, Some, None, Ok, ◌≡◌, ◌⊎◌, if◌then◌else◌}
 use Rattle.disk.specs.declared.device.Device.{Ghosts}
-use Rattle.model.specs.Server.Runs.{Turns}
+use Rattle.model.specs.Server.Runs.{Arrives, Turns}
 use Rattle.server.specs.Refused.{connection_at, view}
 use Rattle.server.specs.Seen.{ServerCall, Did, Failed}
 use Rattle.server.specs.declared.server.Server.{Server}
 use Rattle.peer.specs.Calls.{Goes}
-use Rattle.peer.specs.Steps.{AnyMoment, AreOn, EndsPeer, HasBytes, count_by, turns_by}
+use Rattle.peer.specs.Steps.{AnyMoment, AreOn, EndsPeer, HasBytes, all_by, count_by, shown_by, turns_by}
 use Rattle.peer.specs.declared.pace.Pace.{Pace}
 use Rattle.peer.specs.declared.pace.Pace.TheVariants as paces
 use Rattle.peer.specs.declared.peer.Peer.{Peer}
@@ -20,29 +20,44 @@ use Rattle.peer.specs.declared.stream.Stream as stream
 abbrev pub AnyCalls : List ServerCall → Type 0
 AnyCalls calls = Unit {0}
 
--- on this connection, exactly one of them a turn
-abbrev pub HaveOneTurn : (connection : ℕ) → List ServerCall → Type 0
-HaveOneTurn connection calls = AreOn AnyMoment connection calls × (count_by turns_by calls ≡ 1)
+-- On the connection of this peer, exactly one of them a turn. If it gathers, the server was shown
+-- all of its bytes, in one piece.
+abbrev pub HaveOneTurn : {S : Type 0} {h : stream.Ghosts S} → Peer S h → List ServerCall → Type 0
+HaveOneTurn peer calls =
+    AreOn AnyMoment peer.conn calls × (count_by turns_by calls ≡ 1)
+    × (peer.stage ≡ stages.Gathers → all_by shown_by calls ≡ peer.inbox ∷ [])
+
+-- one of them is such
+abbrev pub Among : (ServerCall → Type 0) → List ServerCall → Type 0
+Among is [] = ⊥
+Among is (call ∷ calls) = is call ⊎ Among is calls
 
 abbrev pub IsTurnOf : (connection : ℕ) → ServerCall → Type 0
 IsTurnOf connection (Did (Turns number now) said) = number ≡ connection
 IsTurnOf connection (Did event said) = ⊥
 IsTurnOf connection (Failed event) = ⊥
 
--- on any connection, among them a turn of this one
-abbrev pub HaveTurn : (connection : ℕ) → List ServerCall → Type 0
-HaveTurn connection [] = ⊥
-HaveTurn connection (call ∷ calls) = IsTurnOf connection call ⊎ HaveTurn connection calls
+abbrev pub Shows : (connection : ℕ) → (piece : List ℕ) → ServerCall → Type 0
+Shows connection piece (Did (Arrives number shown) said) = (number ≡ connection) × (shown ≡ piece)
+Shows connection piece (Did event said) = ⊥
+Shows connection piece (Failed event) = ⊥
+
+-- On any connection, among them a turn of this peer's. If it gathers, the server was shown all of
+-- its bytes, in one piece.
+abbrev pub HaveTurn : {S : Type 0} {h : stream.Ghosts S} → Peer S h → List ServerCall → Type 0
+HaveTurn peer calls =
+    Among (IsTurnOf peer.conn) calls
+    × (peer.stage ≡ stages.Gathers → Among (Shows peer.conn peer.inbox) calls)
 
 -- Steps
 
--- A peer that stays was given a turn if it had bytes, and was not to end, unless there was no
--- memory.
+-- A peer that stays was given a turn if it had bytes, of which those that waited were shown to the
+-- server, and was not to end, unless there was no memory.
 pub record StaysOn {D S : Type 0} {g : Ghosts D} {h : stream.Ghosts S} (keeps : Type 0)
     (old new : Server D g) (peer left : Peer S h) (pace : Pace) : Type 0 where
   pub conn : left.conn ≡ peer.conn
   pub turned : HasBytes peer → (pace ≡ paces.Pauses → ⊥)
-      → Goes keeps old new (HaveOneTurn peer.conn)
+      → Goes keeps old new (HaveOneTurn peer)
   pub over : peer.stage ≡ stages.Ends → pace ≡ paces.Pauses
 
 -- One that ended had a reason (`Reason`), and the server has its connection no longer.
@@ -106,7 +121,7 @@ abbrev pub HadTurn : {D S : Type 0} {g : Ghosts D} {h : stream.Ghosts S} → (ke
     → (first last : Server D g) → (peer : Peer S h) → (left : Option (Peer S h)) → Option Step
     → Type 0
 HadTurn keeps first last peer left step =
-    Goes keeps first last (HaveTurn peer.conn)
+    Goes keeps first last (HaveTurn peer)
     ⊎ ((left ≡ None) × EndedWithin keeps first last peer)
     ⊎ (step ≡ Some (steps.Stays paces.Pauses))
 

@@ -206,8 +206,31 @@ abbrev pub HasBytes : {S : Type 0} {h : stream.Ghosts S} → Peer S h → Type 0
 HasBytes peer =
     (peer.stage ≡ stages.Runs) ⊎ ((peer.stage ≡ stages.Gathers) × (peer.inbox ≡ [] → ⊥))
 
+-- Of a peer that gathers the server was shown what had waited and what came, all of it in one piece,
+-- if that is any byte.
+abbrev pub IsFed : {S : Type 0} {h : stream.Ghosts S} → (before : Peer S h) → Tally → Type 0
+IsFed before tally =
+    before.stage ≡ stages.Gathers → (before.inbox ++ tally.came ≡ [] → ⊥)
+    → tally.shown ≡ (before.inbox ++ tally.came) ∷ []
+
+-- why it was not: the server has no such connection, or the device failed
+abbrev pub IsUnfed : {D S : Type 0} {g : Ghosts D} {h : stream.Ghosts S} → Server D g → Peer S h
+    → Result Pace Parting → Type 0
+IsUnfed server peer (Ok pace) = ⊥
+IsUnfed server peer (Err partings.Peer) = connection_at (view server) peer.conn ≡ None
+IsUnfed server peer (Err partings.Device) = (volume_of server).is_down ≡ true
+IsUnfed server peer (Err partings.Memory) = ⊥
+IsUnfed server peer (Err partings.Clock) = ⊥
+
+-- bytes came, or its last read reported that none had, an error, or the end of the stream
+abbrev pub HasRead : {S : Type 0} {h : stream.Ghosts S} → Peer S h → Tally → Type 0
+HasRead {h = h} peer tally =
+    (0 < length tally.came)
+    ⊎ ((told : Option ErrorKind) × (h.read_told peer.stream told ≡ true))
+
 -- What a step does until it ends the peer: it shows the server each byte once, and gives at most
--- one turn, at one of these moments, and exactly one if the peer has bytes and no error comes.
+-- one turn, at one of these moments, and exactly one if the peer has bytes and no error comes. If
+-- the peer gathers, it shows all bytes that there are; if the peer has some, it reads none.
 pub record Advances {D S : Type 0} {g : Ghosts D} {h : stream.Ghosts S} (keeps : Type 0)
     (moments : ℕ → Type 0) (old new : Server D g) (before after : Peer S h)
     (result : Result Pace Parting) : Type 0 where
@@ -216,8 +239,17 @@ pub record Advances {D S : Type 0} {g : Ghosts D} {h : stream.Ghosts S} (keeps :
   pub shown : AreAll (before.inbox ++ tally.came) tally.shown
   pub few : tally.turns ≤ 1
   pub turned : HasBytes before → OnOk result (tally.turns ≡ 1)
+  pub feeds : IsFed before tally ⊎ IsUnfed new after result
+  pub unread : HasBytes before → tally.came ≡ []
   pub works : result ≡ Ok paces.Goes → HasWorked after tally
   pub parts : IfErr result (Parts tally new after)
+
+-- the same, and it reads if the peer gathers and has no byte
+pub record Reads {D S : Type 0} {g : Ghosts D} {h : stream.Ghosts S} (keeps : Type 0)
+    (moments : ℕ → Type 0) (old new : Server D g) (before after : Peer S h)
+    (result : Result Pace Parting) : Type 0 where
+  pub advances : Advances keeps moments old new before after result
+  pub reads : before.stage ≡ stages.Gathers → before.inbox ≡ [] → HasRead after advances.tally
 
 -- the same of what reads nothing, and shows the server nothing
 pub record Runs {D S : Type 0} {g : Ghosts D} {h : stream.Ghosts S} (keeps : Type 0)
@@ -273,6 +305,9 @@ pub record EndsPeer {D S : Type 0} {g : Ghosts D} {h : stream.Ghosts S} (keeps :
   pub carries : Carries keeps moments old between before left tally
   pub shown : AreAll (before.inbox ++ tally.came) tally.shown
   pub few : tally.turns ≤ 1
+  pub feeds : IsFed before tally ⊎ (connection_at (view between) left.conn ≡ None)
+  pub unread : HasBytes before → tally.came ≡ []
+  pub reads : before.stage ≡ stages.Gathers → before.inbox ≡ [] → HasRead left tally
   pub reason : Reason tally between left
   pub hung : Goes keeps between new (IsEndBy moments result left.conn)
   pub same : (after.stream ≡ left.stream) × (after.inbox ≡ left.inbox) × (after.conn ≡ left.conn)
@@ -300,6 +335,9 @@ pub record ServesOn {D S : Type 0} {g : Ghosts D} {h : stream.Ghosts S} (keeps :
   pub shown : AreAll (before.inbox ++ tally.came) tally.shown
   pub few : tally.turns ≤ 1
   pub turned : HasBytes before → HadMemory result → tally.turns ≡ 1
+  pub feeds : IsFed before tally ⊎ (result ≡ Err refusals.Device)
+  pub unread : HasBytes before → tally.came ≡ []
+  pub reads : before.stage ≡ stages.Gathers → before.inbox ≡ [] → HasRead after tally
   pub works : result ≡ Ok (steps.Stays paces.Goes) → HasWorked after tally
 
 -- a peer that stays does not end with its next step, unless there was no memory

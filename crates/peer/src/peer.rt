@@ -105,7 +105,7 @@ impl<S: Stream + Drop> Peer<S> {
     ghost use Rattle.system.specs.Moments.{IsMoment};
     ghost use Rattle.peer.specs.Calls.{Goes};
     ghost use Rattle.peer.specs.Peers.{PeerBegins, IsSame, IsSpare, WaitsFor, quiet_nanos};
-    ghost use Rattle.peer.specs.Steps.{Advances, Runs, GivesNoTurn, Sends, IsReplying, IsStuck, WaitsToWrite, ServesOn, StaysServed, EndsPeer, EndsAgain, IsEndBy, FailsBy};
+    ghost use Rattle.peer.specs.Steps.{Advances, Reads, Runs, GivesNoTurn, Sends, IsReplying, IsStuck, WaitsToWrite, ServesOn, StaysServed, EndsPeer, EndsAgain, IsEndBy, FailsBy};
 
     /// A peer over this connection of the server, of whose turns changes are kept then.
     pub fn new(conn: usize, stream: S, inbox: Inbox, keeping: Keeping, now: Instant) -> Peer<S>
@@ -277,7 +277,7 @@ impl<S: Stream + Drop> Peer<S> {
         D: Device,
         C: WallClock,
         ensures asleep { IfOk result (λ pace. pace ≡ Pace.Sleeps → IsStuck server.new self.new) }
-        ensures does { Advances D.keeps_word (IsMoment (C.shows clock.now)) server.old server.new
+        ensures does { Reads D.keeps_word (IsMoment (C.shows clock.now)) server.old server.new
             self.old self.new result }
         ensures ends { self.new.stage ≡ Stage.Ends → IsErrOf result Parting.Peer }
         ensures over { self.old.stage ≡ Stage.Ends → IsErrOf result Parting.Peer
@@ -304,7 +304,7 @@ impl<S: Stream + Drop> Peer<S> {
         C: WallClock,
         requires { self.old.stage ≡ Stage.Gathers }
         ensures asleep { IfOk result (λ pace. pace ≡ Pace.Sleeps → IsStuck server.new self.new) }
-        ensures does { Advances D.keeps_word (IsMoment (C.shows clock.now)) server.old server.new
+        ensures does { Reads D.keeps_word (IsMoment (C.shows clock.now)) server.old server.new
             self.old self.new result }
     {
         if self.inbox.is_empty() {
@@ -313,7 +313,7 @@ impl<S: Stream + Drop> Peer<S> {
         self.hand_over(server, clock, now)
     }
 
-    /// Reads what has come, and hands it to the server.
+    /// Reads what has come, and hands it all to the server.
     fn receive<D, C>(
         &mut self,
         server: &mut Server<D>,
@@ -326,7 +326,7 @@ impl<S: Stream + Drop> Peer<S> {
         requires empty { self.old.inbox ≡ [] }
         requires gathers { self.old.stage ≡ Stage.Gathers }
         ensures asleep { IfOk result (λ pace. pace ≡ Pace.Sleeps → IsStuck server.new self.new) }
-        ensures does { Advances D.keeps_word (IsMoment (C.shows clock.now)) server.old server.new
+        ensures does { Reads D.keeps_word (IsMoment (C.shows clock.now)) server.old server.new
             self.old self.new result }
     {
         if !self.can_read {
@@ -345,7 +345,7 @@ impl<S: Stream + Drop> Peer<S> {
         }
     }
 
-    /// Hands the server what it takes of the bytes that wait.
+    /// Shows the server all bytes that wait, and keeps those that it does not take.
     fn hand_over<D, C>(
         &mut self,
         server: &mut Server<D>,

@@ -120,7 +120,7 @@ impl<D: Device, S: Stream + Drop> Peers<D, S> {
     ) -> Result<Option<Stepped<S>>, Refused>
         ensures serves { ServesFurther D.keeps_word self.old.server self.new.server
             (get self.old.peers) (get self.new.peers) }
-        // Each peer that has bytes is given a turn
+        // A peer that has bytes is fed them and given a turn
         ensures fair { IfOk result (λ done. StepsKey D.keeps_word key self.old.server
             self.new.server (get self.old.peers) (get self.new.peers)
             (option_map (λ stepped. stepped.step) done)) }
@@ -208,7 +208,8 @@ impl<D: Device, S: Stream + Drop> Peers<D, S> {
     {}
 
     /// If each key has a step, one after the other, each peer that had bytes before is given a
-    /// turn or ends, unless there was no memory for it.
+    /// turn, and those that waited are shown to the server, or it ends, unless there was no memory
+    /// for it.
     pub fn every_round(&self)
         ensures { EveryRound D.keeps_word self.now.server (get self.now.peers) }
     {}
