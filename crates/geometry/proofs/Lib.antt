@@ -1,0 +1,4 @@
+pub mod PlaceLaws
+pub mod ReadBack
+pub mod Whole
+pub mod Written

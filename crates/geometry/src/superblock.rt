@@ -1,0 +1,152 @@
+//! The first sector of a volume.
+
+ghost use Rattle.std.specs.Prelude.{◌≡◌, ◌≤◌, ◌+◌, ◌↔◌, All, IfOk, IsErrOf, IsTrue, drop, length, take};
+ghost use Rattle.geometry.specs.Encoding.{header, superblock};
+ghost use Rattle.geometry.specs.Reading.{IsClean, IsMountable, IsVolume, IsWorn, geometry_in, identity_in};
+
+use crate::fault::SuperblockFault;
+use crate::geometry::Geometry;
+use sector::{SIZE, put_bytes, put_u16, put_u32, put_u64, put_zeros, u16_at, u32_at, u64_at};
+
+/// What the first sector of a volume of any version begins with.
+const MAGIC: [u8; 8] = *b"NFS41VOL";
+
+/// The version of the layout.
+const VERSION: u32 = 3;
+
+/// The offset of the first byte after the fields.
+const REST: usize = 64;
+
+/// A volume of layout version 3, as its first sector describes it.
+#[derive(Clone, Copy)]
+pub struct Superblock {
+    /// Where the parts of the volume are, and its limits.
+    pub geometry: Geometry,
+    /// How often the volume was mounted.
+    pub restarts: u32,
+    /// The identity of the volume: random, and given when it is formatted.
+    pub identity: [u8; 16],
+}
+
+impl Superblock {
+    /// Returns the sector that encodes the superblock.
+    pub fn encode(&self) -> [u8; SIZE]
+        ensures { result ≡ superblock self.now }
+    {
+        let mut sector = [0; SIZE];
+        put_header(&mut sector, self.restarts, &self.geometry);
+        put_zeros(&mut sector, 36, 4);
+        put_u64(&mut sector, 40, self.geometry.file_bytes);
+        put_bytes(&mut sector, 48, &self.identity);
+        put_zeros(&mut sector, REST, SIZE - REST);
+        sector
+    }
+
+    /// Reads sector 0 of a device of `device_sectors` sectors.
+    ///
+    /// # Errors
+    ///
+    /// Fails with the first of these that holds:
+    ///
+    /// - [`SuperblockFault::NotVolume`] if the sector describes no volume of version 3 that has the
+    ///   device's size and a geometry that fits.
+    /// - [`SuperblockFault::Worn`] if the restart count cannot be raised.
+    /// - [`SuperblockFault::Damaged`] if a byte outside the fields is not zero.
+    pub fn decode(sector: &[u8; SIZE], device_sectors: u32) -> Result<Superblock, SuperblockFault>
+        ensures mountable { IfOk result (IsMountable device_sectors) }
+        ensures encoded { IfOk result (λ found. sector.now ≡ superblock found) }
+        ensures only { (s : Superblock) → IsMountable device_sectors s → sector.now ≡ superblock s
+            → result ≡ Ok s }
+        ensures not_volume { IsErrOf result SuperblockFault.NotVolume
+            ↔ (¬ IsVolume device_sectors sector.now) }
+        ensures worn { IsErrOf result SuperblockFault.Worn
+            ↔ (IsVolume device_sectors sector.now × IsWorn sector.now) }
+        ensures damaged { IsErrOf result SuperblockFault.Damaged
+            ↔ (IsVolume device_sectors sector.now
+            × (¬ IsWorn sector.now) × (¬ IsClean sector.now)) }
+    {
+        let geometry = geometry_of(sector);
+        if !is_volume(sector, &geometry, device_sectors) {
+            return Err(SuperblockFault::NotVolume);
+        }
+        let restarts = u32_at(sector, 20);
+        if restarts == u32::MAX {
+            return Err(SuperblockFault::Worn);
+        }
+        if !is_clean(sector) {
+            return Err(SuperblockFault::Damaged);
+        }
+        Ok(Superblock {
+            geometry,
+            restarts,
+            identity: identity_of(sector),
+        })
+    }
+}
+
+/// Writes the fields from the first up to the most names of a directory.
+fn put_header(sector: &mut [u8; SIZE], restarts: u32, geometry: &Geometry)
+    ensures prefix { take 36 sector.new ≡ header restarts geometry.now }
+    ensures len { length sector.new ≡ SIZE }
+{
+    put_bytes(sector, 0, &MAGIC);
+    put_u32(sector, 8, VERSION);
+    put_u32(sector, 12, geometry.sectors);
+    put_u32(sector, 16, geometry.nodes);
+    put_u32(sector, 20, restarts);
+    put_u32(sector, 24, geometry.log);
+    put_u16(sector, 28, geometry.seats);
+    put_u16(sector, 30, geometry.slots);
+    put_u32(sector, 32, geometry.names);
+}
+
+/// Returns whether a sector with this geometry is the first of a volume of version 3.
+fn is_volume(sector: &[u8; SIZE], geometry: &Geometry, device_sectors: u32) -> bool
+    requires { geometry.now ≡ geometry_in sector.now }
+    ensures { IsTrue result ↔ IsVolume device_sectors sector.now }
+{
+    &sector[..8] == &MAGIC[..]
+        && u32_at(sector, 8) == VERSION
+        && geometry.sectors == device_sectors
+        && geometry.fits()
+}
+
+/// Returns whether the bytes outside the fields are zero.
+fn is_clean(sector: &[u8; SIZE]) -> bool
+    ensures { IsTrue result ↔ IsClean sector.now }
+{
+    are_zero(sector, 36, 4) && are_zero(sector, REST, SIZE - REST)
+}
+
+/// Returns whether `count` bytes from offset `at` on are zero.
+fn are_zero(sector: &[u8; SIZE], at: usize, count: usize) -> bool
+    requires { at + count ≤ SIZE }
+    ensures { IsTrue result ↔ All (λ byte. byte ≡ 0) (take count (drop at sector.now)) }
+{
+    sector[at..at + count].iter().all(|&byte| byte == 0)
+}
+
+/// Reads the geometry, whatever it is.
+#[tactic(auto, unfolding(crate::specs::Reading::geometry_in))]
+fn geometry_of(sector: &[u8; SIZE]) -> Geometry
+    ensures { result ≡ geometry_in sector.now }
+{
+    Geometry {
+        sectors: u32_at(sector, 12),
+        nodes: u32_at(sector, 16),
+        log: u32_at(sector, 24),
+        seats: u16_at(sector, 28),
+        slots: u16_at(sector, 30),
+        names: u32_at(sector, 32),
+        file_bytes: u64_at(sector, 40),
+    }
+}
+
+/// Reads the identity.
+fn identity_of(sector: &[u8; SIZE]) -> [u8; 16]
+    ensures { result ≡ identity_in sector.now }
+{
+    let mut identity = [0; 16];
+    identity.copy_from_slice(&sector[48..REST]);
+    identity
+}
