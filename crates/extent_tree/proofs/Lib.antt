@@ -1,0 +1,9 @@
+pub mod Bytes
+pub mod Checking
+pub mod Charges
+pub mod Depths
+pub mod Frames
+pub mod Growing
+pub mod Maps
+pub mod Shapes
+pub mod Trees

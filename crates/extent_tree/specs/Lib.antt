@@ -1,0 +1,6 @@
+pub mod Charge
+pub mod Depth
+pub mod Encoding
+pub mod Entries
+pub mod Held
+pub mod Tree

@@ -1,0 +1,58 @@
+//! Which entries are a tree.
+
+ghost use Rattle.std.specs.Prelude.{◌≡◌, ◌≤◌, ◌↔◌, true, false, length, IsTrue};
+ghost use Rattle.std.specs.List.{list_all};
+ghost use Rattle.extent_tree.specs.Held.{entries_by};
+ghost use Rattle.extent_tree.specs.Tree.{AreTrees, IsRoot, is_hole};
+
+use crate::entry::{Entry, INDEX_ENTRIES, ROOT_ENTRIES, is_entry};
+use crate::spans::{MAX_BLOCKS, MAX_DEPTH, depth, span};
+use crate::tree::{Nodes, are_holes, entries_of};
+
+/// Whether these are the entries in the inode of a file of this many blocks, over the index sectors
+/// that have these entries.
+pub fn is_root(blocks: u32, root: &[Entry], nodes: &Nodes) -> bool
+    requires { blocks ≤ MAX_BLOCKS }
+    ensures { IsTrue result ↔ IsRoot (entries_by (λ rc. rc.value.items) nodes.now) blocks root.now }
+{
+    if root.len() != ROOT_ENTRIES {
+        return false;
+    }
+    are_trees(nodes, root, depth(blocks), blocks)
+}
+
+/// Whether an index sector may have these entries: they are 512, and not all holes.
+fn are_of_index(entries: &[Entry]) -> bool
+    ensures { IsTrue result
+        ↔ ((length entries.now ≡ INDEX_ENTRIES) × (list_all is_hole entries.now ≡ false)) }
+{
+    entries.len() == INDEX_ENTRIES && !are_holes(entries)
+}
+
+/// Whether these are consecutive trees at this depth, if the file has `count` blocks from the first
+/// of their spans on.
+fn are_trees(nodes: &Nodes, entries: &[Entry], depth: u8, count: u32) -> bool
+    requires { depth ≤ MAX_DEPTH }
+    ensures { IsTrue result
+        ↔ AreTrees (entries_by (λ rc. rc.value.items) nodes.now) depth count entries.now }
+{
+    let span = span(depth);
+    let mut left = count;
+    for entry in entries {
+        let here = left.min(span);
+        if !is_entry(*entry, depth, here) {
+            return false;
+        }
+        if entry.is_index() {
+            let below = entries_of(nodes, entry.sector);
+            if !are_of_index(below) {
+                return false;
+            }
+            if !are_trees(nodes, below, depth - 1, here) {
+                return false;
+            }
+        }
+        left = left.saturating_sub(span);
+    }
+    true
+}
