@@ -2,4 +2,5 @@
 
 mod drivers;
 mod files;
+mod lists;
 mod transactions;

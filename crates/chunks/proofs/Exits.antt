@@ -1,0 +1,6 @@
+-- Clauses on a result that is an error.
+use Rattle.std.proofs.Common.{Result, Ok, Err, OnErr}
+
+pub on_err : {T E P : Type 0} (r : Result T E) → P → OnErr r P
+on_err (Ok x) holds = tt
+on_err (Err e) holds = holds

@@ -1,0 +1,4 @@
+pub mod Exits
+pub mod Places
+pub mod Replacing
+pub mod Turning
