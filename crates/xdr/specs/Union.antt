@@ -39,8 +39,8 @@ abbrev pub other_below : {W : Type 0} → ℕ → (ℕ → W) → Choice W
 other_below limit make m bytes = if nat_lt m limit then Ok (make m, bytes) else Err Value
 
 abbrev pub union : {W : Type 0} → (W → Encoded) → Choice W → Grammar W
-union told choice = record {
-  Fits = λ w. ((told w).number < 2 ^ 32) × (told w).Fits;
-  encoding = λ w. number w32 (told w).number ++ (told w).text;
+union encode choice = record {
+  Fits = λ w. ((encode w).number < 2 ^ 32) × (encode w).Fits;
+  encoding = λ w. number w32 (encode w).number ++ (encode w).text;
   read = λ bytes. number_at w32 bytes >>= λ n. choice n.0 n.1;
 }
