@@ -3,3 +3,4 @@ pub mod Setting
 pub mod Laws
 pub mod PartLaws
 pub mod KeptLemmas
+pub mod PageLaws

@@ -1,6 +1,7 @@
 -- What a `Bitmap` keeps: the bytes of its sectors, how many of their bits are places, and where to
--- look for a free one.
-use Rattle.std.specs.Prelude.{◌≡◌, ◌≢◌, ◌<◌, ◌≤◌, ◌+◌, ◌*◌, ◌/◌, ◌^◌, ℕ, Bool, not, List, length, count_by, max}
+-- look for a free one; and the same of a `SharedBitmap`, a page for each sector.
+use Rattle.std.specs.Prelude.{◌≡◌, ◌≢◌, ◌<◌, ◌≤◌, ◌+◌, ◌*◌, ◌/◌, ◌^◌, ℕ, Bool, not, List, length, count_by, max, All}
+use Rattle.std.specs.List.{concat}
 use Rattle.freemap.specs.Places.{bit_of}
 
 -- how many places are free
@@ -35,3 +36,23 @@ pub record IsBitmap (bytes : List ℕ) (count lowest : ℕ) : Type 0 where
   pub past : IsClearFrom bytes count
   pub lowest_in : lowest ≤ count
   pub below : IsSetBelow bytes lowest
+
+-- the first clear bit of a sector: 32,768 if each is set
+pub record IsFirstClear (bytes : List ℕ) (place : ℕ) : Type 0 where
+  pub within : place ≤ 32768
+  pub below : IsSetBelow bytes place
+  pub clear : place < 32768 → bit_of bytes place ≡ 0
+
+-- a page is a sector, and has the place of its first clear bit
+pub record IsPage (bytes : List ℕ) (first : ℕ) : Type 0 where
+  pub len : length bytes ≡ 4096
+  pub first_clear : IsFirstClear bytes first
+
+-- every page is a sector
+abbrev pub AreSectors : List (List ℕ) → Type 0
+AreSectors pages = All (λ page. length page ≡ 4096) pages
+
+-- the pages, end to end, are a bitmap
+pub record IsShared (pages : List (List ℕ)) (count lowest : ℕ) : Type 0 where
+  pub sectors : AreSectors pages
+  pub kept : IsBitmap (concat pages) count lowest

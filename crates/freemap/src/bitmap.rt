@@ -16,10 +16,10 @@ use std::marker::Model;
 /// Contracts see a list of booleans, true if the place is used.
 #[derive(Drop)]
 pub struct Bitmap {
-    bits: Vec<u8>,
-    count: u32,
+    pub(crate) bits: Vec<u8>,
+    pub(crate) count: u32,
     /// No place below this one is free.
-    lowest: usize,
+    pub(crate) lowest: usize,
 }
 
 impl Model for Bitmap {

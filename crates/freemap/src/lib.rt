@@ -3,6 +3,8 @@
 
 mod bitmap;
 mod fault;
+mod page;
+mod pages;
 mod places;
 mod sectors;
 

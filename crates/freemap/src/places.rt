@@ -6,46 +6,63 @@ ghost use Rattle.freemap.specs.Kept.{parts};
 
 use crate::bitmap::Bitmap;
 use crate::fault::TakeFault;
-use crate::sectors::SECTOR_PLACES;
+use crate::page::{self, PAGE_PLACES, Page};
+use crate::pages;
+use crate::sectors::{self, SECTOR_PLACES};
 use sector::SIZE;
 use std::alloc::{AllocError, Global};
 use std::marker::Model;
 use std::rc::Rc;
 
-/// Which places are used. A copy shares the memory until one of the two changes.
+/// Which places are used, in pages of one bitmap sector each. A copy shares a page until one of the
+/// two changes it.
 ///
 /// Contracts see a list of booleans, true if the place is used.
 #[derive(Drop)]
 pub struct SharedBitmap {
     alloc: Global,
-    set: Rc<Bitmap>,
+    pages: Vec<Rc<Page>>,
+    count: u32,
+    /// No place below this one is free.
+    lowest: usize,
 }
 
 impl Model for SharedBitmap {
-    ghost use Rattle.std.specs.Prelude.{Bool, List};
+    ghost use Rattle.std.specs.Prelude.{Bool, List, map};
+    ghost use Rattle.std.specs.List.{concat};
+    ghost use Rattle.freemap.specs.Places.{places_in};
+    ghost use Rattle.freemap.specs.Kept.{IsShared};
 
     ghost Value = { List Bool };
 
-    ghost view = { λ places. places.set.value };
+    ghost view = { λ b. places_in (concat (map (λ page. page.value) b.pages.items)) b.count };
+
+    ghost invariant = { λ b. IsShared (map (λ page. page.value) b.pages.items) b.count b.lowest };
 }
 
 impl SharedBitmap {
-    /// A bitmap whose copies share its memory.
+    /// A bitmap of the same places, whose copies share its pages.
     pub fn new(alloc: Global, set: Bitmap) -> Result<SharedBitmap, AllocError>
         ensures { IfOk result (λ places. places ≡ set) }
     {
-        let set = Rc::new(alloc, set)?;
-        Ok(SharedBitmap { alloc, set })
+        let count = set.bits.len() / SIZE;
+        Ok(SharedBitmap {
+            alloc,
+            pages: pages::cut(alloc, &set.bits, count)?,
+            count: set.count,
+            lowest: set.lowest,
+        })
     }
 
-    /// A copy, in the same memory.
+    /// A copy, which shares each page.
     pub fn try_clone(&self) -> Result<SharedBitmap, AllocError>
         ensures { IfOk result (λ places. places ≡ self.now) }
     {
-        let set = self.set.clone()?;
         Ok(SharedBitmap {
             alloc: self.alloc,
-            set,
+            pages: pages::share(self.alloc, &self.pages)?,
+            count: self.count,
+            lowest: self.lowest,
         })
     }
 
@@ -54,7 +71,7 @@ impl SharedBitmap {
         requires { part < parts (length self.now) }
         ensures { ShowsPlaces sector.new self.now (SECTOR_PLACES * part) }
     {
-        self.set.write_sector(part, sector);
+        sector.copy_from_slice(self.pages[part as usize].bytes());
     }
 
     /// Whether bitmap sector `part` is the same of both.
@@ -63,10 +80,11 @@ impl SharedBitmap {
         requires other { part < parts (length other.now) }
         ensures { IsTrue result ↔ HaveSamePart self.now other.now (SECTOR_PLACES * part) }
     {
-        self.set.has_same_part(&other.set, part)
+        let part = part as usize;
+        sectors::have_same_bits(self.pages[part].bytes(), other.pages[part].bytes())
     }
 
-    /// Takes a free place, in place if nobody shares the memory. Which one is left open.
+    /// Takes a free place, in place if nobody shares its page. Which one is left open.
     ///
     /// # Errors
     /// `Full` only if no place is free, and `Memory`; then nothing changes.
@@ -76,28 +94,28 @@ impl SharedBitmap {
         ensures full { IsErrOf result TakeFault.Full → All (λ used. used ≡ true) self.old }
         ensures unchanged { OnErr result (self.new ≡ self.old) }
     {
-        if let Some(own) = Rc::get_mut(&mut self.set) {
-            return Ok(own.take()?);
+        let count = self.count as usize;
+        let place = pages::first_clear(&self.pages, self.lowest);
+        if place >= count {
+            self.lowest = count;
+            return Err(TakeFault::Full);
         }
-        let mut own = self.set.try_clone()?;
-        let place = own.take()?;
-        self.set = Rc::new(self.alloc, own)?;
-        Ok(place)
+        let page = &mut self.pages[place / PAGE_PLACES];
+        page::take(self.alloc, page, place % PAGE_PLACES)?;
+        self.lowest = place + 1;
+        Ok(place as u32)
     }
 
-    /// Frees a used place, in place if nobody shares the memory. An `Err` changes nothing.
+    /// Frees a used place, in place if nobody shares its page. An `Err` changes nothing.
     pub fn give(&mut self, place: u32) -> Result<(), AllocError>
         requires { slice_index_or self.old place false ≡ true }
         ensures given { OnOk result (self.new ≡ slice_set self.old place false) }
         ensures unchanged { OnErr result (self.new ≡ self.old) }
     {
-        if let Some(own) = Rc::get_mut(&mut self.set) {
-            own.give(place);
-            return Ok(());
-        }
-        let mut own = self.set.try_clone()?;
-        own.give(place);
-        self.set = Rc::new(self.alloc, own)?;
+        let place = place as usize;
+        let page = &mut self.pages[place / PAGE_PLACES];
+        page::give(self.alloc, page, place % PAGE_PLACES)?;
+        self.lowest = self.lowest.min(place);
         Ok(())
     }
 }
