@@ -15,6 +15,7 @@ pub mod Lists
 pub mod Moments
 pub mod Parts
 pub mod Phases
+pub mod Outside
 pub mod Recovers
 pub mod Rewrites
 pub mod Stages

@@ -5,7 +5,7 @@ ghost use Rattle.disk.specs.Moments.{applied, seen, moment};
 ghost use Rattle.journal.specs.declared.layout.TheConstants.{MIN_SECTORS};
 ghost use Rattle.journal.specs.Recorded.{HasRoom};
 ghost use Rattle.journal.specs.Calls.{AddsFirst, GoesThrough, GoesThroughFirst, HasApplied, HasCheckpointed, HasFlushed, HasWritten, IsPart, IsSafe, list_with};
-ghost use Rattle.journal.specs.Format.{AddsFormats, IsFormatted};
+ghost use Rattle.journal.specs.Format.{AddsFormats, AddsFormatsOutside, CostsOutside, IsFormatted, LeavesFormattedOutside, MayStayUnread};
 ghost use Rattle.journal.specs.Cached.{AreCopies};
 ghost use Rattle.journal.specs.Commit.{rewritten};
 ghost use Rattle.journal.specs.Layout.{AreTargets, IsArea, area_end, copies, gate, log_at_start, max_updates, targets, through};
@@ -21,6 +21,7 @@ use crate::{JournalFault, Unmounted, View, commit, list, phase, recover};
 use disk::{Device, DiskFault, SECTOR, Update};
 use std::alloc::{AllocError, Global};
 use std::num::NonZeroUsize;
+use std::ops::Range;
 
 /// The number of sectors that a mount keeps in memory if its caller gives no number.
 pub const CACHED_SECTORS: usize = 64;
@@ -150,6 +151,40 @@ impl<D: Device> Journal<D> {
     {
         phase::write_sector(device, SUPERBLOCK, &layout::zeros())?;
         phase::write_fresh(device, updates)?;
+        phase::write_sector(device, SUPERBLOCK, sector0)?;
+        Ok(())
+    }
+
+    /// The same without a range of sectors that nothing reads: these and the log are not written.
+    /// Nor is an update of a sector of the range.
+    ///
+    /// # Errors
+    ///
+    /// [`JournalFault::Fault`] if the device failed.
+    pub fn format_without(
+        device: &mut D,
+        area: LogArea,
+        unread: Range<u32>,
+        sector0: &[u8; SECTOR],
+        updates: &[Update],
+    ) -> Result<(), JournalFault>
+        requires place { IsArea area × (area_end area ≤ D.size device.old) }
+        requires unread { MayStayUnread (D.size device.old) unread }
+        requires fit { AreTargets area.end (targets updates.now) }
+        ensures moments { D.keeps_word → AddsFormatsOutside area unread sector0.now updates.now
+            (D.history device.old) (D.history device.new) }
+        ensures ok { D.keeps_word → OnOk result (LeavesFormattedOutside area unread sector0.now
+            updates.now (D.history device.new)) }
+        ensures cost { D.keeps_word → CostsOutside area unread (D.size device.old) updates.now
+            (D.history device.old) (D.history device.new) result }
+        ensures size { D.size device.new ≡ D.size device.old }
+        // If it fails
+        ensures failures { FailsCounted (D.failed device.old) (D.failed device.new) result }
+        ensures refuses { IfErr result (λ fault. fault ≡ JournalFault.Fault) }
+    {
+        let zeros = layout::zeros();
+        phase::write_sector(device, SUPERBLOCK, &zeros)?;
+        phase::write_fresh_outside(device, area, &unread, updates)?;
         phase::write_sector(device, SUPERBLOCK, sector0)?;
         Ok(())
     }
