@@ -1,8 +1,8 @@
 -- The orders of records after a change of these, and what a search in them finds.
-use Rattle.std.proofs.Common.{ℕ, zero, suc, List, [], ◌∷◌, ◌++◌, ◌≡◌, ◌≢◌, ◌<◌, ◌≤◌, ◌+◌, ◌-◌, ◌∙◌, Some, None, inl, inr, length, get_or, set, take, refl, sym, ap, subst, arith}
+use Rattle.std.proofs.Common.{ℕ, zero, suc, List, [], ◌∷◌, ◌≡◌, ◌≢◌, ◌<◌, ◌≤◌, ◌+◌, ◌-◌, ◌∙◌, Some, None, inl, inr, length, get_or, set, take, refl, sym, ap, subst, arith}
 use Rattle.std.specs.List.{Contains}
 use Rattle.std.proofs.lemmas.Bool.{cases_eq, cases_lt, cases_order}
-use Rattle.std.proofs.lemmas.List.{length-set, length-take, length_push, get_or-set_other, get_or_default, get_or_append_left, get_or-take}
+use Rattle.std.proofs.lemmas.List.{length-set, length-take, get_or-set_other, get_or_default, get_or-take}
 use Rattle.model_tree.specs.Trees.Keyed.{at}
 use Rattle.model_tree.proofs.Trees.KeyedLaws.{at-first, at-rest}
 use Rattle.directory.specs.declared.order.By.{By}
@@ -16,12 +16,6 @@ use Rattle.directory.proofs.Rising.{before_cases, less_before, tied_less, cmp_lo
 abbrev nothing : Record
 nothing = record_from 0 [] 0
 
-pub no_records : (by : By) → IsOrder by [] []
-no_records by = record {
-  rising = tt;
-  all = λ place. (λ has. absurd (let low : has.0 < 0 = has.1 in omega arith), λ of. absurd (omega arith));
-}
-
 -- places whose records are the same
 pub placed_same : (by : By) (xs ys : List Record) (order : List ℕ) → ((a : ℕ) → Contains order a → get_or ys a nothing ≡ get_or xs a nothing) → AreRising by xs order → AreRising by ys order
 placed_same by xs ys order same rising =
@@ -29,27 +23,6 @@ placed_same by xs ys order same rising =
     (λ a b has has_b.
     ap (λ (r : Record). compare_placed by (r, a) (at_place ys b)) (same a has) ∙ ap (λ (r : Record). compare_placed by (at_place xs a) (r, b)) (same b has_b))
     rising
-
--- A record after the last
-
-pub pushed : (by : By) (order new : List ℕ) (xs : List Record) (last : Record) → IsOrder by order xs → IsInserted by (xs ++ last ∷ []) order new (length xs) → IsOrder by new (xs ++ last ∷ [])
-pushed by order new xs last kept put = record {
-  rising = put.rising;
-  all = λ other. (
-    λ has. elim ((put.all other).0 has) [
-      | inl same ↦ omega (arith, length_push xs last)
-      | inr old ↦ let low : other < length xs = (kept.all other).0 old in omega (arith, length_push xs last)
-    ],
-    λ low. elim (cases_lt other (length xs)) [
-      | inl old ↦ (put.all other).1 (inr ((kept.all other).1 old))
-      | inr end ↦ (put.all other).1 (inl (omega (arith, length_push xs last)))
-    ],
-  );
-}
-
-pub still_rising : (by : By) (order : List ℕ) (xs : List Record) (last : Record) → IsOrder by order xs → AreRising by (xs ++ last ∷ []) order
-still_rising by order xs last kept =
-    placed_same by xs (xs ++ last ∷ []) order (λ a has. get_or_append_left xs (last ∷ []) nothing a ((kept.all a).0 has)) kept.rising
 
 -- A record at a place changes
 

@@ -1,12 +1,11 @@
 -- What a change of the records keeps.
-use Rattle.std.proofs.Common.{◌≡◌, ◌≢◌, ◌<◌, ◌-◌, ℕ, zero, suc, List, [], ◌∷◌, ◌++◌, length, get_or, set, take, map, sym, ap, ◌∙◌, arith, inl, inr}
-use Rattle.std.specs.List.{AllByRecursion, swap_remove}
+use Rattle.std.proofs.Common.{◌≡◌, ◌≢◌, ◌<◌, ◌-◌, ℕ, zero, suc, List, [], ◌∷◌, ◌++◌, length, get_or, set, take, sym, ap, ◌∙◌, arith, inl, inr}
+use Rattle.std.specs.List.{AllByRecursion}
 use Rattle.std.proofs.lemmas.Bool.{cases_eq, cases_lt}
-use Rattle.std.proofs.lemmas.List.{length-set, length-take, length-map, length_push, get_or-set_same, get_or-set_other, get_or-take, get_or-map, get_or_default, get_or_append_left, get_or_push, take-map, map-set}
+use Rattle.std.proofs.lemmas.List.{length-set, length-take, length_push, get_or-set_same, get_or-set_other, get_or-take, get_or_default, get_or_append_left, get_or_push}
 use Rattle.sector.specs.Written.{each_at, each_push}
-use Rattle.directory.specs.declared.entry.Entry.{Entry}
 use Rattle.directory.specs.declared.names.TheConstants.Names.{MAX_NAMES}
-use Rattle.directory.specs.Records.{Record, record_of, record_from, without_place, name_of, ApartBy, NamesApart, IsRecord, IsDirectory}
+use Rattle.directory.specs.Records.{Record, record_from, without_place, name_of, ApartBy, NamesApart, IsRecord, IsDirectory}
 
 pub each_set : (P : Record → Type 0) (xs : List Record) (p : ℕ) (x : Record) → AllByRecursion P xs → P x → AllByRecursion P (set xs p x)
 each_set P [] p x all is = tt

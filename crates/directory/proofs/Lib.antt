@@ -13,3 +13,4 @@ pub mod Rising
 pub mod InOrder
 pub mod Blocks
 pub mod Named
+pub mod Sorting

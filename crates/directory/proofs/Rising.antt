@@ -70,7 +70,7 @@ pub tied_less : (by : By) (a b : Placed) → compare by a.0 b.0 ≡ Equal → a.
 tied_less by a b is low = ap (λ o. ordering_then o (nat_cmp a.1 b.1)) is ∙ cmp_low a.1 b.1 low
 
 -- of two places one is before the other
-other_before : (by : By) (a b : Placed) → a.1 ≢ b.1 → (IsBefore by a b → ⊥) → IsBefore by b a
+pub other_before : (by : By) (a b : Placed) → a.1 ≢ b.1 → (IsBefore by a b → ⊥) → IsBefore by b a
 other_before by a b apart never = which (compare_placed by a b) refl
   where
     which : (o : Ordering) → compare_placed by a b ≡ o → IsBefore by b a
@@ -154,7 +154,7 @@ has_none_of P xs x all has = subst P has.2 (each_at P xs has.0 x all has.1)
 
 -- The place that a search finds
 
-all_from_at : (P : ℕ → Type 0) (xs : List ℕ) → ((k : ℕ) → k < length xs → P (get_or xs k 0)) → AllByRecursion P xs
+pub all_from_at : (P : ℕ → Type 0) (xs : List ℕ) → ((k : ℕ) → k < length xs → P (get_or xs k 0)) → AllByRecursion P xs
 all_from_at P [] at = tt
 all_from_at P (x ∷ xs) at = (at 0 (omega arith), all_from_at P xs (λ k within. at (suc k) (omega arith)))
 

@@ -1,14 +1,15 @@
 -- Orders of the records of a directory, by what they are searched for: lists of their places.
-use Rattle.std.specs.Prelude.{◌≡◌, ◌≢◌, ◌<◌, ◌≤◌, ◌↔◌, ◌⊎◌, ℕ, List, [], ◌∷◌, length, slice_index_or}
+use Rattle.std.specs.Prelude.{◌≡◌, ◌≢◌, ◌<◌, ◌≤◌, ◌↔◌, ◌⊎◌, ℕ, Bool, List, [], ◌∷◌, not, length, slice_index_or}
 use Rattle.std.specs.List.{AllByRecursion, Contains}
 use Rattle.std.specs.declared.cmp.Ordering.{Ordering}
 use Rattle.std.specs.declared.cmp.Ordering.TheVariants.{Less}
-use Rattle.std.specs.Ordering.{nat_cmp, ordering_then}
+use Rattle.std.specs.Ordering.{nat_cmp, ordering_then, is_lt}
 use Rattle.std.specs.Cmp.Lexicographic.{slice_cmp}
 use Rattle.directory.specs.declared.order.By.{By}
 use Rattle.directory.specs.declared.order.By.TheVariants as by
 use Rattle.directory.specs.declared.order.Sought.{Sought}
-use Rattle.directory.specs.Records.{Record, stamp_of, name_of, record_from, IsDirectory}
+use Rattle.directory.specs.declared.order.PlacedEntry.{PlacedEntry}
+use Rattle.directory.specs.Records.{Record, stamp_of, name_of, record_of, record_from, IsDirectory}
 
 -- by stamp, or by the bytes of the name
 abbrev pub compare : By → Record → Record → Ordering
@@ -30,6 +31,21 @@ at_place records place = (slice_index_or records place (record_from 0 [] 0), pla
 
 abbrev pub placed_of : Sought → Placed
 placed_of sought = (record_from sought.stamp sought.name.now 0, sought.place)
+
+-- whether the record at a place is what is sought, or after it
+abbrev pub is_reached : By → List Record → Sought → (place : ℕ) → Bool
+is_reached by records sought place =
+    not (is_lt (compare_placed by (at_place records place) (placed_of sought)))
+
+-- an entry with its place
+abbrev pub placed_in : PlacedEntry → Placed
+placed_in one = (record_of one.entry.now, one.place)
+
+-- each record with its place, in the order of the places
+pub record ArePlaced (all : List PlacedEntry) (records : List Record) : Type 0 where
+  pub many : length all ≡ length records
+  pub each : (i : ℕ) (d : PlacedEntry) → i < length all
+      → placed_in (slice_index_or all i d) ≡ at_place records i
 
 -- each is before those after it
 abbrev pub AreRising : By → List Record → List ℕ → Type 0

@@ -17,6 +17,7 @@ use crate::listing::ListAfter;
 use crate::order::{self, By, Sought};
 use crate::records::Records;
 use crate::sectors::{self, MAX_NAME_BYTES, RECORDS};
+use chunks::Chunks;
 use sector::SIZE;
 use std::alloc::{AllocError, Global};
 use std::marker::Model;
@@ -29,8 +30,8 @@ use std::marker::Model;
 pub struct Names {
     alloc: Global,
     records: Records,
-    by_stamp: Vec<u16>,
-    by_name: Vec<u16>,
+    by_stamp: Chunks<u32>,
+    by_name: Chunks<u32>,
 }
 
 impl Model for Names {
@@ -43,7 +44,7 @@ impl Model for Names {
 
     ghost view = { λ names. names.records };
 
-    ghost invariant = { λ names. AreKept names.records names.by_stamp.items names.by_name.items };
+    ghost invariant = { λ names. AreKept names.records names.by_stamp names.by_name };
 }
 
 impl Names {
@@ -57,8 +58,8 @@ impl Names {
         Names {
             alloc,
             records: Records::new(alloc),
-            by_stamp: Vec::new(alloc),
-            by_name: Vec::new(alloc),
+            by_stamp: Chunks::new(alloc),
+            by_name: Chunks::new(alloc),
         }
     }
 
@@ -96,8 +97,8 @@ impl Names {
         Ok(Names {
             alloc: self.alloc,
             records: self.records.try_clone()?,
-            by_stamp: Vec::from_slice(self.alloc, &self.by_stamp)?,
-            by_name: Vec::from_slice(self.alloc, &self.by_name)?,
+            by_stamp: self.by_stamp.try_clone()?,
+            by_name: self.by_name.try_clone()?,
         })
     }
 
@@ -124,11 +125,10 @@ impl Names {
             place: usize::MAX,
         };
         let next = order::position(&self.by_stamp, By::Stamp, &self.records, &sought);
-        if next >= self.by_stamp.len() {
+        let Some(place) = self.by_stamp.get(next) else {
             return None;
-        }
-        let place = usize::from(self.by_stamp[next]);
-        Some(self.records.get(place))
+        };
+        Some(self.records.get(place as usize))
     }
 
     /// How many names there are.
@@ -211,14 +211,15 @@ impl Names {
     {
         let mut records = self.records.try_clone()?;
         records.set(place, entry)?;
-        order::change(
-            &mut self.by_stamp,
+        let by_stamp = order::with_changed(
+            &self.by_stamp,
             By::Stamp,
             &self.records,
             &records,
             place,
-        );
+        )?;
         self.records = records;
+        self.by_stamp = by_stamp;
         Ok(())
     }
 
@@ -231,12 +232,13 @@ impl Names {
         ensures ok { OnOk result (self.new ≡ self.old ++ record_of entry ∷ []) }
         ensures err { OnErr result (self.new ≡ self.old) }
     {
-        let place = self.records.len();
-        self.by_stamp.reserve(1)?;
-        self.by_name.reserve(1)?;
-        self.records.push(entry)?;
-        order::insert(&mut self.by_stamp, By::Stamp, &self.records, place);
-        order::insert(&mut self.by_name, By::Name, &self.records, place);
+        let mut records = self.records.try_clone()?;
+        records.push(entry)?;
+        let by_stamp = order::with_last(&self.by_stamp, By::Stamp, &records)?;
+        let by_name = order::with_last(&self.by_name, By::Name, &records)?;
+        self.records = records;
+        self.by_stamp = by_stamp;
+        self.by_name = by_name;
         Ok(())
     }
 
@@ -289,15 +291,11 @@ impl Names {
         let entry = self.records.get(place).try_clone()?;
         let mut records = self.records.try_clone()?;
         records.swap_remove(place)?;
-        order::swap_remove(
-            &mut self.by_stamp,
-            By::Stamp,
-            &self.records,
-            &records,
-            place,
-        );
-        order::swap_remove(&mut self.by_name, By::Name, &self.records, &records, place);
+        let by_stamp = order::without(&self.by_stamp, By::Stamp, &self.records, &records, place)?;
+        let by_name = order::without(&self.by_name, By::Name, &self.records, &records, place)?;
         self.records = records;
+        self.by_stamp = by_stamp;
+        self.by_name = by_name;
         Ok(entry)
     }
 }
@@ -322,7 +320,7 @@ fn is_record(entry: &Entry) -> bool
 }
 
 // Whether no two records have one name.
-fn are_apart(by_name: &[u16], records: &Records) -> bool
+fn are_apart(by_name: &Chunks<u32>, records: &Records) -> bool
     requires { IsOrder By.Name by_name.now records.now }
     ensures { IsTrue result ↔ NamesApart records.now }
 {
@@ -335,7 +333,7 @@ fn are_apart(by_name: &[u16], records: &Records) -> bool
 }
 
 /// The place of a name: after the last record if none has it.
-fn place_in(by_name: &[u16], records: &Records, name: &[u8]) -> usize
+fn place_in(by_name: &Chunks<u32>, records: &Records, name: &[u8]) -> usize
     requires { IsOrder By.Name by_name.now records.now }
     ensures place { result ≡ place_of name.now records.now }
     ensures within { result ≤ length records.now }
@@ -346,10 +344,10 @@ fn place_in(by_name: &[u16], records: &Records, name: &[u8]) -> usize
         place: 0,
     };
     let at = order::position(by_name, By::Name, records, &sought);
-    if at >= by_name.len() {
+    let Some(place) = by_name.get(at) else {
         return records.len();
-    }
-    let place = usize::from(by_name[at]);
+    };
+    let place = place as usize;
     if name == records.get(place).name.as_slice() {
         return place;
     }

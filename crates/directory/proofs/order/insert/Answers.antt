@@ -1,17 +1,19 @@
-use Rattle.std.proofs.Common.{sym, subst}
-use Rattle.std.specs.List.{Contains}
-use Rattle.directory.specs.Order.{IsPosition, IsInserted, at_place}
+use Rattle.std.proofs.Common.{◌≡◌, Err, length, sym, subst, arith}
+use Rattle.directory.specs.Order.{IsInserted}
 use Rattle.directory.proofs.Rising.{inserted}
+use Rattle.directory.proofs.Sorting.{room_left}
 use Rattle.directory.proofs.order.insert.Goals as goal
 
-pub position_of-at-requires-clause-within : goal.position_of-at-requires-clause-within
-position_of-at-requires-clause-within c = λ other has. c.requires.within other (subst (λ xs. Contains xs other) c.deref.ensures.value has)
+pub unreachable-requires : goal.unreachable-requires
+unreachable-requires c =
+    let full = c.insert.ensures.full.0 (subst (λ e. c.insert.result ≡ Err e) c.in-Err-Full.field-0-is c.in-Err-Full.is) in
+    let room = room_left c.args.by c.args.records.now c.args.order.now (length c.args.records.now) c.args.place c.requires.rising c.requires.within c.requires.new c.requires.there in
+    absurd (omega (arith, full, room, c.requires.small))
 
-pub returns : goal.returns
-returns c =
+pub returns-in-Ok : goal.returns-in-Ok
+returns-in-Ok c =
     let records = c.args.records.now in
-    let order = c.args.order.now.items in
+    let order = c.args.order.now in
     let at = c.position_of-at.result in
-    let point = subst (λ xs. IsPosition c.args.by records xs (at_place records c.args.place) at) c.deref.ensures.value c.position_of-at.ensures in
-    subst (λ new. IsInserted c.args.by records order new c.args.place) (sym c.in-Ok.ensures.items)
-    (inserted c.args.by records order c.args.place at c.requires.rising point c.requires.new)
+    subst (λ new. IsInserted c.args.by records order new c.args.place) (sym c.in-Ok.ensures.ok)
+    (inserted c.args.by records order c.args.place at c.requires.rising c.position_of-at.ensures c.requires.new)

@@ -1,43 +1,39 @@
-use Rattle.std.proofs.Common.{◌<◌, length, take, sym, subst, arith}
-use Rattle.std.proofs.lemmas.List.{take_all, length-take}
-use Rattle.directory.specs.Order.{IsOrder}
-use Rattle.directory.proofs.InOrder.{no_records, prefix_rising, one_more}
+use Rattle.std.proofs.Common.{◌≡◌, ◌<◌, ℕ, List, map, sym, ap, subst, ◌∙◌, arith, rules}
+use Rattle.std.specs.List.{All}
+use Rattle.std.proofs.lemmas.List.MinMax.{ranks_by}
+use Rattle.std.specs.Ordering.{is_lt}
+use Rattle.std.proofs.lemmas.Result.{IfOk-weaker}
+use Rattle.chunks.specs.declared.list.TheConstants.{MAX_LEN}
+use Rattle.directory.specs.declared.order.PlacedEntry.{PlacedEntry}
+use Rattle.directory.specs.Order.{compare_placed, placed_in, IsOrder}
+use Rattle.directory.proofs.Rising.{placed_total}
+use Rattle.directory.proofs.Sorting.{answers_as, sorts_before, sorted_order, sorted_low}
 use Rattle.directory.proofs.order.order_of.Goals as goal
 
-pub loop-place-init : goal.loop-place-init
-loop-place-init c = subst (λ order. IsOrder c.args.by order (take 0 c.args.records.now)) (sym c.new-order.ensures.items) (no_records c.args.by)
-
-pub insert-requires-clause-rising : goal.insert-requires-clause-rising
-insert-requires-clause-rising c =
-    let records = c.args.records.now in
-    let i = c.loop-place.place in
-    prefix_rising c.args.by c.reserve.new.self.items records i (subst (λ order. IsOrder c.args.by order (take i records)) (sym c.in_ok-reserve.ensures.items) c.loop-place.invariant)
-
-pub insert-requires-clause-within : goal.insert-requires-clause-within
-insert-requires-clause-within c = λ other has.
-    let records = c.args.records.now in
-    let i = c.loop-place.place in
-    let kept = subst (λ order. IsOrder c.args.by order (take i records)) (sym c.in_ok-reserve.ensures.items) c.loop-place.invariant in
-    let low : other < length (take i records) = (kept.all other).0 has in
-    omega (arith, low, length-take i records)
-
-pub insert-requires-clause-new : goal.insert-requires-clause-new
-insert-requires-clause-new c = λ has.
-    let records = c.args.records.now in
-    let i = c.loop-place.place in
-    let kept = subst (λ order. IsOrder c.args.by order (take i records)) (sym c.in_ok-reserve.ensures.items) c.loop-place.invariant in
-    let low : i < length (take i records) = (kept.all i).0 has in
-    absurd (omega (arith, low, length-take i records))
-
-pub loop-place-preserved : goal.loop-place-preserved
-loop-place-preserved c =
-    let records = c.args.records.now in
-    let i = c.loop-place.place in
-    let kept = subst (λ order. IsOrder c.args.by order (take i records)) (sym c.in_ok-reserve.ensures.items) c.loop-place.invariant in
-    one_more c.args.by c.reserve.new.self.items c.insert.new.order.items records i (omega (arith, c.loop-place-test.true, c.len-place-end.ensures)) kept c.insert.ensures
+pub places_of-requires-clause-low : goal.places_of-requires-clause-low
+places_of-requires-clause-low c =
+    let by = c.args.by in
+    let all = c.in_ok-all.all.items in
+    let sorted = c.sort_unstable_by.new.self.items in
+    let up = c.sort_unstable_by.ensures.sorted (sorts_before by) (ranks_by (placed_total by) placed_in)
+    (answers_as _ _ _ (λ a r f' h.
+    let is : r ≡ compare_placed by (placed_in a.0.now) (placed_in a.1.0.now) = search rules in
+    (ap is_lt is, search rules))) in
+    subst (λ xs. All (λ (one : PlacedEntry). one.place < MAX_LEN) xs) (sym c.deref.ensures.value)
+    (λ k d within. omega (arith, sorted_low by c.args.records.now all sorted c.in_ok-all.ensures c.sort_unstable_by.ensures.permutation up k d within, c.requires))
 
 pub returns : goal.returns
 returns c =
-    let records = c.args.records.now in
-    subst (IsOrder c.args.by c.loop-place.order.items)
-    (take_all c.loop-place.place records (omega (arith, c.len-place-end.ensures, c.loop-place-test.false))) c.loop-place.invariant
+    let by = c.args.by in
+    let all = c.in_ok-all.all.items in
+    let sorted = c.sort_unstable_by.new.self.items in
+    let up = c.sort_unstable_by.ensures.sorted (sorts_before by) (ranks_by (placed_total by) placed_in)
+    (answers_as _ _ _ (λ a r f' h.
+    let is : r ≡ compare_placed by (placed_in a.0.now) (placed_in a.1.0.now) = search rules in
+    (ap is_lt is, search rules))) in
+    IfOk-weaker c.places_of.result (λ (places : List ℕ). places ≡ map (λ (one : PlacedEntry). one.place) c.deref.result.now)
+    (λ (order : List ℕ). IsOrder by order c.args.records.now)
+    (λ places is.
+    subst (λ order. IsOrder by order c.args.records.now) (sym (is ∙ ap (map (λ (one : PlacedEntry). one.place)) c.deref.ensures.value))
+    (sorted_order by c.args.records.now all sorted c.in_ok-all.ensures c.sort_unstable_by.ensures.permutation up))
+    c.places_of.ensures

@@ -11,6 +11,6 @@ invariant_of-self c =
     record {
       directory = subst IsDirectory (sym (c.in_ok-swap_remove.ensures.ok ∙ ap (λ rs. without_place rs place) c.in_ok-records.ensures))
           (IsDirectory-remove records place c.self.invariant.directory within);
-      stamps = c.swap_remove-2.ensures;
-      names = c.swap_remove-3.ensures;
+      stamps = c.in_ok-by_stamp.ensures;
+      names = c.in_ok-by_name.ensures;
     }
