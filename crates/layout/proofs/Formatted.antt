@@ -23,7 +23,6 @@ use Rattle.layout.specs.declared.versions.Marking.TheVariants.{InSectors, AsName
 use Rattle.layout.specs.Stands.{Version, marked_by, HaveForms, IsLaid}
 use Rattle.layout.proofs.CachedNodeLaws.{cached_nodes-back, only_cached_nodes}
 use Rattle.layout.proofs.FileLaws.{zero_sector-at}
-use Rattle.layout.proofs.FirstLaws.{sized_parts}
 use Rattle.layout.proofs.StepLaws.{node_of-directory}
 
 pub nones-at : (n i : ℕ) → get_or (replicate {A = Option CachedNode} n None) i None ≡ None
@@ -60,7 +59,7 @@ module _ (version : Version) (size nodes : ℕ) (image : Image) (formatted : IsF
   root_cached_nodes = Some root_cached ∷ replicate (nodes - 1) None
 
   some : 0 < nodes
-  some = let parts = sized_parts size nodes formatted.sized in omega (arith, parts.some)
+  some = formatted.region.some
 
   fits : IsInode (version.form 0) root_fields
   fits = record {

@@ -1,7 +1,8 @@
 -- What a volume keeps: its tree, and the seats that its sectors encode.
 use Rattle.std.proofs.Common.{ℕ, ◌≡◌, ◌<◌, ◌+◌, Option, None, refl, sym, ap, ap₂, ◌∙◌, arith}
+use Rattle.std.specs.Prelude.{IsTrue}
 use Rattle.disk.specs.Moments.{Image}
-use Rattle.model_tree.specs.Seats.Seats.{Seats, no_seats}
+use Rattle.model_tree.specs.Seats.Seats.{Seats}
 use Rattle.model_tree.specs.Trees.Tree.{Tree}
 use Rattle.layout.specs.CachedNodeLaws.{OneKept}
 use Rattle.layout.specs.Stands.{Version, AreKept, Kept, IsMark, IsVersion, MayHaveSeats, By, TreeStands, StandsAs, StandsNow, current_version, seats_at, version_by}
@@ -10,7 +11,7 @@ use Rattle.layout.specs.declared.versions.VersionNumber.TheVariants as numbers
 use Rattle.seats.specs.Encoding.{seats_sector}
 use Rattle.seats.proofs.ReadBack.{seats-back}
 use Rattle.layout.proofs.FirstLaws.{one_tree}
-use Rattle.layout.proofs.SeatLaws.{spare_seats, version_spare}
+use Rattle.layout.proofs.SeatLaws.{spare_seats, spare_sector, version_spare}
 
 pub version_parts : (nodes : ℕ) (version : Version) (seats : Seats) → IsVersion nodes version seats
     → (number : VersionNumber) × (mark : Option ℕ) × IsMark number nodes mark × MayHaveSeats number mark seats × (version ≡ version_by number mark seats)
@@ -39,9 +40,12 @@ same_kept a b trees seats = ap₂ (λ (t : Tree) (s : Seats). let of : Kept = re
 
 pub seats_told : (size nodes : ℕ) (image : Image) (run : ℕ) (kept : Kept) → StandsAs size nodes image run kept → seats_at image ≡ kept.seats
 seats_told size nodes image run kept stands = seats-back kept.seats (λ n. image (100 + n)) stands.keeps.places
-    (λ n within. stands.stands.laid.spare (100 + n) (omega arith) (omega (arith, within))
+    (λ n within. stands.stands.laid.spare (100 + n) (is_spare stands.version stands.is_version n (omega (arith, within)))
     ∙ (by_version stands.version stands.is_version n (omega (arith, within))))
   where
+    is_spare : (version : _) → IsVersion nodes version kept.seats → (n : ℕ) → n < 45 → IsTrue (version.is_spare (100 + n))
+    is_spare _ (By number mark seats is may) n within = spare_sector number mark seats (100 + n) (omega arith) (omega (arith, within))
+
     by_version : (version : _) → IsVersion nodes version kept.seats → (n : ℕ) → n < 45 → version.spare (100 + n) ≡ seats_sector n kept.seats
     by_version _ (By number mark seats is may) n within =
         version_spare number mark seats (100 + n) may

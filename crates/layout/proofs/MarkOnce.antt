@@ -1,5 +1,5 @@
 -- Which version a volume has, by its first sector and by its mark.
-use Rattle.std.proofs.Common.{ℕ, ◌≡◌, ◌<◌, ◌^◌, List, Option, Some, None, get_or, drop, refl, sym, ap, ◌∙◌, subst, arith}
+use Rattle.std.proofs.Common.{ℕ, ◌≡◌, ◌<◌, ◌^◌, List, Option, Some, None, get_or, drop, refl, sym, ap, ap₂, ◌∙◌, subst, arith}
 use Rattle.std.specs.Int.{w32, from_be_bytes}
 use Rattle.std.proofs.lemmas.Nat.{from_be_bytes-to_be_bytes_4}
 use Rattle.disk.specs.Moments.{Image}
@@ -7,13 +7,13 @@ use Rattle.disk.specs.Calls as calls
 use Rattle.disk.specs.Calls.{zero_sector}
 use Rattle.layout.specs.Stands as marks
 use Rattle.model_tree.specs.Seats.Seats.{Seats}
-use Rattle.layout.specs.Stands.{IsMark, Kept, MayHaveSeats, TreeStands, StandsAs, mark_held, mark_sector, number_of_version, spare_by, version_by}
+use Rattle.layout.specs.Stands.{IsMark, Kept, MayHaveSeats, TreeStands, StandsAs, mark_held, mark_sector, number_of_version, version_by}
 use Rattle.layout.specs.Superblock as first
-use Rattle.layout.specs.Superblock.{superblock}
+use Rattle.layout.specs.Superblock.{superblock, no_rest}
 use Rattle.layout.specs.declared.versions.VersionNumber.{VersionNumber}
 use Rattle.layout.specs.declared.versions.VersionNumber.TheVariants.{One, Two}
 use Rattle.layout.proofs.KeptLaws.{version_parts}
-use Rattle.layout.proofs.SeatLaws.{version_spare}
+use Rattle.layout.proofs.SeatLaws.{spare_sector, version_spare}
 
 -- the four bytes from place 4 of a mark, and from place 8 of a first sector
 
@@ -29,9 +29,9 @@ zero_begins : get_or zero_sector 0 0 ≡ 0
 unfolding calls.zero_sector
 zero_begins = refl
 
-number_back : (number sectors nodes run : ℕ) → number < 2 ^ 32 → from_be_bytes w32 (drop 8 (superblock number sectors nodes run)) ≡ number
+number_back : (number sectors nodes run : ℕ) (rest : List ℕ) → number < 2 ^ 32 → from_be_bytes w32 (drop 8 (superblock number sectors nodes run rest)) ≡ number
 unfolding first.superblock
-number_back number sectors nodes run fits = from_be_bytes-to_be_bytes_4 number fits
+number_back number sectors nodes run rest fits = from_be_bytes-to_be_bytes_4 number fits
 
 not_mark : (moved : ℕ) → zero_sector ≡ mark_sector moved → ⊥
 not_mark moved same =
@@ -66,19 +66,23 @@ numbers_apart One Two same = absurd (cc)
 numbers_apart Two One same = absurd (cc)
 
 -- and the first sector determines the number
-pub one_number : (a b : VersionNumber) (sectors nodes run other_sectors other_nodes other_run : ℕ)
-    → superblock (number_of_version a) sectors nodes run ≡ superblock (number_of_version b) other_sectors other_nodes other_run → a ≡ b
-one_number a b sectors nodes run other_sectors other_nodes other_run same = numbers_apart a b
-    (sym (number_back (number_of_version a) sectors nodes run (numbers_fit a))
-    ∙ (ap (λ (s : List ℕ). from_be_bytes w32 (drop 8 s)) same ∙ number_back (number_of_version b) other_sectors other_nodes other_run (numbers_fit b)))
+pub one_number : (a b : VersionNumber) (sectors nodes run other_sectors other_nodes other_run : ℕ) (rest other_rest : List ℕ)
+    → superblock (number_of_version a) sectors nodes run rest ≡ superblock (number_of_version b) other_sectors other_nodes other_run other_rest → a ≡ b
+one_number a b sectors nodes run other_sectors other_nodes other_run rest other_rest same = numbers_apart a b
+    (sym (number_back (number_of_version a) sectors nodes run rest (numbers_fit a))
+    ∙ (ap (λ (s : List ℕ). from_be_bytes w32 (drop 8 s)) same ∙ number_back (number_of_version b) other_sectors other_nodes other_run other_rest (numbers_fit b)))
 
 pub version_number : (number : VersionNumber) (mark : Option ℕ) (seats : Seats) → (version_by number mark seats).number ≡ number_of_version number
 version_number One mark seats = refl
 version_number Two mark seats = refl
 
+pub version_rest : (number : VersionNumber) (mark : Option ℕ) (seats : Seats) → (version_by number mark seats).rest ≡ no_rest
+version_rest One mark seats = refl
+version_rest Two mark seats = refl
+
 pub first_number : (number : VersionNumber) (mark : Option ℕ) (seats : Seats) (size nodes run : ℕ)
-    → superblock (version_by number mark seats).number size nodes run ≡ superblock (number_of_version number) size nodes run
-first_number number mark seats size nodes run = ap (λ (n : ℕ). superblock n size nodes run) (version_number number mark seats)
+    → superblock (version_by number mark seats).number size nodes run (version_by number mark seats).rest ≡ superblock (number_of_version number) size nodes run no_rest
+first_number number mark seats size nodes run = ap₂ (λ (n : ℕ) (rest : List ℕ). superblock n size nodes run rest) (version_number number mark seats) (version_rest number mark seats)
 
 -- so what an image represents, it represents in the version that both encode
 pub record StandsTold (number : VersionNumber) (mark : Option ℕ) (size nodes : ℕ) (image : Image) (run : ℕ) (kept : Kept) : Type 0 where
@@ -86,18 +90,18 @@ pub record StandsTold (number : VersionNumber) (mark : Option ℕ) (size nodes :
   pub stands : TreeStands (version_by number mark kept.seats) size nodes image run kept.tree
 
 pub stands_told : (number : VersionNumber) (mark : Option ℕ) (size nodes : ℕ) (image : Image) (run : ℕ) (kept : Kept) (sectors other_nodes other_run : ℕ) → nodes < 2 ^ 32
-    → IsMark number nodes mark → image 0 ≡ superblock (number_of_version number) sectors other_nodes other_run → image 147 ≡ mark_held mark
+    → IsMark number nodes mark → image 0 ≡ superblock (number_of_version number) sectors other_nodes other_run no_rest → image 147 ≡ mark_held mark
     → StandsAs size nodes image run kept → StandsTold number mark size nodes image run kept
 stands_told number mark size nodes image run kept sectors other_nodes other_run fits is first marked stands =
     let seats = kept.seats in
     let parts = version_parts nodes stands.version seats stands.is_version in
     let there : TreeStands (version_by parts.0 parts.1 seats) size nodes image run kept.tree =
     subst (λ version. TreeStands version size nodes image run kept.tree) parts.4 stands.stands in
-    let same : parts.0 ≡ number = one_number parts.0 number size nodes run sectors other_nodes other_run
+    let same : parts.0 ≡ number = one_number parts.0 number size nodes run sectors other_nodes other_run no_rest no_rest
     (sym (first_number parts.0 parts.1 seats size nodes run) ∙ (sym there.first ∙ first)) in
     let mark_is : IsMark number nodes parts.1 = subst (λ (n : VersionNumber). IsMark n nodes parts.1) same parts.2 in
     let same_mark : parts.1 ≡ mark = one_mark number nodes parts.1 mark fits mark_is is
-    (sym (version_spare parts.0 parts.1 seats 147 parts.3) ∙ (sym (there.laid.spare 147 (omega arith) (omega arith)) ∙ marked)) in
+    (sym (version_spare parts.0 parts.1 seats 147 parts.3) ∙ (sym (there.laid.spare 147 (spare_sector parts.0 parts.1 seats 147 (omega arith) (omega arith))) ∙ marked)) in
     record {
       may = subst (λ (m : Option ℕ). MayHaveSeats number m seats) same_mark (subst (λ (n : VersionNumber). MayHaveSeats n parts.1 seats) same parts.3);
       stands = subst (λ (m : Option ℕ). TreeStands (version_by number m seats) size nodes image run kept.tree) same_mark

@@ -13,9 +13,6 @@ use Rattle.layout.specs.MarkLaws.{EachMark, MarksLaid, LaysMarks, KeptAlone, Sta
 use Rattle.layout.specs.declared.versions.Marking.{Marking}
 use Rattle.layout.specs.declared.versions.Marking.TheVariants.{InSectors, AsNamed}
 use Rattle.layout.specs.Stands.{Version, marked_by}
-use Rattle.layout.specs.Superblock.{is_size}
-use Rattle.std.specs.Prelude.{IsTrue}
-use Rattle.layout.proofs.FirstLaws.{sized_parts}
 use Rattle.layout.specs.Marks.{mark_in, namings_of, mark_by}
 use Rattle.layout.specs.Stands.{IsLaid}
 use Rattle.layout.proofs.CachedNodeLaws.{cached_nodes-back}
@@ -145,7 +142,7 @@ lays_marks version size nodes old new places cached_nodes writes =
       laid = laid_still nodes old new (mark_by (148 + nodes) places) (marked_by version.marking nodes new cached_nodes) cached_nodes laid marks (λ place h. writes.same (node_sector place) (omega arith)) (λ n some. writes.same n (let far = laid.behind n some in omega arith));
       forms = writes.forms;
       within = λ n h. marks n ∙ (let each = each_mark (148 + nodes) places 0 in each.within n (omega (arith, writes.end_is)));
-      spare = λ n low high. writes.same n low ∙ writes.spare n low high;
+      spare = writes.spare;
     }
 
 pub mark_in-same : (nodes : ℕ) (old new : Image) → new 98 ≡ old 98 → new 99 ≡ old 99 → (n : ℕ) → mark_in nodes new n ≡ mark_in nodes old n
@@ -162,11 +159,10 @@ below_end version size nodes image cached_nodes laid n some = elim (cases_lt n (
   | inr high ↦ absurd (let none = laid.within n high in omega arith)
 ]
 
-pub room : (size nodes : ℕ) → IsTrue (is_size size nodes) → 148 + nodes ≤ size
-room size nodes sized = let parts = sized_parts size nodes sized in omega (arith, parts.room)
-
 pub kept_alone : KeptAlone
-kept_alone version size nodes old new cached_nodes room laid same =
+kept_alone version size nodes old new cached_nodes region laid all_same =
+    let same : (n : ℕ) → 98 ≤ n → n < version.data_end size → new n ≡ old n = λ n first below. all_same n first (omega (arith, below, region.inside)) in
+    let behind = region.behind in
     let marks = marked-same version.marking nodes old new cached_nodes (same 98 (omega arith) (omega arith)) (same 99 (omega arith) (omega arith)) in
     let at_nodes : (place : ℕ) → place < nodes → new (node_sector place) ≡ old (node_sector place) = λ place h. same (node_sector place) (omega arith) (omega arith) in
     let at_data : (n : ℕ) → 0 < marked_by version.marking nodes old cached_nodes n → new n ≡ old n = λ n some. same n (let far = laid.laid.behind n some in omega arith) (below_end version size nodes old cached_nodes laid n some) in
@@ -176,7 +172,7 @@ kept_alone version size nodes old new cached_nodes room laid same =
         laid = still;
         forms = laid.forms;
         within = λ n h. marks n ∙ laid.within n h;
-        spare = λ n low high. same n (omega arith) (omega arith) ∙ laid.spare n low high;
+        spare = λ n is. (let beside = region.spare n is in all_same n beside.from_first beside.below ∙ laid.spare n is);
       };
       same_cached_nodes = cached_nodes-back new nodes cached_nodes still.count still.held ∙ sym (cached_nodes-back old nodes cached_nodes laid.laid.count laid.laid.held);
       same_tree = tree_still nodes old new (marked_by version.marking nodes old cached_nodes) (marked_by version.marking nodes new cached_nodes) cached_nodes laid.laid marks at_nodes at_data;
@@ -184,7 +180,7 @@ kept_alone version size nodes old new cached_nodes room laid same =
 
 pub stands_alone : StandsAlone
 stands_alone version size nodes old new run tree stands first same =
-    let sees = kept_alone version size nodes old new (cached_nodes_in nodes old) stands.region.behind stands.laid same in
+    let sees = kept_alone version size nodes old new (cached_nodes_in nodes old) stands.region stands.laid same in
     record {
       sized = stands.sized;
       region = stands.region;

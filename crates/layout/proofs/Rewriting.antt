@@ -18,7 +18,7 @@ use Rattle.inode.proofs.ReadBack.{fields-back}
 use Rattle.layout.specs.CachedNodes.{CachedNode, node_sector, cached_nodes_in, content_of, node_of}
 use Rattle.layout.specs.CachedNodes.{node_with, tree_of}
 use Rattle.layout.specs.Laid.{AreNumbered, HoldsContent, HoldsPlace}
-use Rattle.layout.specs.Marks.{mark_in, named, namings_of}
+use Rattle.layout.specs.Marks.{named, namings_of}
 use Rattle.layout.specs.Known.{IsNodePlace, HasContent}
 use Rattle.layout.specs.Rewriting.{in_form, in_second, all_second, second_image, AreRewritten, RewrittenStands, FormStays, IsLaidSecond, LaidSecond, KnownSecond, RewrittenCachedNodes, CurrentSecond}
 use Rattle.layout.specs.declared.versions.Marking.{Marking}
@@ -29,7 +29,8 @@ use Rattle.model_tree.specs.Trees.WellFormed.{IsWellFormed}
 use Rattle.layout.proofs.CachedNodeLaws.{cached_nodes-back, zero_first, starts}
 use Rattle.layout.proofs.Changing.{named-at, tree-kept}
 use Rattle.layout.proofs.Frame.{content-held, of_runs, run_sectors-kept, node-kept}
-use Rattle.layout.proofs.MarkProofs.{mark_in-same, below_end, room}
+use Rattle.layout.proofs.FirstLaws.{before_nodes}
+use Rattle.layout.proofs.MarkProofs.{mark_in-same, below_end}
 use Rattle.layout.proofs.SeatLaws.{spare_none}
 
 -- Sectors of nodes
@@ -119,7 +120,7 @@ fits_in_form was is fields roomy fits = record {
 }
 
 module _ (was is : Version) (size nodes : ℕ) (old new : Image) (cached_nodes : List (Option CachedNode)) (laid : IsLaid was size nodes old cached_nodes)
-    (below : 148 + nodes ≤ size) (rewritten : AreRewritten was is size nodes old new) where
+    (rewritten : AreRewritten was is size nodes old new) where
   abbrev now : List (Option CachedNode)
   now = cached_nodes_from is.form 0 cached_nodes
 
@@ -202,17 +203,16 @@ before_later a b tree later before = record {
 pub rewritten_stands : RewrittenStands
 rewritten_stands was is size nodes run later old new tree stands no_less counted rewritten =
     let cached_nodes = cached_nodes_in nodes old in
-    let below = room size nodes stands.sized in
-    let laid = laid_now was is size nodes old new cached_nodes stands.laid below rewritten.others in
+    let laid = laid_now was is size nodes old new cached_nodes stands.laid rewritten.others in
     let back : cached_nodes_in nodes new ≡ cached_nodes_from is.form 0 cached_nodes = cached_nodes-back new nodes (cached_nodes_from is.form 0 cached_nodes) laid.laid.count laid.laid.held in
     record {
-      sized = stands.sized;
-      region = record { behind = omega (arith, stands.region.behind, rewritten.others.data_end); within = omega (arith, stands.region.within, rewritten.others.data_end) };
+      sized = rewritten.sized;
+      region = rewritten.region;
       counted = counted;
       first = rewritten.first;
       laid = subst (IsLaid is size nodes new) (sym back) laid;
       tree_is = stands.tree_is
-          ∙ (sym (tree_now was is size nodes old new cached_nodes stands.laid below rewritten.others) ∙ ap (tree_of new) (sym back));
+          ∙ (sym (tree_now was is size nodes old new cached_nodes stands.laid rewritten.others) ∙ ap (tree_of new) (sym back));
       well_formed = subst (λ (limits : Limits). ∥ IsWellFormed limits tree ∥₁) (sym rewritten.limits) stands.well_formed;
       before = before_later (stamp (run + 1) 0) (stamp (later + 1) 0) tree (omega (arith, no_less)) stands.before;
     }
@@ -254,7 +254,7 @@ module _ (version : Version) (size nodes : ℕ) (image : Image) (cached_nodes : 
     data_end = sym ends;
     roomy = λ place within. inr refl;
     bitmap = λ n low high. rw (lt-leb 148 n (omega (arith, high)), lt-leb 100 n high) refl;
-    spare = λ n low high. rw (lt-leb 148 n high, le-leb 100 n low) (sym (spare_none n));
+    spare = λ n is. (let within = before_nodes n is in rw (lt-leb 148 n within.1, le-leb 100 n within.0) (sym (spare_none n)));
     nodes_are = λ place within. rw (le-leb 148 (node_sector place) (omega arith), lt-leb (148 + nodes) (node_sector place) (omega (arith, within))) refl;
     region = λ n low high. rw (le-leb 148 n (omega (arith, low)), le-leb (148 + nodes) n low) refl;
   }
@@ -262,9 +262,9 @@ module _ (version : Version) (size nodes : ℕ) (image : Image) (cached_nodes : 
   laid_second : IsLaidSecond size nodes image cached_nodes
   laid_second = record {
     laid = subst (IsLaid (current_version no_seats) size nodes (second_image nodes image)) (second_from 0 cached_nodes)
-        (laid_now version (current_version no_seats) size nodes image (second_image nodes image) cached_nodes laid below then_second);
+        (laid_now version (current_version no_seats) size nodes image (second_image nodes image) cached_nodes laid then_second);
     tree = ap (tree_of (second_image nodes image)) (sym (second_from 0 cached_nodes))
-        ∙ tree_now version (current_version no_seats) size nodes image (second_image nodes image) cached_nodes laid below then_second;
+        ∙ tree_now version (current_version no_seats) size nodes image (second_image nodes image) cached_nodes laid then_second;
     shown = ap (tree_of image) (sym (second_from 0 cached_nodes)) ∙ tree_from image (λ i. Two) 0 cached_nodes;
   }
 
@@ -312,8 +312,7 @@ known_as_second nodes mark cached_nodes known = record {
 pub rewritten_cached_nodes : RewrittenCachedNodes
 rewritten_cached_nodes was is size nodes run later old new tree stands rewritten =
     let cached_nodes = cached_nodes_in nodes old in
-    let below = room size nodes stands.sized in
-    let laid = laid_now was is size nodes old new cached_nodes stands.laid below rewritten.others in
+    let laid = laid_now was is size nodes old new cached_nodes stands.laid rewritten.others in
     ap all_second (cached_nodes-back new nodes (cached_nodes_from is.form 0 cached_nodes) laid.laid.count laid.laid.held) ∙ second_of is.form 0 cached_nodes
 
 second_same : (cached : Option CachedNode) → ((one : CachedNode) → cached ≡ Some one → one.form ≡ Two) → in_second cached ≡ cached

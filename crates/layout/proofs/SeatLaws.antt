@@ -1,17 +1,20 @@
 -- The seats that a volume keeps, and the sectors that hold them.
-use Rattle.std.proofs.Common.{◌≡◌, ◌≤◌, ◌<◌, ◌+◌, ◌-◌, ◌*◌, ◌/◌, ◌%◌, ◌==◌, ℕ, zero, suc, Bool, true, false, List, Option, None, Some, get_or, if◌then◌else◌, ne_eqb, refl, sym, ap, ◌∙◌, subst, arith, true≢false}
+use Rattle.std.proofs.Common.{◌≡◌, ◌≤◌, ◌<◌, ◌-◌, ◌/◌, ◌%◌, ◌==◌, ℕ, zero, suc, Bool, true, false, List, Option, None, get_or, if◌then◌else◌, ne_eqb, refl, sym, ap, ◌∙◌, subst, arith}
+use Rattle.std.specs.Prelude.{IsTrue}
 use Rattle.disk.specs.Calls as calls
 use Rattle.disk.specs.Calls.{zero_sector}
-use Rattle.model_tree.specs.Seats.Seats.{Seat, Seats, AreOfRuns, has_seat, no_seats}
+use Rattle.model_tree.specs.Seats.Seats.{Seats, has_seat, no_seats}
 use Rattle.seats.specs.Encoding as encoded
-use Rattle.seats.specs.Encoding.{ArePlaces, seat_sector, seats_sector}
-use Rattle.layout.specs.Stands.{AreKept, MayHaveSeats, mark_held, spare_by, version_by}
+use Rattle.seats.specs.Encoding.{seat_sector, seats_sector}
+use Rattle.layout.specs.Stands.{AreKept, HasRegion, is_before_nodes, MayHaveSeats, mark_held, spare_by, version_1, version_2, version_by}
+use Rattle.layout.specs.Superblock.{is_size}
+use Rattle.layout.proofs.FirstLaws.{is_before, region_at_start}
 use Rattle.layout.specs.declared.versions.VersionNumber.{VersionNumber}
 use Rattle.layout.specs.declared.versions.VersionNumber.TheVariants as numbers
 
 -- Free places
 
-free_sector : (k : ℕ) → seat_sector k None ≡ zero_sector
+pub free_sector : (k : ℕ) → seat_sector k None ≡ zero_sector
 unfolding encoded.seat_sector calls.zero_sector
 free_sector k = refl
 
@@ -44,6 +47,22 @@ spare_none n = either_free (n == 147) (seats_sector (n - 100) no_seats) (seats_f
 pub version_spare : (number : VersionNumber) (mark : Option ℕ) (seats : Seats) (n : ℕ) → MayHaveSeats number mark seats → (version_by number mark seats).spare n ≡ spare_by seats mark n
 version_spare numbers.One mark seats n none = ap (λ (s : Seats). spare_by s mark n) (sym none)
 version_spare numbers.Two mark seats n may = refl
+
+pub version_is_spare : (number : VersionNumber) (mark : Option ℕ) (seats : Seats) (n : ℕ) → (version_by number mark seats).is_spare n ≡ is_before_nodes n
+version_is_spare numbers.One mark seats n = refl
+version_is_spare numbers.Two mark seats n = refl
+
+pub spare_sector : (number : VersionNumber) (mark : Option ℕ) (seats : Seats) (n : ℕ) → 100 ≤ n → n < 148 → IsTrue ((version_by number mark seats).is_spare n)
+spare_sector number mark seats n low high = subst IsTrue (sym (version_is_spare number mark seats n)) (is_before n low high)
+
+-- the parts of a volume
+pub version_region : (number : VersionNumber) (mark : Option ℕ) (seats : Seats) (size nodes : ℕ) → IsTrue (is_size size nodes) → HasRegion (version_by number mark seats) size nodes
+version_region numbers.One mark seats size nodes sized = region_at_start (version_1 mark) size nodes sized refl refl (λ n. refl)
+version_region numbers.Two mark seats size nodes sized = region_at_start (version_2 mark seats) size nodes sized refl refl (λ n. refl)
+
+pub version_sized : (number : VersionNumber) (mark : Option ℕ) (seats : Seats) (size nodes : ℕ) → (version_by number mark seats).is_size size nodes ≡ is_size size nodes
+version_sized numbers.One mark seats size nodes = refl
+version_sized numbers.Two mark seats size nodes = refl
 
 -- What a volume may keep
 

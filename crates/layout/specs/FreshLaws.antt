@@ -9,7 +9,7 @@ use Rattle.model_tree.specs.Trees.Fresh.{fresh_tree, fresh_root}
 use Rattle.model_tree.specs.Trees.Tree.{root}
 use Rattle.layout.specs.CachedNodes.{node_sector}
 use Rattle.layout.specs.Stands.{Version, HasRegion, TreeStands}
-use Rattle.layout.specs.Superblock.{superblock, is_size}
+use Rattle.layout.specs.Superblock.{superblock}
 
 -- the root as a node's sector has it
 abbrev pub root_fields : Fields
@@ -28,12 +28,12 @@ root_fields = record {
 
 -- the root is at place 0, the other places are free, and no sector of the data region is used
 pub record IsFresh (version : Version) (size nodes : ℕ) (image : Image) : Type 0 where
-  pub sized : IsTrue (is_size size nodes)
+  pub sized : IsTrue (version.is_size size nodes)
   pub region : HasRegion version size nodes
   pub a_node : 1 ≤ (version.limits size nodes).nodes
   pub an_entry : 1 ≤ (version.limits size nodes).aces
-  pub first : image 0 ≡ superblock version.number size nodes 0
-  pub spare : (n : ℕ) → 100 ≤ n → n < 148 → image n ≡ version.spare n
+  pub first : image 0 ≡ superblock version.number size nodes 0 version.rest
+  pub spare : (n : ℕ) → IsTrue (version.is_spare n) → image n ≡ version.spare n
   pub node : image (node_sector 0) ≡ inode_sector (version.form 0) root_fields
   pub bitmap : (n : ℕ) → 98 ≤ n → n < 100 → image n ≡ zero_sector
   pub others : (place : ℕ) → 0 < place → place < nodes → image (node_sector place) ≡ zero_sector

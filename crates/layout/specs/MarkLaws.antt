@@ -1,6 +1,6 @@
 -- Marks: what they are after a change of the set, that the bitmap sectors show them, and that they
 -- never exceed what the tree is charged.
-use Rattle.std.specs.Prelude.{◌≡◌, ◌≤◌, ◌<◌, ◌+◌, ◌==◌, ℕ, Bool, true, false, List, Option, Some, length, slice_get, slice_set, slice_index_or}
+use Rattle.std.specs.Prelude.{◌≡◌, ◌≤◌, ◌<◌, ◌+◌, ◌==◌, ℕ, Bool, true, false, List, Option, Some, IsTrue, length, slice_get, slice_set, slice_index_or}
 use Rattle.disk.specs.Moments.{Image}
 use Rattle.freemap.specs.Places.{Show, mark_of, bit_in}
 use Rattle.model_tree.specs.Trees.Charge.{charge}
@@ -10,7 +10,7 @@ use Rattle.layout.specs.CachedNodes.{CachedNode, cached_nodes_in, tree_of}
 use Rattle.layout.specs.Laid.{AreLaid}
 use Rattle.layout.specs.Marks.{once_if, mark_in, mark_by}
 use Rattle.layout.specs.declared.versions.Marking.TheVariants.{InSectors}
-use Rattle.layout.specs.Stands.{Version, HaveForms, IsLaid, TreeStands}
+use Rattle.layout.specs.Stands.{Version, HasRegion, HaveForms, IsLaid, TreeStands}
 
 -- one more sector is marked, or one less
 pub record MarksChange (first : ℕ) (places : List Bool) (place : ℕ) : Type 0 where
@@ -41,7 +41,7 @@ pub record WritesMarks (version : Version) (size nodes : ℕ) (old new : Image) 
   pub end_is : version.data_end size ≡ 148 + nodes + length places
   pub laid : AreLaid nodes old (mark_by (148 + nodes) places) cached_nodes
   pub forms : HaveForms version cached_nodes
-  pub spare : (n : ℕ) → 100 ≤ n → n < 148 → old n ≡ version.spare n
+  pub spare : (n : ℕ) → IsTrue (version.is_spare n) → new n ≡ version.spare n
   pub same : (n : ℕ) → 100 ≤ n → new n ≡ old n
   pub marked : version.marking ≡ InSectors → (i : ℕ)
       → bit_in (new 98) (new 99) i ≡ mark_of places i
@@ -53,8 +53,7 @@ LaysMarks =
     → WritesMarks version size nodes old new places cached_nodes
     → IsLaid version size nodes new cached_nodes
 
--- Only kept sectors are seen: the superblock, and what comes after the commit record and the
--- payload, up to the end of the data region
+-- Only kept sectors are seen: the superblock, and those that transactions write
 pub record SeesSame (version : Version) (size nodes : ℕ) (old new : Image)
     (cached_nodes : List (Option CachedNode)) : Type 0 where
   pub laid : IsLaid version size nodes new cached_nodes
@@ -64,15 +63,15 @@ pub record SeesSame (version : Version) (size nodes : ℕ) (old new : Image)
 abbrev pub KeptAlone : Type 0
 KeptAlone =
     (version : Version) (size nodes : ℕ) (old new : Image) (cached_nodes : List (Option CachedNode))
-    → 148 + nodes ≤ version.data_end size → IsLaid version size nodes old cached_nodes
-    → ((n : ℕ) → 98 ≤ n → n < version.data_end size → new n ≡ old n)
+    → HasRegion version size nodes → IsLaid version size nodes old cached_nodes
+    → ((n : ℕ) → 98 ≤ n → n < version.end size → new n ≡ old n)
     → SeesSame version size nodes old new cached_nodes
 
 -- so for images that are known only in these sectors it does not matter which one is meant
 abbrev pub StandsAlone : Type 0
 StandsAlone = (version : Version) (size nodes : ℕ) (old new : Image) (run : ℕ) (tree : Tree)
     → TreeStands version size nodes old run tree → new 0 ≡ old 0
-    → ((n : ℕ) → 98 ≤ n → n < version.data_end size → new n ≡ old n)
+    → ((n : ℕ) → 98 ≤ n → n < version.end size → new n ≡ old n)
     → TreeStands version size nodes new run tree
 
 -- If all places are marked, the tree is charged for all of them: so if it is charged for less, a

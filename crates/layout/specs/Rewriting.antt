@@ -1,6 +1,6 @@
 -- A volume that is rewritten in another version: each node in the form that its place has there,
 -- with the version's spare sectors and number.
-use Rattle.std.specs.Prelude.{◌≡◌, ◌≤◌, ◌<◌, ◌+◌, ◌^◌, ◌⊎◌, ◌==◌, ℕ, List, Option, Some, None, map, nat_le, slice_index, if◌then◌else◌}
+use Rattle.std.specs.Prelude.{◌≡◌, ◌≤◌, ◌<◌, ◌+◌, ◌^◌, ◌⊎◌, ◌==◌, ℕ, List, Option, Some, None, map, nat_le, slice_index, IsTrue, if◌then◌else◌}
 use Rattle.disk.specs.Moments.{Image}
 use Rattle.inode.specs.declared.node.Form.{Form}
 use Rattle.inode.specs.declared.node.Form.TheVariants.{One, Two}
@@ -12,7 +12,7 @@ use Rattle.disk.specs.Calls.{zero_sector}
 use Rattle.layout.specs.CachedNodes.{CachedNode, node_sector, cached_nodes_in, tree_of}
 use Rattle.layout.specs.Known.{AreCached}
 use Rattle.layout.specs.declared.versions.Marking.TheVariants.{InSectors}
-use Rattle.layout.specs.Stands.{Version, HaveCurrentForms, IsLaid, TreeStands, current_version}
+use Rattle.layout.specs.Stands.{Version, HasRegion, HaveCurrentForms, IsLaid, TreeStands, current_version}
 use Rattle.layout.specs.Superblock.{superblock}
 
 -- what the sector of a place becomes: the node that is there, in this form; a free place stays
@@ -27,14 +27,16 @@ pub record AreRewritten (was is : Version) (size nodes : ℕ) (old new : Image) 
   pub data_end : is.data_end size ≡ was.data_end size
   pub roomy : (place : ℕ) → place < nodes → (was.form place ≡ One) ⊎ (is.form place ≡ Two)
   pub bitmap : (n : ℕ) → 98 ≤ n → n < 100 → new n ≡ old n
-  pub spare : (n : ℕ) → 100 ≤ n → n < 148 → new n ≡ is.spare n
+  pub spare : (n : ℕ) → IsTrue (is.is_spare n) → new n ≡ is.spare n
   pub nodes_are : (place : ℕ) → place < nodes
       → new (node_sector place) ≡ in_form (is.form place) (old (node_sector place))
   pub region : (n : ℕ) → 148 + nodes ≤ n → n < was.data_end size → new n ≡ old n
 
 -- and its first sector has a count
 pub record IsRewritten (was is : Version) (size nodes run : ℕ) (old new : Image) : Type 0 where
-  pub first : new 0 ≡ superblock is.number size nodes run
+  pub sized : IsTrue (is.is_size size nodes)
+  pub region : HasRegion is size nodes
+  pub first : new 0 ≡ superblock is.number size nodes run is.rest
   pub limits : is.limits size nodes ≡ was.limits size nodes
   pub others : AreRewritten was is size nodes old new
 

@@ -1,5 +1,5 @@
 -- What a volume holds. Sectors 1 to 97 are the journal's; it has dealt with them before.
-use Rattle.std.specs.Prelude.{◌≡◌, ◌≤◌, ◌<◌, ◌+◌, ◌-◌, ◌++◌, ◌^◌, ◌==◌, ℕ, ⊤, List, Option, Some, None, IsTrue, codes, nat_le, replicate, slice_index_or, if◌then◌else◌}
+use Rattle.std.specs.Prelude.{◌≡◌, ◌≤◌, ◌<◌, ◌+◌, ◌-◌, ◌++◌, ◌^◌, ◌==◌, ◌&&◌, ℕ, Bool, ⊤, List, Option, Some, None, IsTrue, codes, nat_le, nat_lt, replicate, slice_index_or, if◌then◌else◌}
 use Rattle.std.specs.Int.{w32, to_be_bytes}
 use Rattle.disk.specs.Moments.{Image}
 use Rattle.disk.specs.Calls.{zero_sector}
@@ -20,22 +20,31 @@ use Rattle.seats.specs.Encoding.{ArePlaces, seats_sector}
 use Rattle.layout.specs.CachedNodes.{CachedNode, cached_nodes_in, tree_in}
 use Rattle.layout.specs.Laid.{AreLaid}
 use Rattle.layout.specs.Marks.{mark_in, named}
-use Rattle.layout.specs.Superblock.{superblock, is_size}
+use Rattle.layout.specs.Superblock.{superblock, is_size, no_rest}
 
 -- how often each sector is marked: by the bitmap in two sectors, or by the nodes that name it
 abbrev pub marked_by : Marking → (nodes : ℕ) → Image → List (Option CachedNode) → (n : ℕ) → ℕ
 marked_by InSectors nodes image cached_nodes n = mark_in nodes image n
 marked_by AsNamed nodes image cached_nodes n = named n cached_nodes
 
--- What versions of the layout differ in: the number in the superblock, the limits of a volume by
--- its sectors and nodes, what marks used sectors, the sector at which the data region ends, the
--- form of a node's sector at each place of the table, and what the sectors from 100 to 147 hold
+-- What versions of the layout differ in
 pub record Version : Type 0 where
+  -- the number in the superblock, and what follows the restart count there
   pub number : ℕ
+  pub rest : List ℕ
+  -- the numbers of sectors and nodes that a volume may have, and its limits by them
+  pub is_size : (size nodes : ℕ) → Bool
   pub limits : (size nodes : ℕ) → Limits
+  -- what marks used sectors; the sector at which the data region ends, and the one at which the
+  -- sectors end that transactions write
   pub marking : Marking
   pub data_end : (size : ℕ) → ℕ
+  pub end : (size : ℕ) → ℕ
+  -- the form of a node's sector at each place of the table
   pub form : (place : ℕ) → Form
+  -- which sectors are neither of a bitmap, of the node table nor of the data region, as far as what
+  -- they hold is determined, and what they hold
+  pub is_spare : (sector : ℕ) → Bool
   pub spare : (sector : ℕ) → List ℕ
 
 -- The mark of a migration: `MIGR`, how many places of the table have nodes of form two, and zeros
@@ -50,7 +59,12 @@ abbrev pub mark_held : (mark : Option ℕ) → List ℕ
 mark_held None = zero_sector
 mark_held (Some moved) = mark_sector moved
 
--- the seats lie from sector 100 on, and the mark after them
+-- in versions 1 and 2 the spare sectors are those from 100 to 147: the seats lie from sector 100 on,
+-- and the mark after them
+
+abbrev pub is_before_nodes : (sector : ℕ) → Bool
+is_before_nodes sector = nat_le 100 sector && nat_lt sector 148
+
 abbrev pub spare_by : Seats → (mark : Option ℕ) → (sector : ℕ) → List ℕ
 spare_by seats mark sector =
     if sector == 147 then mark_held mark else seats_sector (sector - 100) seats
@@ -64,10 +78,14 @@ moved_by (Some moved) = moved
 abbrev pub version_1 : (mark : Option ℕ) → Version
 version_1 mark = record {
   number = 1;
+  rest = no_rest;
+  is_size = is_size;
   limits = limits_of;
   marking = InSectors;
   data_end = λ size. size;
+  end = λ size. size;
   form = λ place. if nat_le (moved_by mark) place then One else Two;
+  is_spare = is_before_nodes;
   spare = spare_by no_seats mark;
 }
 
@@ -75,10 +93,14 @@ version_1 mark = record {
 abbrev pub version_2 : (mark : Option ℕ) → Seats → Version
 version_2 mark seats = record {
   number = 2;
+  rest = no_rest;
+  is_size = is_size;
   limits = limits_of;
   marking = InSectors;
   data_end = λ size. size;
+  end = λ size. size;
   form = λ place. Two;
+  is_spare = is_before_nodes;
   spare = spare_by seats mark;
 }
 
@@ -147,22 +169,34 @@ pub record IsLaid (version : Version) (size nodes : ℕ) (image : Image)
   pub forms : HaveForms version cached_nodes
   pub within : (n : ℕ) → version.data_end size ≤ n
       → marked_by version.marking nodes image cached_nodes n ≡ 0
-  pub spare : (n : ℕ) → 100 ≤ n → n < 148 → image n ≡ version.spare n
+  pub spare : (n : ℕ) → IsTrue (version.is_spare n) → image n ≡ version.spare n
 
--- the data region ends behind the node table, and within the volume
+-- transactions may write a spare sector, and it is none of the other parts
+pub record IsBeside (version : Version) (size n : ℕ) : Type 0 where
+  pub from_first : 98 ≤ n
+  pub below : n < version.end size
+  pub apart : 148 ≤ n → version.data_end size ≤ n
+  pub unmarked : version.marking ≡ InSectors → 100 ≤ n
+
+-- There are nodes; the data region ends behind their table, and before the sectors end that
+-- transactions write, which are within the volume. Sectors have numbers of four bytes.
 pub record HasRegion (version : Version) (size nodes : ℕ) : Type 0 where
+  pub some : 0 < nodes
   pub behind : 148 + nodes ≤ version.data_end size
-  pub within : version.data_end size ≤ size
+  pub inside : version.data_end size ≤ version.end size
+  pub within : version.end size ≤ size
+  pub numbers : size < 2 ^ 32
+  pub spare : (n : ℕ) → IsTrue (version.is_spare n) → IsBeside version size n
 
 -- The sectors of a volume of `size` sectors and `nodes` nodes, mounted `run` times, represent the
 -- tree: they hold the cached nodes that are read from them, the tree is that of these cached nodes,
 -- it is well formed, and no stamp in it is of a later run.
 pub record TreeStands (version : Version) (size nodes : ℕ) (image : Image) (run : ℕ)
     (tree : Tree) : Type 0 where
-  pub sized : IsTrue (is_size size nodes)
+  pub sized : IsTrue (version.is_size size nodes)
   pub region : HasRegion version size nodes
   pub counted : run < 2 ^ 32
-  pub first : image 0 ≡ superblock version.number size nodes run
+  pub first : image 0 ≡ superblock version.number size nodes run version.rest
   pub laid : IsLaid version size nodes image (cached_nodes_in nodes image)
   pub tree_is : tree ≡ tree_in nodes image
   pub well_formed : ∥ IsWellFormed (version.limits size nodes) tree ∥₁

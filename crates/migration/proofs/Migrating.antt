@@ -13,8 +13,8 @@ use Rattle.layout.specs.CachedNodes.{CachedNode, node_sector, cached_nodes_in}
 use Rattle.layout.specs.Rewriting.{all_second, IsRewritten}
 use Rattle.layout.specs.Stands.{By, Version, IsMark, MayHaveSeats, TreeStands, StandsAs, bare, current_version, version_1, version_2}
 use Rattle.layout.specs.declared.versions.VersionNumber.TheVariants as numbers
-use Rattle.layout.proofs.FirstLaws.{sized_parts}
-use Rattle.layout.proofs.SeatLaws.{no_seats_kept, spare_none, spare_other}
+use Rattle.layout.proofs.FirstLaws.{before_nodes}
+use Rattle.layout.proofs.SeatLaws.{no_seats_kept, spare_none, spare_other, version_region}
 use Rattle.layout.proofs.MarkProofs.{kept_alone, stands_alone}
 use Rattle.layout.proofs.Rewriting.{form_stays, rewritten_stands, rewritten_cached_nodes}
 use Rattle.model_tree.specs.Seats.Seats.{no_seats}
@@ -32,16 +32,16 @@ same_whole : (end size : ℕ) (a b : Image) → end ≡ size → AreSame end a b
 same_whole end size a b whole same = subst (λ (n : ℕ). AreSame n a b) whole same
 
 module _ (version : Version) (size nodes run : ℕ) (a b : Image) (tree : Tree) (same : AreSame size a b) (stands : TreeStands version size nodes a run tree) where
-  behind : (n : ℕ) → 98 ≤ n → n < version.data_end size → b n ≡ a n
+  behind : (n : ℕ) → 98 ≤ n → n < version.end size → b n ≡ a n
   behind n above below = sym (same n (inr above, omega (arith, below, stands.region.within)))
 
   stands_same : TreeStands version size nodes b run tree
   stands_same =
-      let parts = sized_parts size nodes stands.sized in
-      stands_alone version size nodes a b run tree stands (sym (same 0 (inl refl, omega (arith, parts.room)))) behind
+      let region = stands.region in
+      stands_alone version size nodes a b run tree stands (sym (same 0 (inl refl, omega (arith, region.some, region.behind, region.inside, region.within)))) behind
 
   cached_nodes_same : cached_nodes_in nodes b ≡ cached_nodes_in nodes a
-  cached_nodes_same = (kept_alone version size nodes a b (cached_nodes_in nodes a) stands.region.behind stands.laid behind).same_cached_nodes
+  cached_nodes_same = (kept_alone version size nodes a b (cached_nodes_in nodes a) stands.region stands.laid behind).same_cached_nodes
 
 reached_same : (size run : ℕ) (tree : Tree) (cached_nodes : List (Option CachedNode)) (moved : ℕ) (a b : Image) → AreSame size a b
     → Reached size run tree cached_nodes moved a → Reached size run tree cached_nodes moved b
@@ -105,6 +105,8 @@ module _ (mark : Option ℕ) (size nodes run : ℕ) (image : Image) (tree : Tree
 
   clears : IsRewritten (version_2 mark no_seats) (current_version no_seats) size nodes run image without
   clears = record {
+    sized = stands.sized;
+    region = version_region numbers.Two None no_seats size nodes stands.sized;
     first = others 0 (λ e. omega arith) ∙ stands.first;
     limits = refl;
     others = record {
@@ -112,9 +114,9 @@ module _ (mark : Option ℕ) (size nodes run : ℕ) (image : Image) (tree : Tree
       data_end = refl;
       roomy = λ place within. inr refl;
       bitmap = λ n low high. others n (λ e. omega arith);
-      spare = λ n low high. ⊎_elim
+      spare = λ n is. let within = before_nodes n is in let low = within.0 in let high = within.1 in ⊎_elim
           (λ (same : n ≡ 147). put_same image none n (sym same) ∙ sym (spare_none n))
-          (λ (other : n ≡ 147 → ⊥). others n (λ e. other (sym e)) ∙ stands.laid.spare n low high ∙ (spare_other mark n other ∙ sym (spare_none n)))
+          (λ (other : n ≡ 147 → ⊥). others n (λ e. other (sym e)) ∙ stands.laid.spare n is ∙ (spare_other mark n other ∙ sym (spare_none n)))
           (cases_eq n 147);
       nodes_are = λ place within. others (node_sector place) (λ e. omega arith) ∙ sym (form_stays (version_2 mark no_seats) size nodes run image tree place stands within);
       region = λ n low high. others n (λ e. omega arith);

@@ -1,5 +1,6 @@
 -- Each transaction of a migration leaves a volume of version 1 that holds the same tree.
 use Rattle.std.proofs.Common.{◌≡◌, ◌≤◌, ◌<◌, ◌+◌, ◌-◌, ◌*◌, ◌⊎◌, ℕ, zero, suc, List, Option, Some, None, length, map, min, take, get_or, eq-eqb, inl, inr, refl, sym, ap, ◌∙◌, subst, arith, ⊎_elim}
+use Rattle.std.specs.Prelude.{IsTrue}
 use Rattle.std.specs.List.{range_with_len}
 use Rattle.std.proofs.lemmas.Bool.{cases_eq, cases_lt, le-leb, lt-leb}
 use Rattle.std.proofs.lemmas.List.FromFn.{length-map-range_with_len, take-map-range_with_len}
@@ -13,10 +14,10 @@ use Rattle.inode.specs.Encoding.{inode_sector}
 use Rattle.layout.specs.CachedNodes.{CachedNode, node_sector, cached_nodes_in}
 use Rattle.layout.specs.Laid.{HoldsPlace}
 use Rattle.layout.specs.Rewriting.{in_form, in_second, all_second, IsRewritten}
-use Rattle.layout.specs.Stands.{By, IsMark, TreeStands, StandsAs, bare, mark_sector, moved_by, spare_by, Version, version_1}
+use Rattle.layout.specs.Stands.{By, IsMark, TreeStands, StandsAs, bare, is_before_nodes, mark_sector, moved_by, spare_by, Version, version_1}
 use Rattle.layout.specs.declared.versions.VersionNumber.TheVariants as numbers
-use Rattle.layout.proofs.FirstLaws.{sized_parts}
-use Rattle.layout.proofs.SeatLaws.{no_seats_kept, spare_other}
+use Rattle.layout.proofs.FirstLaws.{before_nodes, sized_parts}
+use Rattle.layout.proofs.SeatLaws.{no_seats_kept, spare_other, version_region}
 use Rattle.layout.proofs.Rewriting.{node_in_form, free_in_form, second_at, form_stays, rewritten_stands, rewritten_cached_nodes}
 use Rattle.model_tree.specs.Seats.Seats.{no_seats}
 use Rattle.model_tree.specs.Trees.Tree.{Tree}
@@ -101,18 +102,20 @@ module _ (size run : ℕ) (tree : Tree) (cached_nodes : List (Option CachedNode)
       (cases_lt place (moved + count)))
       (cases_lt place moved)
 
-  spare_is : (n : ℕ) → 100 ≤ n → n < 148 → new n ≡ spare_by no_seats (Some (moved + count)) n
-  spare_is n low high = ⊎_elim
+  spare_is : (n : ℕ) → IsTrue (is_before_nodes n) → new n ≡ spare_by no_seats (Some (moved + count)) n
+  spare_is n is_so = let within = before_nodes n is_so in let low = within.0 in let high = within.1 in ⊎_elim
       (λ (same : n ≡ 147). ap new same ∙ mark_written cached_nodes moved count image ∙ sym (spare_at (moved + count) n same))
       (λ (other : n ≡ 147 → ⊥).
       far_stays cached_nodes moved count image n (λ e. other (sym e)) (inl (omega arith))
-      ∙ reached.stands.laid.spare n low high
+      ∙ reached.stands.laid.spare n is_so
       ∙ spare_other reached.mark n other
       ∙ sym (spare_other (Some (moved + count)) n other))
       (cases_eq n 147)
 
   rewrites : IsRewritten was is size (length cached_nodes) run image new
   rewrites = record {
+    sized = reached.stands.sized;
+    region = version_region numbers.One (Some (moved + count)) no_seats size (length cached_nodes) reached.stands.sized;
     first = far_stays cached_nodes moved count image 0 (λ e. omega arith) (inl (omega arith)) ∙ reached.stands.first;
     limits = refl;
     others = record {

@@ -22,7 +22,7 @@ use Rattle.layout.specs.Marks.{mark_by}
 use Rattle.layout.specs.declared.versions.Marking.{Marking}
 use Rattle.layout.specs.declared.versions.Marking.TheVariants.{InSectors, AsNamed}
 use Rattle.layout.specs.Stands as stands
-use Rattle.layout.specs.Stands.{Version, HaveCurrentForms, IsLaid}
+use Rattle.layout.specs.Stands.{Version, HasRegion, HaveCurrentForms, IsLaid}
 use Rattle.model_tree.specs.Trees.Edit.{edited}
 
 -- a transaction that has not yet changed a table and its places
@@ -100,6 +100,7 @@ module _ (marking : Marking) (size : ℕ) (table : List (Option CachedNode)) (pl
 
     is_whole : (version : Version) → IsVersionOf marking size table places version → IsLaid version size (length table) base table → IsWhole version base size mid
     is_whole version of laid = record {
+      region = subst (HasRegion version size) (sym nodes_are) of.region;
       end_is = omega (arith, of.end_is, nodes_are, as_many);
       few = λ in_sectors. let few = whole.few (sym of.marks ∙ in_sectors) in omega (arith, few, as_many);
       forms = λ place cached there. forms place cached there ∙ sym (of.forms place);

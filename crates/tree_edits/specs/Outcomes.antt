@@ -15,7 +15,7 @@ use Rattle.layout.specs.Known.{AreCached}
 use Rattle.layout.specs.Marks.{mark_by}
 use Rattle.layout.specs.declared.versions.Marking.{Marking}
 use Rattle.layout.specs.declared.versions.Marking.TheVariants.{InSectors}
-use Rattle.layout.specs.Stands.{Version, HaveCurrentForms, IsLaid}
+use Rattle.layout.specs.Stands.{Version, HasRegion, HaveCurrentForms, IsLaid}
 use Rattle.inode.specs.declared.node.Form.TheVariants.{Two}
 use Rattle.model_tree.specs.Trees.Edit.{edited}
 use Rattle.model_tree.specs.Trees.Tree.{Tree}
@@ -41,6 +41,7 @@ pub record IsVersionOf (marking : Marking) (size : ℕ) (table : List (Option Ca
   pub forms : (place : ℕ) → version.form place ≡ Two
   pub marks : version.marking ≡ marking
   pub end_is : version.data_end size ≡ end_by table places
+  pub region : HasRegion version size (length table)
 
 -- the tree after each prefix of the edits has room
 abbrev pub PrefixesHaveRoom : (sectors places : ℕ) → Tree → List Edit → Type 0

@@ -11,7 +11,8 @@ use Rattle.layout.specs.CachedNodes.{CachedNode, node_sector, tree_of}
 use Rattle.layout.specs.Laid.{AreLaid}
 use Rattle.layout.specs.Marks.{mark_in, mark_by}
 use Rattle.layout.specs.declared.versions.Marking.TheVariants.{InSectors, AsNamed}
-use Rattle.layout.specs.Stands.{Version, HaveForms, IsLaid}
+use Rattle.std.specs.Prelude.{IsTrue}
+use Rattle.layout.specs.Stands.{Version, HasRegion, HaveForms, IsLaid}
 use Rattle.layout.proofs.MarkProofs.{lays_marks, tree_still, bit_of-past}
 use Rattle.tree_transaction.specs.Blocks.{IsSectorPut}
 use Rattle.tree_transaction.specs.Whole.{IsMarked, ShowsPart}
@@ -92,19 +93,19 @@ module _ (nodes size : ℕ) (version : Version) (old mid new : Image) (before pl
   tree_same = tree_still nodes old new (mark_by (148 + nodes) places) (mark_by (148 + nodes) places) cached_nodes laid (λ n. refl)
       (λ place h. same (node_sector place) (omega arith)) (λ n some. same n (let far = laid.behind n some in omega arith))
 
-  pub marks_written : version.data_end size ≡ 148 + nodes + length places → length places ≤ 65536 → HaveForms version cached_nodes → ((n : ℕ) → 100 ≤ n → n < 148 → old n ≡ version.spare n) → IsMarked old before → IsLaid version size nodes new cached_nodes
-  marks_written end_is few forms spare marked = lays_marks version size nodes old new places cached_nodes (record {
+  pub marks_written : version.data_end size ≡ 148 + nodes + length places → length places ≤ 65536 → HaveForms version cached_nodes → version.marking ≡ InSectors → HasRegion version size nodes → ((n : ℕ) → IsTrue (version.is_spare n) → old n ≡ version.spare n) → IsMarked old before → IsLaid version size nodes new cached_nodes
+  marks_written end_is few forms in_sectors region spare marked = lays_marks version size nodes old new places cached_nodes (record {
     end_is = end_is;
     laid = laid;
     forms = forms;
-    spare = spare;
+    spare = λ n is. (let beside = region.spare n is in same n (beside.unmarked in_sectors) ∙ spare n is);
     same = same;
-    marked = λ in_sectors. both_marked old mid new before places marked few low high;
+    marked = λ is_so. both_marked old mid new before places marked few low high;
   })
 
 -- where nothing marks them but the nodes, nothing is written
 pub named_laid : (nodes size : ℕ) (version : Version) (image : Image) (places : List Bool) (cached_nodes : List (Option CachedNode)) → AreLaid nodes image (mark_by (148 + nodes) places) cached_nodes → version.marking ≡ AsNamed → version.data_end size ≡ 148 + nodes + length places → HaveForms version cached_nodes
-    → ((n : ℕ) → 100 ≤ n → n < 148 → image n ≡ version.spare n) → IsLaid version size nodes image cached_nodes
+    → ((n : ℕ) → IsTrue (version.is_spare n) → image n ≡ version.spare n) → IsLaid version size nodes image cached_nodes
 named_laid nodes size version image places cached_nodes laid named end_is forms spare = lays_marks version size nodes image image places cached_nodes (record {
   end_is = end_is;
   laid = laid;
@@ -116,14 +117,21 @@ named_laid nodes size version image places cached_nodes laid named end_is forms 
 
 -- ---- which sectors are updated
 
-pub spare_still : (updates : List Update) (end : ℕ) (base : Image) (n : ℕ) → AreBetween 148 end updates → n < 148 → applied updates base n ≡ base n
-spare_still updates end base n between low = applied-other updates base n (λ i h at. let b = between i h in omega (arith, b.0))
+pub prefix_still : (updates : List Update) (end : ℕ) (base : Image) (n : ℕ) → AreBetween 148 end updates → n < 148 → applied updates base n ≡ base n
+prefix_still updates end base n between low = applied-other updates base n (λ i h at. let b = between i h in omega (arith, b.0))
+
+-- nor are spare sectors
+pub spare_still : (version : Version) (size nodes : ℕ) (updates : List Update) (end : ℕ) (base : Image) → HasRegion version size nodes → version.data_end size ≡ end → AreBetween 148 end updates
+    → ((n : ℕ) → IsTrue (version.is_spare n) → base n ≡ version.spare n) → (n : ℕ) → IsTrue (version.is_spare n) → applied updates base n ≡ version.spare n
+spare_still version size nodes updates end base region ends between spare n is =
+    let beside = region.spare n is in
+    applied-other updates base n (λ i h at. let b = between i h in let far = beside.apart (omega (arith, b.0, at)) in omega (arith, b.1, at, far, ends)) ∙ spare n is
 
 -- the bitmap sectors are not among them before their turn
 pub marked_below : (updates : List Update) (end : ℕ) (base : Image) (places : List Bool) → AreBetween 148 end updates → IsMarked base places → IsMarked (applied updates base) places
 marked_below updates end base places between marked = record {
   few = marked.few;
-  bits = λ i. ap₂ (λ (low high : List ℕ). bit_in low high i) (spare_still updates end base 98 between (omega arith)) (spare_still updates end base 99 between (omega arith)) ∙ marked.bits i;
+  bits = λ i. ap₂ (λ (low high : List ℕ). bit_in low high i) (prefix_still updates end base 98 between (omega arith)) (prefix_still updates end base 99 between (omega arith)) ∙ marked.bits i;
 }
 
 pub marks_between : (end part : ℕ) (old new : List Update) (before places : List Bool) → part < 2 → 148 ≤ end → ((image : Image) → ShowsPart (applied old image) (applied new image) before places part) → AreBetween 98 end old → AreBetween 98 end new

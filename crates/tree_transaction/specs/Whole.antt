@@ -1,10 +1,10 @@
 -- A transaction whose marks are written: what it makes of a volume.
-use Rattle.std.specs.Prelude.{◌≡◌, ◌≢◌, ◌≤◌, ◌<◌, ◌+◌, ◌*◌, ◌⊎◌, ℕ, ⊤, Bool, List, length}
+use Rattle.std.specs.Prelude.{◌≡◌, ◌≢◌, ◌≤◌, ◌+◌, ◌*◌, ◌⊎◌, ℕ, ⊤, Bool, List, IsTrue, length}
 use Rattle.disk.specs.Moments.{Image}
 use Rattle.freemap.specs.Places.{ShowsPlaces, HaveSamePart, mark_of, bit_in}
 use Rattle.layout.specs.declared.versions.Marking.{Marking}
 use Rattle.layout.specs.declared.versions.Marking.TheVariants.{InSectors, AsNamed}
-use Rattle.layout.specs.Stands.{Version, HaveForms, IsLaid}
+use Rattle.layout.specs.Stands.{Version, HasRegion, HaveForms, IsLaid}
 use Rattle.tree_transaction.specs.declared.transaction.Transaction.{Transaction}
 use Rattle.tree_transaction.specs.Transactions.{cached_nodes_of, end_of, image_of, changed_tree}
 use Rattle.tree_transaction.specs.Transactions.{IsTransaction}
@@ -32,13 +32,14 @@ pub record ShowsPart (old new : Image) (before places : List Bool) (part : ℕ) 
   pub others : (n : ℕ) → n ≢ 98 + part → new n ≡ old n
 
 -- the transaction is one of a volume of this version: its places are the whole data region, for
--- which a bitmap has room, and the spare sectors are those of the version
+-- which a bitmap has room, and the spare sectors hold what the version says
 pub record IsWhole (version : Version) (base : Image) (size : ℕ) (transaction : Transaction)
     : Type 0 where
+  pub region : HasRegion version size transaction.nodes
   pub end_is : version.data_end size ≡ end_of transaction
   pub few : version.marking ≡ InSectors → length transaction.places ≤ 65536
   pub forms : HaveForms version (cached_nodes_of transaction)
-  pub spare : (n : ℕ) → 100 ≤ n → n < 148 → base n ≡ version.spare n
+  pub spare : (n : ℕ) → IsTrue (version.is_spare n) → base n ≡ version.spare n
 
 -- Then, over sectors whose bitmap, if there is one, shows the previous places, the sectors hold its
 -- cached nodes, marks included, and the tree is the same

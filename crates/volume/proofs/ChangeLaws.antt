@@ -26,7 +26,7 @@ use Rattle.layout.specs.Known.{AreCached}
 use Rattle.layout.specs.Laid.{AreNumbered}
 use Rattle.layout.specs.Marks.{mark_by}
 use Rattle.layout.specs.declared.versions.Marking.TheVariants.{InSectors}
-use Rattle.layout.specs.Stands.{IsLaid, Kept, StandsNow, current_version, seats_at}
+use Rattle.layout.specs.Stands.{HasRegion, IsLaid, Kept, StandsNow, current_version, seats_at}
 use Rattle.layout.specs.Superblock.{is_size}
 use Rattle.layout.proofs.CachedNodeLaws.{cached_nodes-back, only_cached_nodes}
 use Rattle.layout.proofs.FirstLaws.{sized_parts}
@@ -127,7 +127,7 @@ module _ (word : Type 0) (k : word) (nodes run : ℕ) (log : Log) (cached_nodes 
       let stands = stood.stands in
       let here : IsLaid (current_version seats) log.size (length cached_nodes) image cached_nodes = subst (λ (n : ℕ). IsLaid (current_version seats) log.size n image cached_nodes) (sym count)
       (subst (IsLaid (current_version seats) log.size nodes image) (sym read) stands.laid) in
-      let lays : LaysEditedTree (current_version seats) image log.size cached_nodes edits outcome = comes.lays k (current_version seats) (record { forms = λ place. refl; marks = refl; end_is = whole }) here in
+      let lays : LaysEditedTree (current_version seats) image log.size cached_nodes edits outcome = comes.lays k (current_version seats) (record { forms = λ place. refl; marks = refl; end_is = whole; region = subst (HasRegion (current_version seats) log.size) (sym count) stands.region }) here in
       let laid : IsLaid (current_version seats) log.size nodes now is = subst (λ (n : ℕ). IsLaid (current_version seats) log.size n now is) count lays.laid in
       let back : cached_nodes_in nodes now ≡ is = cached_nodes-back now nodes is laid.laid.count laid.laid.held in
       record {

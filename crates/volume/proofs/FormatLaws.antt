@@ -1,5 +1,5 @@
 -- A volume that was just formatted.
-use Rattle.std.proofs.Common.{ℕ, [], ◌∷◌, ◌≡◌, ◌≢◌, ◌<◌, ◌+◌, ◌⊎◌, ◌∙◌, inl, inr, refl, sym, arith, false, if◌then◌else◌, List, Bool, ap, eqb}
+use Rattle.std.proofs.Common.{ℕ, None, [], ◌∷◌, ◌≡◌, ◌≢◌, ◌<◌, ◌+◌, ◌⊎◌, ◌∙◌, inl, inr, refl, sym, arith, false, if◌then◌else◌, List, Bool, ap, eqb}
 use Rattle.std.proofs.Math.Logic.{∥∥₁_map}
 use Rattle.std.proofs.lemmas.Bool.{ne_eqb}
 use Rattle.std.specs.Prelude.{IsTrue, Result, Ok, Err, OnOk, is_err}
@@ -16,7 +16,8 @@ use Rattle.layout.specs.Stands as layout
 use Rattle.layout.specs.Stands.{bare, current_version}
 use Rattle.layout.specs.declared.versions.VersionNumber.TheVariants.{Two}
 use Rattle.layout.proofs.KeptLaws.{current_stands}
-use Rattle.layout.proofs.SeatLaws.{no_seats_kept, spare_none}
+use Rattle.layout.proofs.SeatLaws.{no_seats_kept, spare_none, version_region}
+use Rattle.layout.proofs.FirstLaws.{before_nodes}
 use Rattle.layout.specs.Superblock.{is_size}
 use Rattle.layout.proofs.Formatted.{fresh_stands}
 use Rattle.model_tree.specs.Trees.Fresh.{fresh_tree}
@@ -40,11 +41,11 @@ module _ (sectors nodes : ℕ) (size : IsTrue (is_size sectors nodes)) where
   is_fresh : IsFresh (current_version no_seats) sectors nodes (new_volume sectors nodes)
   is_fresh = record {
     sized = size;
-    region = (let parts = sized sectors nodes size in record { behind = omega (arith, parts.room); within = omega arith });
+    region = version_region Two None no_seats sectors nodes size;
     a_node = (let parts = sized sectors nodes size in omega (arith, parts.some));
     an_entry = omega arith;
     first = refl;
-    spare = λ n above below. zeros_at sectors nodes n (omega arith) (λ e. omega (arith, e)) ∙ sym (spare_none n);
+    spare = λ n is. (let low = before_nodes n is in zeros_at sectors nodes n (omega (arith, low.0)) (λ e. omega (arith, e, low.1)) ∙ sym (spare_none n));
     node = refl;
     bitmap = λ n above below. zeros_at sectors nodes n (omega arith) (λ e. omega (arith, e));
     others = λ place some within. zeros_at sectors nodes (148 + place) (omega arith) (λ e. omega (arith, e, some));

@@ -1,5 +1,5 @@
 -- What a mount finds is the tree that the device held.
-use Rattle.std.proofs.Common.{ℕ, Bool, true, false, ◌≡◌, ◌+◌, ◌<◌, ◌≤◌, ◌⊎◌, ◌^◌, inl, refl, sym, ap, ◌∙◌, subst, arith, not, cond, true≢false, eqb}
+use Rattle.std.proofs.Common.{ℕ, List, Bool, true, false, ◌≡◌, ◌+◌, ◌<◌, ◌≤◌, ◌⊎◌, ◌^◌, inl, refl, sym, ap, ap₂, ◌∙◌, subst, arith, not, cond, true≢false, eqb}
 use Rattle.std.proofs.Math.Logic.{∥∥₁_map}
 use Rattle.std.proofs.lemmas.Bool.{eqb-true}
 use Rattle.std.specs.Prelude.{Result, Ok, Err, IfOk, IfErr, bytes_eq}
@@ -13,15 +13,18 @@ use Rattle.journal.specs.declared.fault.JournalFault.TheVariants as journals
 use Rattle.journal.proofs.Recovers.{settles_once}
 use Rattle.layout.specs.Stands.{Kept, Version, served_version, number_of_version}
 use Rattle.layout.specs.Superblock as layout
+use Rattle.layout.specs.Superblock.{no_rest}
+use Rattle.layout.proofs.FirstLaws.{few_nodes}
 use Rattle.layout.specs.declared.versions.VersionNumber.{VersionNumber}
 use Rattle.layout.proofs.KeptLaws.{version_parts}
-use Rattle.layout.proofs.MarkOnce.{version_number}
+use Rattle.layout.proofs.MarkOnce.{version_number, version_rest}
 use Rattle.volume.specs.declared.fault.MountFault.TheVariants as mounts
 use Rattle.volume.specs.declared.superblock.Verdict.TheVariants.{NotVolume, Worn, Damaged, Sound}
 use Rattle.volume.specs.Refusals.{gate_fault}
 use Rattle.volume.specs.Stands.{VolumeStands, IsBase, StandsFor, StandsForIn}
 use Rattle.volume.specs.Superblock.{is_volume, superblock, mount_verdict, version_in, word, last_run}
 use Rattle.journal.proofs.First.{first_kept}
+use Rattle.volume.proofs.LoadLaws.{any_sized}
 use Rattle.volume.proofs.FirstLaws.{word_nodes, word_run, version_back, volume_first}
 use Rattle.volume.proofs.StandLaws.{is_prefix, sized, large, stands_same}
 
@@ -41,14 +44,14 @@ if_err_all (Err e) keeps_word P Q S so first kept = so e first kept
 -- The first sector
 
 module _ (size nodes run : ℕ) (kept : Kept) (seen : Image) (base : IsBase size nodes run kept seen) where
-  few_nodes : nodes < 2 ^ 32
-  few_nodes = let parts = sized size nodes base.stands.stands.sized in omega (arith, parts.few)
+  small_nodes : nodes < 2 ^ 32
+  small_nodes = few_nodes base.stands.version size nodes base.stands.stands.region
 
   pub small : size < 2 ^ 32
-  small = let parts = sized size nodes base.stands.stands.sized in omega (arith, parts.most)
+  small = base.stands.stands.region.numbers
 
   pub enough : 256 ≤ size
-  enough = large size nodes base.stands.stands.sized
+  enough = large size nodes (any_sized size nodes base.stands.version kept.seats base.stands.is_version base.stands.stands.sized)
 
   abbrev version : VersionNumber
   version = (version_parts nodes base.stands.version kept.seats base.stands.is_version).0
@@ -58,12 +61,17 @@ module _ (size nodes run : ℕ) (kept : Kept) (seen : Image) (base : IsBase size
       let parts = version_parts nodes base.stands.version kept.seats base.stands.is_version in
       ap (λ (of : Version). of.number) parts.4 ∙ version_number parts.0 parts.1 kept.seats
 
+  rest_is : base.stands.version.rest ≡ no_rest
+  rest_is =
+      let parts = version_parts nodes base.stands.version kept.seats base.stands.is_version in
+      ap (λ (of : Version). of.rest) parts.4 ∙ version_rest parts.0 parts.1 kept.seats
+
   first_is : seen 0 ≡ superblock version size nodes run
   first_is = sym (first_kept (log_at_start size) seen base.base (omega (arith, enough)) base.settles)
-      ∙ (base.stands.stands.first ∙ ap (λ (number : ℕ). layout.superblock number size nodes run) number_is)
+      ∙ (base.stands.stands.first ∙ ap₂ (λ (number : ℕ) (rest : List ℕ). layout.superblock number size nodes run rest) number_is rest_is)
 
   pub nodes_is : word 16 (seen 0) ≡ nodes
-  nodes_is = ap (word 16) first_is ∙ word_nodes version size nodes run few_nodes
+  nodes_is = ap (word 16) first_is ∙ word_nodes version size nodes run small_nodes
 
   pub run_is : word 20 (seen 0) ≡ run
   run_is = ap (word 20) first_is ∙ word_run version size nodes run base.stands.stands.counted
@@ -97,7 +105,7 @@ module _ (size nodes run : ℕ) (kept : Kept) (seen : Image) (base : IsBase size
   pub is_volume_there : mount_verdict size (seen 0) ≡ NotVolume → ⊥
   unfolding mount_verdict
   is_volume_there is = never_none (is_volume size (seen 0)) (eqb (word 20 (seen 0)) last_run) (bytes_eq (seen 0) (superblock (version_in (seen 0)) size (word 16 (seen 0)) (word 20 (seen 0))))
-      (ap (is_volume size) first_is ∙ volume_first version size nodes run small few_nodes base.stands.stands.sized) is
+      (ap (is_volume size) first_is ∙ volume_first version size nodes run small small_nodes (any_sized size nodes base.stands.version kept.seats base.stands.is_version base.stands.stands.sized)) is
 
   worn_alone : (volume worn same : Bool) → cond (not volume) NotVolume (cond worn Worn (cond same Sound Damaged)) ≡ Worn → worn ≡ true
   worn_alone true true same h = refl

@@ -23,9 +23,10 @@ use Rattle.layout.specs.declared.versions.Marking.TheVariants.{InSectors}
 use Rattle.layout.specs.declared.versions.VersionNumber.TheVariants as numbers
 use Rattle.model_tree.specs.Seats.Seats.{Seats}
 use Rattle.volume_load.proofs.VolumeLaws.{laid_as, version_marking, version_end}
-use Rattle.layout.specs.Superblock.{is_size}
+use Rattle.layout.specs.Superblock.{is_size, no_rest}
 use Rattle.layout.specs.declared.versions.VersionNumber.{VersionNumber}
 use Rattle.layout.proofs.FirstLaws.{sized_parts}
+use Rattle.layout.proofs.SeatLaws.{version_region, version_sized}
 use Rattle.layout.proofs.KeptLaws.{version_parts}
 use Rattle.layout.proofs.MarkOnce.{first_number, one_number}
 use Rattle.layout.proofs.Rewriting.{known_as_second, laid_as_second, second_at, then_second}
@@ -54,6 +55,9 @@ use Rattle.volume.specs.Superblock.{superblock}
 pub version_limits : (number : VersionNumber) (mark : Option ℕ) (seats : Seats) → (version_by number mark seats).limits ≡ limits_of
 version_limits numbers.One mark seats = refl
 version_limits numbers.Two mark seats = refl
+
+pub any_sized : (size nodes : ℕ) (version : Version) (seats : Seats) → IsVersion nodes version seats → IsTrue (version.is_size size nodes) → IsTrue (is_size size nodes)
+any_sized size nodes _ _ (By number mark seats is may) sized = subst IsTrue (version_sized number mark seats size nodes) sized
 
 pub any_limits : (nodes : ℕ) (version : Version) (seats : Seats) → IsVersion nodes version seats → version.limits ≡ limits_of
 any_limits nodes _ _ (By number mark seats is may) = version_limits number mark seats
@@ -109,8 +113,8 @@ module _ (number : VersionNumber) (mark : Option ℕ) (seats : Seats) (size node
   found_stands counted first well_formed =
       let both = each.0 well_formed in
       record {
-        sized = sized;
-        region = record { behind = omega (arith, below, version_end number mark seats size); within = omega (arith, version_end number mark seats size) };
+        sized = subst IsTrue (sym (version_sized number mark seats size nodes)) sized;
+        region = version_region number mark seats size nodes sized;
         counted = counted;
         first = first ∙ sym (first_number number mark seats size nodes run);
         laid = subst (IsLaid (version_by number mark seats) size nodes image) read laid;
@@ -134,7 +138,7 @@ laid_told number size nodes run image kept first stands =
     let seats = kept.seats in
     let there : layout.TreeStands (version_by parts.0 parts.1 seats) size nodes image run kept.tree =
     subst (λ (version : Version). layout.TreeStands version size nodes image run kept.tree) parts.4 stands.stands in
-    let same : parts.0 ≡ number = one_number parts.0 number size nodes run size nodes run (sym (first_number parts.0 parts.1 seats size nodes run) ∙ (sym there.first ∙ first)) in (
+    let same : parts.0 ≡ number = one_number parts.0 number size nodes run size nodes run no_rest no_rest (sym (first_number parts.0 parts.1 seats size nodes run) ∙ (sym there.first ∙ first)) in (
       parts.1,
       subst (λ (n : VersionNumber). IsMark n nodes parts.1) same parts.2,
       subst (λ (n : VersionNumber). MayHaveSeats n parts.1 seats) same parts.3,
@@ -201,7 +205,7 @@ pub stands_few : (size nodes run : ℕ) (image : Image) (kept : Kept) → HoldsS
     → (AreFew (cached_nodes_in nodes image) → ⊥) → ⊥
 stands_few size nodes run image kept sectors stands never = ∥∥₁_elim stands.stands.well_formed (Prim.hlevel props) (λ well_formed.
     let cached_nodes = cached_nodes_in nodes image in
-    let bytes = marked_bytes stands.version size nodes image cached_nodes stands.stands.laid stands.stands.region.within (λ n behind within. sectors n within) in
+    let bytes = marked_bytes stands.version size nodes image cached_nodes stands.stands.laid (omega (arith, stands.stands.region.inside, stands.stands.region.within)) (λ n behind within. sectors n within) in
     let well = subst (λ (f : ℕ → ℕ → Limits). IsWellFormed (f size nodes) kept.tree) (any_limits nodes stands.version kept.seats stands.is_version) well_formed in
     let are = (each_tree nodes image (marked_by stands.version.marking nodes image cached_nodes) cached_nodes stands.stands.laid.laid bytes (limits_of size nodes) (omega arith) (stamp (run + 1) 0)).1
     (subst (IsWellFormed (limits_of size nodes)) stands.stands.tree_is well, subst (IsBefore (stamp (run + 1) 0)) stands.stands.tree_is stands.stands.before) in

@@ -1,6 +1,8 @@
 -- A restart count that is raised, with the version.
 use Rattle.std.proofs.Common.{ℕ, [], ◌∷◌, ◌≡◌, ◌≤◌, ◌+◌, ◌<◌, ◌⊎◌, ◌^◌, Bool, Option, inl, inr, refl, sym, ap, ◌∙◌, subst, arith, if◌then◌else◌}
+use Rattle.std.specs.Prelude.{IsTrue}
 use Rattle.std.proofs.lemmas.Bool.{lt-leb}
+use Rattle.layout.specs.Superblock.{is_size}
 use Rattle.disk.specs.declared.update.Update.{Update}
 use Rattle.disk.specs.Moments.{Image, History, AddsOnly, put, applied}
 use Rattle.disk.proofs.MomentLemmas.{AddsOnly-weaken}
@@ -17,7 +19,8 @@ use Rattle.layout.specs.Stands.{By, IsMark, Kept, MayHaveSeats, Version, version
 use Rattle.layout.specs.declared.versions.VersionNumber.{VersionNumber}
 use Rattle.layout.specs.declared.versions.VersionNumber.TheVariants.{One, Two}
 use Rattle.layout.proofs.MarkOnce.{version_number}
-use Rattle.layout.proofs.SeatLaws.{kept_later, version_spare}
+use Rattle.layout.proofs.SeatLaws.{kept_later, spare_sector, version_region, version_sized, version_spare}
+use Rattle.layout.proofs.FirstLaws.{before_nodes}
 use Rattle.layout.proofs.Rewriting.{form_stays, rewritten_cached_nodes, rewritten_stands}
 use Rattle.model_tree.specs.Seats.Seats.{Seats}
 use Rattle.model_tree.specs.Trees.Tree.{Tree}
@@ -54,7 +57,7 @@ mark_before Two sectors nodes mark some moved = moved
 
 -- a volume has nodes
 some_nodes : (found : Superblock) (base : Image) (mark : Option ℕ) (kept : Kept) → StandsIn found mark base kept → 0 < found.nodes
-some_nodes found base mark kept stands = let parts = sized found.sectors found.nodes stands.stands.sized in omega (arith, parts.some)
+some_nodes found base mark kept stands = stands.stands.region.some
 
 module _ (found : Superblock) (base : Image) (counted : found.run + 1 < 2 ^ 32) where
   abbrev raised : Image
@@ -76,9 +79,14 @@ module _ (found : Superblock) (base : Image) (counted : found.run + 1 < 2 ^ 32) 
     stands : layout.TreeStands was found.sectors found.nodes base found.run tree
     stands = stood.stands
 
+    sized_now : IsTrue (is_size found.sectors found.nodes)
+    sized_now = subst IsTrue (version_sized found.version mark kept.seats found.sectors found.nodes) stands.sized
+
     -- the count is raised, the version is 2, and nothing else changes
     is_rewritten : IsRewritten was is found.sectors found.nodes (found.run + 1) base raised
     is_rewritten = record {
+      sized = sized_now;
+      region = version_region Two mark kept.seats found.sectors found.nodes sized_now;
       first = put_same base (first_update found.sectors found.nodes (found.run + 1)) 0 refl;
       limits = ap (λ (f : ℕ → ℕ → Limits). f found.sectors found.nodes) (sym (version_limits found.version mark kept.seats));
       others = record {
@@ -86,7 +94,7 @@ module _ (found : Superblock) (base : Image) (counted : found.run + 1 < 2 ^ 32) 
         data_end = sym (version_end found.version mark kept.seats found.sectors);
         roomy = λ place within. inr refl;
         bitmap = λ n low high. others n low;
-        spare = λ n low high. others n (omega (arith, low)) ∙ (stands.laid.spare n low high ∙ version_spare found.version mark kept.seats n stood.may);
+        spare = λ n is_so. (let low = before_nodes n is_so in others n (omega (arith, low.0)) ∙ (stands.laid.spare n (spare_sector found.version mark kept.seats n low.0 low.1) ∙ version_spare found.version mark kept.seats n stood.may));
         nodes_are = λ place within. others (node_sector place) (omega arith)
             ∙ (sym (form_stays was found.sectors found.nodes found.run base tree place stands within)
             ∙ ap (λ (form : Form). in_form form (base (node_sector place))) (all_two found.version found.nodes mark kept.seats moved place within));

@@ -1,5 +1,5 @@
 -- An image represents one tree with its seats.
-use Rattle.std.proofs.Common.{ℕ, ◌<◌, ◌^◌, arith}
+use Rattle.std.proofs.Common.{ℕ, ◌<◌, ◌^◌}
 use Rattle.std.proofs.Math.Logic.{∥∥₁_elim}
 use Rattle.std.proofs.Props.{props}
 use Rattle.disk.specs.Moments.{Image}
@@ -10,7 +10,7 @@ use Rattle.layout.proofs.KeptLaws.{one_kept}
 use Rattle.model_tree.specs.Seats.Seats.{Seats}
 use Rattle.model_tree.specs.Trees.Tree.{Tree}
 use Rattle.volume.specs.Stands.{VolumeStands, IsBase, IsOne, OneStands}
-use Rattle.volume.proofs.StandLaws.{is_prefix, sized, stands_same}
+use Rattle.volume.proofs.StandLaws.{is_prefix, stands_same}
 
 pub Tree-set : IsSet Tree
 Tree-set = Prim.hlevel props
@@ -27,8 +27,7 @@ IsOne-prop nodes run other_nodes other_run kept other = Prim.hlevel (props, Kept
 one_base : (sectors nodes run other_nodes other_run : ℕ) (kept other : Kept) (image : Image) → IsBase sectors nodes run kept image
     → IsBase sectors other_nodes other_run other image → IsOne nodes run other_nodes other_run kept other
 one_base sectors nodes run other_nodes other_run kept other image left right =
-    let few = sized sectors nodes left.stands.stands.sized in
-    let small : sectors < 2 ^ 32 = omega (arith, few.most) in
+    let small : sectors < 2 ^ 32 = left.stands.stands.region.numbers in
     let here : VolumeStands sectors nodes right.base run kept =
     stands_same sectors nodes left.base right.base run kept (settles_once (log_at_start sectors) (is_prefix sectors) image left.base right.base small left.settles right.settles) left.stands in
     let one = one_kept sectors sectors nodes other_nodes run other_run right.base kept other here right.stands in

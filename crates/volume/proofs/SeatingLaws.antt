@@ -3,7 +3,7 @@ use Rattle.std.proofs.Common.{◌≡◌, ◌≤◌, ◌<◌, ◌+◌, ◌-◌, �
 use Rattle.std.proofs.Math.Logic.{∥∥₁_elim}
 use Rattle.std.proofs.lemmas.Bool.{cases_eq, cases_lt}
 use Rattle.std.proofs.lemmas.List.{get_or_past}
-use Rattle.std.specs.Prelude.{IfErr, IsErrOf, OnOk, Result, Ok, Err}
+use Rattle.std.specs.Prelude.{IfErr, IsTrue, IsErrOf, OnOk, Result, Ok, Err}
 use Rattle.disk.specs.Moments.{Image, applied}
 use Rattle.disk.specs.declared.update.Update.{Update}
 use Rattle.journal.specs.Log.{Log, AnswersByDevice, contents}
@@ -12,9 +12,11 @@ use Rattle.journal.specs.declared.fault.JournalFault.TheVariants as faults
 use Rattle.layout.specs.CachedNodes.{CachedNode, cached_nodes_in, node_sector, tree_of}
 use Rattle.layout.specs.Rewriting.{IsRewritten}
 use Rattle.layout.specs.Stands as layout
-use Rattle.layout.specs.Stands.{HoldSeats, StandsNow, current_version, seats_at, spare_by}
+use Rattle.layout.specs.Stands.{HoldSeats, StandsNow, current_version, is_before_nodes, seats_at, spare_by}
+use Rattle.layout.specs.declared.versions.VersionNumber.TheVariants.{Two}
+use Rattle.layout.proofs.FirstLaws.{before_nodes, is_before}
 use Rattle.layout.proofs.Rewriting.{current_second, form_stays, rewritten_cached_nodes, rewritten_stands}
-use Rattle.layout.proofs.SeatLaws.{spare_seats}
+use Rattle.layout.proofs.SeatLaws.{spare_seats, version_region}
 use Rattle.model_tree.specs.Seats.SeatEdits.{SeatEdit, AreEdits, edited_all}
 use Rattle.model_tree.specs.Seats.Seats.{Seats}
 use Rattle.model_tree.specs.Trees.Tree.{Tree}
@@ -55,7 +57,7 @@ module _ (nodes run : ℕ) (log : Log) (cached_nodes : List (Option CachedNode))
 
   holds : HoldSeats image was
   holds n within =
-      stands.laid.spare (100 + n) (omega arith) (omega (arith, within))
+      stands.laid.spare (100 + n) (is_before (100 + n) (omega arith) (omega (arith, within)))
       ∙ (spare_seats was None (100 + n) (λ e. omega (arith, e, within)) ∙ ap (λ (k : ℕ). seats_sector k was) (omega arith))
 
   places : ArePlaces is
@@ -64,14 +66,14 @@ module _ (nodes run : ℕ) (log : Log) (cached_nodes : List (Option CachedNode))
   held : HoldSeats now is
   held = (are.edited image was stood.keeps.places can.can).lays holds
 
-  spare_is : (n : ℕ) → 100 ≤ n → n < 148 → now n ≡ spare_by is None n
-  spare_is n low high = ⊎_elim
-      (λ (mark : n ≡ 147). are.others image n (inr (omega (arith, mark))) ∙ (stands.laid.spare n low high
+  spare_is : (n : ℕ) → IsTrue (is_before_nodes n) → now n ≡ spare_by is None n
+  spare_is n is_so = let both = before_nodes n is_so in let low = both.0 in let high = both.1 in ⊎_elim
+      (λ (mark : n ≡ 147). are.others image n (inr (omega (arith, mark))) ∙ (stands.laid.spare n is_so
       ∙ (ap (spare_by was None) mark ∙ sym (ap (spare_by is None) mark))))
       (λ (other : n ≡ 147 → ⊥). ⊎_elim
       (λ (seat : n < 145). ap now (let e : n ≡ 100 + (n - 100) = omega (arith, low) in e)
       ∙ (held (n - 100) (omega (arith, seat, low)) ∙ sym (spare_seats is None n other)))
-      (λ (past : 145 ≤ n). are.others image n (inr past) ∙ (stands.laid.spare n low high ∙ (spare_seats was None n other
+      (λ (past : 145 ≤ n). are.others image n (inr past) ∙ (stands.laid.spare n is_so ∙ (spare_seats was None n other
       ∙ (behind_seats was (n - 100) stood.keeps.places.five (omega (arith, past)) (below n high other low)
       ∙ (sym (behind_seats is (n - 100) places.five (omega (arith, past)) (below n high other low)) ∙ sym (spare_seats is None n other))))))
       (cases_lt n 145))
@@ -82,6 +84,8 @@ module _ (nodes run : ℕ) (log : Log) (cached_nodes : List (Option CachedNode))
 
   rewrites : IsRewritten (current_version was) (current_version is) log.size nodes run image now
   rewrites = record {
+    sized = stands.sized;
+    region = version_region Two None is log.size nodes stands.sized;
     first = are.others image 0 (inl (omega arith)) ∙ stands.first;
     limits = refl;
     others = record {

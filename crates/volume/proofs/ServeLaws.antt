@@ -30,7 +30,7 @@ use Rattle.volume.specs.Stands.{VolumeStands}
 use Rattle.volume.specs.Views.{volume_state_by}
 use Rattle.volume.proofs.PrefixLaws.{prefix_among}
 use Rattle.volume.proofs.OneTree.{Seats-set, Tree-set}
-use Rattle.volume.proofs.StandLaws.{now_same, placed_on, same_placed, seats_same, settles_placed, sized}
+use Rattle.volume.proofs.StandLaws.{now_same, placed_on, same_placed, seats_same, settles_placed}
 
 -- a volume that serves holds its tree with the seats
 pub served_stands : (nodes run : ℕ) (cached_nodes : List (Option CachedNode)) (log : Log) → IsServing log nodes run cached_nodes
@@ -44,8 +44,7 @@ module _ (nodes run : ℕ) (cached_nodes : List (Option CachedNode)) (old new : 
   sees : StandsNow old.size nodes (contents old) run (kept_in_image (contents old) cached_nodes)
       → SeesSame now old.size nodes (contents old) (contents new) (cached_nodes_in nodes (contents old))
   sees stands =
-      let parts = sized old.size nodes stands.stands.sized in
-      kept_alone now old.size nodes (contents old) (contents new) (cached_nodes_in nodes (contents old)) (omega (arith, parts.room)) stands.stands.laid
+      kept_alone now old.size nodes (contents old) (contents new) (cached_nodes_in nodes (contents old)) stands.stands.region stands.stands.laid
       (λ n above below. sym (same n (inr above, below)))
 
   -- the same tree is seen

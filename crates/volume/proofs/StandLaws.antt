@@ -1,6 +1,6 @@
 -- What a crash leaves of a volume depends only on its base: no sector of the journal's own is
 -- looked at.
-use Rattle.std.proofs.Common.{ℕ, ◌≡◌, ◌≤◌, inl, inr, refl, rules, arith, ap, subst, sym, ◌∙◌}
+use Rattle.std.proofs.Common.{ℕ, ◌≡◌, ◌≤◌, ◌<◌, inl, inr, refl, rules, arith, ap, subst, sym, ◌∙◌}
 use Rattle.std.specs.Prelude.{IsTrue}
 use Rattle.disk.specs.Moments.{Image}
 use Rattle.journal.specs.Layout.{IsArea, log_at_start}
@@ -22,6 +22,10 @@ sized = sized_parts
 pub large : (sectors nodes : ℕ) → IsTrue (is_size sectors nodes) → 256 ≤ sectors
 large sectors nodes size = search rules
 
+-- a volume has sectors
+pub some_sectors : (version : layout.Version) (sectors nodes : ℕ) → layout.HasRegion version sectors nodes → 0 < sectors
+some_sectors version sectors nodes region = omega (arith, region.behind, region.inside, region.within)
+
 -- the log is before the sectors that transactions write
 
 pub placed_on : (area was : LogArea) (size old : ℕ) → area ≡ was → size ≡ old → was ≡ log_at_start old → area ≡ log_at_start size
@@ -41,7 +45,7 @@ settles_placed area size image base placed settles = subst (λ (l : LogArea). Se
 pub stands_same : (sectors nodes : ℕ) (a b : Image) (run : ℕ) (kept : Kept) → AreSame sectors a b
     → VolumeStands sectors nodes a run kept → VolumeStands sectors nodes b run kept
 stands_same sectors nodes a b run kept same stands =
-    let enough : 256 ≤ sectors = large sectors nodes stands.stands.sized in
+    let enough : 0 < sectors = some_sectors stands.version sectors nodes stands.stands.region in
     record {
       version = stands.version;
       is_version = stands.is_version;
@@ -54,7 +58,7 @@ stands_same sectors nodes a b run kept same stands =
 pub tree_same : (version : layout.Version) (sectors nodes : ℕ) (a b : Image) (run : ℕ) (tree : Tree) → AreSame sectors a b
     → layout.TreeStands version sectors nodes a run tree → layout.TreeStands version sectors nodes b run tree
 tree_same version sectors nodes a b run tree same stands =
-    let enough : 256 ≤ sectors = large sectors nodes stands.sized in
+    let enough : 0 < sectors = some_sectors version sectors nodes stands.region in
     stands_alone version sectors nodes a b run tree stands (sym (same 0 (inl refl, omega (arith, enough))))
     (λ n above below. sym (same n (inr above, omega (arith, below, stands.region.within))))
 
@@ -73,5 +77,5 @@ seats_same sectors nodes a b run kept same now =
 pub cached_nodes_same : (version : layout.Version) (sectors nodes : ℕ) (a b : Image) (run : ℕ) (tree : Tree) → AreSame sectors a b
     → layout.TreeStands version sectors nodes a run tree → cached_nodes_in nodes b ≡ cached_nodes_in nodes a
 cached_nodes_same version sectors nodes a b run tree same stands =
-    (kept_alone version sectors nodes a b (cached_nodes_in nodes a) stands.region.behind stands.laid
+    (kept_alone version sectors nodes a b (cached_nodes_in nodes a) stands.region stands.laid
     (λ n above below. sym (same n (inr above, omega (arith, below, stands.region.within))))).same_cached_nodes

@@ -1,7 +1,7 @@
 -- A run that begins on the nodes that were read.
-use Rattle.std.proofs.Common.{◌≡◌, ◌≤◌, ◌<◌, ◌+◌, ◌-◌, ◌*◌, ◌^◌, ◌∙◌, ℕ, Bool, true, false, List, [], Option, Some, None, is_some, length, inl, inr, refl, sym, ap, subst, arith}
+use Rattle.std.proofs.Common.{◌≡◌, ◌≤◌, ◌+◌, ◌-◌, ◌*◌, ◌∙◌, ℕ, Bool, true, false, List, [], Option, Some, None, is_some, length, inl, inr, refl, sym, ap, subst, arith}
 use Rattle.std.proofs.Math.Logic.{∥∥₁_map}
-use Rattle.std.specs.Prelude.{IsTrue, OnOk, Result, Ok, Err}
+use Rattle.std.specs.Prelude.{OnOk, Result, Ok, Err}
 use Rattle.std.specs.Option.{unwrap_or}
 use Rattle.disk.specs.Moments.{Image, History, AddsOnly, moment}
 use Rattle.disk.proofs.MomentLemmas.{AddsOnly-weaken, AddsOnly-join}
@@ -14,10 +14,10 @@ use Rattle.layout.specs.CachedNodes.{CachedNode, cached_nodes_in}
 use Rattle.layout.specs.Rewriting.{all_second}
 use Rattle.layout.specs.Stands as layout
 use Rattle.layout.specs.Stands.{By, IsMark, Kept, MayHaveSeats, StandsNow, bare, current_version, served_version, mark_held, moved_by, number_of_version, version_1, version_2, version_by}
-use Rattle.layout.specs.Superblock.{is_size}
 use Rattle.layout.specs.declared.versions.VersionNumber.{VersionNumber}
 use Rattle.layout.specs.declared.versions.VersionNumber.TheVariants.{One, Two}
 use Rattle.layout.proofs.KeptLaws.{same_kept}
+use Rattle.layout.proofs.FirstLaws.{few_nodes}
 use Rattle.layout.proofs.MarkOnce.{stands_told, version_number}
 use Rattle.layout.proofs.Rewriting.{current_second}
 use Rattle.migration.proofs.Committing.{no_prefix}
@@ -30,7 +30,7 @@ use Rattle.volume.specs.Mounts.{AddsRaised, IsAtRest, AllHaveMoved, IsRaisedTo, 
 use Rattle.volume.specs.Stands.{StandsForIn}
 use Rattle.volume.specs.Starts.{HasMovedTo, IsCleared, ServesFrom, StandsInSecond, is_marked, moved_mark}
 use Rattle.volume.specs.declared.mount.Superblock.{Superblock}
-use Rattle.volume.proofs.StandLaws.{placed_on, settles_placed, sized}
+use Rattle.volume.proofs.StandLaws.{placed_on, settles_placed}
 
 -- an image that still holds the tree, as a migration sees it, represents it
 still_is : (number : ℕ) (area : LogArea) (size nodes run : ℕ) (tree : Tree) (image : Image) → area ≡ log_at_start size → StandsStill number area size nodes run tree image → StandsForIn number size nodes run (bare tree) image
@@ -167,14 +167,11 @@ module _ (found : Superblock) (mark : Option ℕ) (old : Log) (marked : IsMark f
   abbrev then_mark : Option ℕ
   then_mark = moved_mark found.version found.nodes mark
 
-  few : IsTrue (is_size found.sectors found.nodes) → found.nodes < 2 ^ 32
-  few size = let parts = sized found.sectors found.nodes size in omega (arith, parts.few)
-
   -- what the base holds, it holds in the version and with the mark that were found
   told : (kept : Kept) → StandsOn found old.base kept → StandsIn found mark old.base kept
   told kept stands =
       let is = stands_told found.version mark found.sectors found.nodes old.base found.run kept found.sectors found.nodes found.run
-      (few stands.stands.sized) marked holds.first marks stands in
+      (few_nodes stands.version found.sectors found.nodes stands.stands.region) marked holds.first marks stands in
       record { may = is.may; keeps = stands.keeps; stands = is.stands }
 
   pub has_moved : AllHaveMoved found.version found.nodes then_mark

@@ -4,7 +4,7 @@ use Rattle.std.specs.List.{starts_with}
 use Rattle.std.specs.Int.{w32, from_be_bytes}
 use Rattle.layout.specs.Stands.{number_of_version}
 use Rattle.layout.specs.Superblock as layout
-use Rattle.layout.specs.Superblock.{magic, is_size}
+use Rattle.layout.specs.Superblock.{magic, is_size, no_rest}
 use Rattle.layout.specs.declared.versions.VersionNumber.{VersionNumber}
 use Rattle.layout.specs.declared.versions.VersionNumber.TheVariants.{One, Two}
 use Rattle.volume.specs.declared.superblock.Verdict.{Verdict}
@@ -13,7 +13,7 @@ use Rattle.volume.specs.declared.superblock.Verdict.TheVariants.{NotVolume, Worn
 -- the first sector of a volume of this version
 abbrev pub superblock : VersionNumber → (sectors nodes run : ℕ) → List ℕ
 superblock version sectors nodes run =
-    layout.superblock (number_of_version version) sectors nodes run
+    layout.superblock (number_of_version version) sectors nodes run no_rest
 
 -- the number in the four bytes from place i
 unfoldable pub word : (i : ℕ) → List ℕ → ℕ

@@ -1,5 +1,6 @@
 -- The mark of a migration, and the seats before it.
-use Rattle.std.proofs.Common.{◌≡◌, ◌≤◌, ◌<◌, ◌+◌, ◌-◌, ◌/◌, ◌%◌, ◌^◌, ℕ, List, Option, Some, None, length, get_or, drop, refl, sym, ap, ◌∙◌, arith, inl, inr}
+use Rattle.std.specs.Prelude.{IsTrue}
+use Rattle.std.proofs.Common.{◌≡◌, ◌≤◌, ◌<◌, ◌+◌, ◌-◌, ◌/◌, ◌%◌, ◌^◌, ℕ, List, Option, Some, None, length, get_or, drop, refl, sym, ap, ◌∙◌, subst, arith, inl, inr}
 use Rattle.std.specs.Int.{w32, from_be_bytes}
 use Rattle.std.proofs.lemmas.Bool.{cases_eq, cases_lt}
 use Rattle.std.proofs.lemmas.List.{get_or_past}
@@ -10,7 +11,8 @@ use Rattle.layout.specs.Stands.{HoldSeats, IsMark, MayHaveSeats, mark_held, mark
 use Rattle.layout.specs.declared.versions.VersionNumber.{VersionNumber}
 use Rattle.layout.specs.declared.versions.VersionNumber.TheVariants as numbers
 use Rattle.layout.proofs.FileLaws.{zero_sector-at}
-use Rattle.layout.proofs.SeatLaws.{spare_seats, version_spare}
+use Rattle.layout.proofs.SeatLaws.{spare_sector, spare_seats, version_is_spare, version_spare}
+use Rattle.layout.proofs.FirstLaws.{before_nodes}
 use Rattle.model_tree.specs.Seats.Seats.{Seats}
 use Rattle.seats.specs.Encoding.{seat_sector, seats_sector}
 use Rattle.volume_load.specs.Sectors.{AreSpare, AreZeroFrom}
@@ -62,8 +64,8 @@ in-prefix : (mark : Option ℕ) (seats : Seats) (n : ℕ) → length seats ≡ 5
 in-prefix mark seats n five far low = spare_seats seats mark n (λ e. absurd (omega arith)) ∙ behind_seats seats (n - 100) five (omega arith)
 
 module _ (number : VersionNumber) (mark : Option ℕ) (seats : Seats) (image : Image) (may : MayHaveSeats number mark seats) where
-  pub spare_there : length seats ≡ 5 → image 147 ≡ mark_held mark → HoldSeats image seats → AreSpare image → (n : ℕ) → 100 ≤ n → n < 148 → image n ≡ (version_by number mark seats).spare n
-  spare_there five there holds spare n low high = elim (cases_eq n 147) [
+  pub spare_there : length seats ≡ 5 → image 147 ≡ mark_held mark → HoldSeats image seats → AreSpare image → (n : ℕ) → IsTrue ((version_by number mark seats).is_spare n) → image n ≡ (version_by number mark seats).spare n
+  spare_there five there holds spare n is = let within = before_nodes n (subst IsTrue (version_is_spare number mark seats n) is) in let low = within.0 in let high = within.1 in elim (cases_eq n 147) [
     | inl at ↦ ap image at ∙ there ∙ ap (spare_by seats mark) (sym at) ∙ sym (version_spare number mark seats n may)
     | inr off ↦ elim (cases_lt n 145) [
       | inl prefix ↦
@@ -73,7 +75,10 @@ module _ (number : VersionNumber) (mark : Option ℕ) (seats : Seats) (image : I
     ]
   ]
 
-  module _ (spare : (n : ℕ) → 100 ≤ n → n < 148 → image n ≡ (version_by number mark seats).spare n) where
+  module _ (is_so : (n : ℕ) → IsTrue ((version_by number mark seats).is_spare n) → image n ≡ (version_by number mark seats).spare n) where
+    spare : (n : ℕ) → 100 ≤ n → n < 148 → image n ≡ (version_by number mark seats).spare n
+    spare n low high = is_so n (spare_sector number mark seats n low high)
+
     pub mark_there : image 147 ≡ mark_held mark
     mark_there = spare 147 (omega arith) (omega arith) ∙ version_spare number mark seats 147 may
 

@@ -5,7 +5,7 @@ use Rattle.disk.specs.Moments.{Image}
 use Rattle.layout.specs.CachedNodes.{CachedNode, cached_nodes_in}
 use Rattle.layout.specs.Marks.{mark_by}
 use Rattle.layout.specs.Rewriting.{all_second}
-use Rattle.layout.proofs.SeatLaws.{version_spare}
+use Rattle.layout.proofs.SeatLaws.{spare_sector, version_spare}
 use Rattle.model_tree.specs.Seats.SeatViews.{seats_view}
 use Rattle.model_tree.specs.Trees.Limits.{limits_of}
 use Rattle.model_tree.specs.Trees.Stamp.{stamp}
@@ -94,7 +94,7 @@ returns-clause-loaded g c =
       marked = c.in_ok-contents.ensures.found.marked;
       may = c.in_ok-contents.ensures.found.may;
       keeps = c.in_ok-contents.ensures.found.keeps;
-      marks = λ k. (c.in_ok-contents.ensures.found.laid k).spare 147 (omega arith) (omega arith)
+      marks = λ k. (c.in_ok-contents.ensures.found.laid k).spare 147 (spare_sector c.args.found.version c.in_ok-contents.contents.mark (seats_view c.in_ok-contents.contents.seats) 147 (omega arith) (omega arith))
           ∙ version_spare found.version contents.mark (seats_view contents.seats) 147 c.in_ok-contents.ensures.found.may;
       read = λ k. ap all_second (c.in_ok-contents.ensures.found.read k);
       stood = λ k. ∣ record {

@@ -12,8 +12,8 @@ returns-in_ok-put_marks-in-InSectors-2-clause-laid c = λ version base size mark
     let low = c.in_ok-put_marks-in-InSectors.ensures.image base in
     let high = c.in_ok-put_marks-in-InSectors-2.ensures.image base in
     record {
-      laid = marks_written nodes size version _ _ _ c.args.before.now c.args.self.now.places c.args.self.now.cached_nodes.cached_nodes transaction.laid low high whole.end_is (whole.few (marking ∙ c.in-InSectors.is)) whole.forms
-          (λ n prefix back. spare_still c.args.self.now.updates (end_of c.args.self.now) base n c.requires.targets back ∙ whole.spare n prefix back) (marked_below c.args.self.now.updates (end_of c.args.self.now) base c.args.before.now c.requires.targets (subst (λ (m : Marking). AreMarked m base c.args.before.now) c.in-InSectors.is marked));
+      laid = marks_written nodes size version _ _ _ c.args.before.now c.args.self.now.places c.args.self.now.cached_nodes.cached_nodes transaction.laid low high whole.end_is (whole.few (marking ∙ c.in-InSectors.is)) whole.forms (marking ∙ c.in-InSectors.is) whole.region
+          (spare_still version size nodes c.args.self.now.updates (end_of c.args.self.now) base whole.region whole.end_is c.requires.targets whole.spare) (marked_below c.args.self.now.updates (end_of c.args.self.now) base c.args.before.now c.requires.targets (subst (λ (m : Marking). AreMarked m base c.args.before.now) c.in-InSectors.is marked));
       tree_is = tree_same nodes size version _ _ _ c.args.before.now c.args.self.now.places c.args.self.now.cached_nodes.cached_nodes transaction.laid low high;
     }
 
@@ -31,6 +31,6 @@ returns-in-AsNamed-clause-laid c = λ version base size marking transaction whol
     let old = c.args.self.now in
     record {
       laid = named_laid old.nodes size version _ old.places old.cached_nodes.cached_nodes transaction.laid (marking ∙ c.in-AsNamed.is) whole.end_is whole.forms
-          (λ n prefix back. spare_still old.updates (end_of old) base n c.requires.targets back ∙ whole.spare n prefix back);
+          (spare_still version size old.nodes old.updates (end_of old) base whole.region whole.end_is c.requires.targets whole.spare);
       tree_is = refl;
     }
