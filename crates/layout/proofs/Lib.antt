@@ -11,6 +11,7 @@ pub mod Frame
 pub mod PrefixBytes
 pub mod KeptLaws
 pub mod Knowing
+pub mod LargeLaws
 pub mod Linking
 pub mod MarkOnce
 pub mod MarkProofs

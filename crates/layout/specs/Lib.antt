@@ -11,6 +11,7 @@ pub mod Known
 pub mod KnownProps
 pub mod Laid
 pub mod LaidProps
+pub mod Large
 pub mod MarkLaws
 pub mod Marks
 pub mod NodeEdits

@@ -2,6 +2,7 @@
 
 ghost use Rattle.layout.specs.CachedNodeLaws.{OneTree, OneKept, OneProof};
 ghost use Rattle.layout.specs.FreshLaws.{FreshStands};
+ghost use Rattle.layout.specs.Large.{LargeFirst, LargeFresh, LargeRegion};
 ghost use Rattle.layout.specs.MarkLaws.{KeptAlone, StandsAlone};
 ghost use Rattle.layout.specs.Rewriting.{RewrittenStands, RewrittenCachedNodes, FormStays};
 ghost use Rattle.layout.specs.Rewriting.{LaidSecond, KnownSecond, CurrentSecond};
@@ -38,4 +39,12 @@ pub fn second()
     ensures laid { LaidSecond }
     ensures known { KnownSecond }
     ensures current { CurrentSecond }
+{}
+
+/// A volume of version 3: its first sector is the encoding of its superblock, and its parts are
+/// apart. A new one holds the tree of one empty directory.
+pub fn large()
+    ensures first { LargeFirst }
+    ensures region { LargeRegion }
+    ensures fresh { LargeFresh }
 {}
