@@ -18,7 +18,7 @@ give_numbers-requires c = subst (λ (one : CachedNode). AreMarked (148 + c.args.
     (numbers_marked c.args.self.now c.args.place c.in_ok-cached.cached c.give_blocks.new.places c.requires.known c.in_ok-cached.ensures.cached
     (subst (λ (one : CachedNode). (n : ℕ) → mark_by (148 + c.args.self.now.nodes) c.give_blocks.new.places n + times_set n one.blocks ≡ mark_by (148 + c.args.self.now.nodes) c.args.self.now.places n + times_set n (take 0 one.blocks)) c.cached.view_is c.in_ok-give_blocks.ensures.marks))
 
-module _ (c : goal.After-drop-cached-inside-8) where
+module _ (c : goal.After-drop-cached-inside-10) where
   abbrev was : CachedNode
   was = c.in_ok-cached.cached
 
