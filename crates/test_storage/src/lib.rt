@@ -1,4 +1,4 @@
-//! Tests of devices and of the journal.
+//! Tests of devices, of the journal, and of what keeps lists, places and names.
 #![tactic(auto)]
 
 #[cfg(test)]

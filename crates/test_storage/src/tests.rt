@@ -3,4 +3,5 @@
 mod drivers;
 mod files;
 mod lists;
+mod maps;
 mod transactions;

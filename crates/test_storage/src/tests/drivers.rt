@@ -1,8 +1,27 @@
-//! The calls of devices and of sectors, each of which is here once, with no contract: a call brings
-//! all that it promises into the proof of its caller.
+//! Numbers that look random, and the calls of devices and of sectors. Each of these is here once,
+//! with no contract: a call brings all that it promises into the proof of its caller.
+
+ghost use Rattle.std.specs.Prelude.{◌<◌};
 
 use disk::{CrashDevice, Device, DiskFault, Landed, MemDevice, SECTOR, Stop};
 use std::alloc::Global;
+
+/// Numbers that look random.
+#[derive(Drop)]
+pub(super) struct Random(pub(super) u64);
+
+impl Random {
+    pub(super) fn below(&mut self, end: usize) -> usize
+        requires { 0 < end }
+        ensures { result < end }
+    {
+        self.0 = self
+            .0
+            .wrapping_mul(6_364_136_223_846_793_005)
+            .wrapping_add(1_442_695_040_888_963_407);
+        (self.0 >> 33) as usize % end
+    }
+}
 
 pub(super) fn filled(byte: u8) -> [u8; SECTOR] {
     [byte; SECTOR]

@@ -1,28 +1,10 @@
 //! A list in chunks beside a `Vec`: the same calls give the same entries, and a copy keeps its own.
 
-ghost use Rattle.std.specs.Prelude.{◌<◌};
-
+use super::drivers::Random;
 use chunks::Chunks;
 use std::alloc::AllocGlobal;
 use std::process::Abort;
 use std::test::Fail;
-
-/// Numbers that look random.
-#[derive(Drop)]
-struct Random(u64);
-
-impl Random {
-    fn below(&mut self, end: usize) -> usize
-        requires { 0 < end }
-        ensures { result < end }
-    {
-        self.0 = self
-            .0
-            .wrapping_mul(6_364_136_223_846_793_005)
-            .wrapping_add(1_442_695_040_888_963_407);
-        (self.0 >> 33) as usize % end
-    }
-}
 
 /// Makes one change to both.
 fn change(list: &mut Chunks<u64>, beside: &mut Vec<u64>, random: &mut Random) -> Result<(), Fail> {
