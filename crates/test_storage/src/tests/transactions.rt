@@ -7,6 +7,7 @@ mod calls;
 mod formats;
 mod gathering;
 mod held;
+mod unread;
 
 /// The sectors of each device here: the fewest that a journal takes.
 const SECTORS: u32 = 256;

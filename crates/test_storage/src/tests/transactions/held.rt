@@ -10,6 +10,7 @@ use disk::{Device, Update};
 use journal::{CACHED_SECTORS, Journal, JournalFault, LogArea};
 use std::alloc::{AllocError, Global};
 use std::num::NonZeroUsize;
+use std::ops::Range;
 
 /// The first sector that a transaction may write.
 const FIRST_TARGET: u32 = 98;
@@ -21,6 +22,9 @@ const BEHIND: LogArea = LogArea {
     end: 208,
     once: false,
 };
+
+/// Sectors that a format may leave as they are.
+const UNREAD: Range<u32> = 150..180;
 
 /// A call of a journal.
 #[derive(Clone, Copy)]
@@ -141,6 +145,11 @@ impl<D: Device> Held<D> {
         }
     }
 
+    /// Whether what is read of a sector means anything: it is not the journal's own.
+    pub(super) fn is_shown(&self, n: u32) -> bool {
+        n == 0 || (FIRST_TARGET <= n && n < self.end)
+    }
+
     /// The byte that the sector is filled with, or 255.
     pub(super) fn byte_at(&mut self, n: u32) -> Result<u8, JournalFault> {
         if n >= SECTORS {
@@ -188,4 +197,20 @@ pub(super) fn format<D: Device>(
         return Err(JournalFault::TooMany);
     }
     Journal::format(device, &filled(first), &updates(alloc, to, byte)?)
+}
+
+/// The same with the log after what transactions write: the log stays as it is, and so do sectors
+/// 150 to 179.
+pub(super) fn format_without<D: Device>(
+    alloc: Global,
+    device: &mut D,
+    first: u8,
+    others: (&[u32], u8),
+) -> Result<(), JournalFault> {
+    let (to, byte) = others;
+    if device.sectors() != SECTORS || !are_targets(to, BEHIND.end) {
+        return Err(JournalFault::TooMany);
+    }
+    let updates = updates(alloc, to, byte)?;
+    Journal::format_without(device, BEHIND, UNREAD, &filled(first), &updates)
 }
