@@ -18,7 +18,7 @@ struct Log {
     first: u32,
     // the last sector that a transaction may write
     last: u8,
-    // how many sectors are unsynced at most
+    // how many sectors a format leaves unsynced at most
     unsynced: usize,
 }
 
@@ -180,7 +180,7 @@ impl Trial {
         let stopped = format_until(alloc, old, stop, self.log)?;
         assert!(rt; stopped.is_stopped());
         let unsynced = stopped.unsynced(alloc)?;
-        if unsynced.len() <= 6 || unsynced.len() == self.log.unsynced {
+        if unsynced.len() <= 6 || unsynced.len() >= self.log.unsynced {
             return self.land_each(alloc, &stopped, &unsynced);
         }
         self.land(alloc, &stopped, &[])?;
