@@ -1,0 +1,3 @@
+pub mod NewLaws
+pub mod NodeLaws
+pub mod RaiseLaws

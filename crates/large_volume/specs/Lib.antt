@@ -1,0 +1,4 @@
+pub mod Faults
+pub mod New
+pub mod Nodes
+pub mod Runs
