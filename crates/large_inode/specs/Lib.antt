@@ -1,0 +1,4 @@
+pub mod Fields
+pub mod Ranges
+pub mod Reading
+pub mod Encoding
