@@ -1,0 +1,4 @@
+pub mod Every
+pub mod Heads
+pub mod ReadBack
+pub mod Slots
