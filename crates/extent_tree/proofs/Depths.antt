@@ -1,5 +1,6 @@
 -- The least depth.
 use Rattle.std.proofs.Common.{◌≡◌, ◌<◌, ◌≤◌, ◌*◌, ◌^◌, ℕ, zero, suc, true, false, leb, arith, inl, inr}
+use Rattle.std.proofs.Math.Nat.{mul-le-mul_left}
 use Rattle.std.proofs.lemmas.Bool.{cases_lt, le-leb, lt-leb}
 use Rattle.extent_tree.specs.Depth.{depth_of, IsDepth, DepthIsLeast}
 
@@ -57,3 +58,16 @@ span_small (suc zero) h = omega arith
 span_small (suc (suc zero)) h = omega arith
 span_small (suc (suc (suc zero))) h = omega arith
 span_small (suc (suc (suc (suc e)))) h = absurd (omega arith)
+
+index_span_small : (e : ℕ) → e < 3 → 512 ^ e ≤ 262144
+index_span_small zero h = omega arith
+index_span_small (suc zero) h = omega arith
+index_span_small (suc (suc zero)) h = omega arith
+index_span_small (suc (suc (suc e))) h = absurd (omega arith)
+
+-- the first block of an entry of an index sector
+pub index_span_fits : (e w i : ℕ) → e < 3 → w ≡ 512 ^ e → i < 512 → w * i < 2 ^ 32
+index_span_fits e w i h is lt =
+    let small : w ≤ 262144 = omega (arith, index_span_small e h) in
+    let few : i ≤ 512 = omega arith in
+    omega (arith, mul-le-mul_left w few)

@@ -51,7 +51,7 @@ module _ (index other : ℕ → List Entry) where
   below_same : (e : ℕ) (entry : Entry) → is_index entry ≡ true → AreSameAt (indexes_of index (suc e) entry) → (other entry.sector ≡ index entry.sector) × AreSameAt (indexes_in index e (index entry.sector))
   below_same e entry test same = subst AreSameAt (indexes-index index e entry test) same
 
-  same_blocks : (e : ℕ) (entry : Entry) → AreSameAt (indexes_of index e entry) → blocks_of other e entry ≡ blocks_of index e entry
+  pub same_blocks : (e : ℕ) (entry : Entry) → AreSameAt (indexes_of index e entry) → blocks_of other e entry ≡ blocks_of index e entry
   same_blocks zero entry same = refl
   same_blocks (suc e) entry same =
       elim (decided (is_index entry)) [
@@ -65,7 +65,7 @@ module _ (index other : ℕ → List Entry) where
   pub same_blocks_in : (e : ℕ) (xs : List Entry) → AreSameAt (indexes_in index e xs) → blocks_in other e xs ≡ blocks_in index e xs
   same_blocks_in e xs same = same_parts (blocks_of other e) (blocks_of index e) (indexes_of index e) (same_blocks e) xs same
 
-  same_indexes : (e : ℕ) (entry : Entry) → AreSameAt (indexes_of index e entry) → indexes_of other e entry ≡ indexes_of index e entry
+  pub same_indexes : (e : ℕ) (entry : Entry) → AreSameAt (indexes_of index e entry) → indexes_of other e entry ≡ indexes_of index e entry
   same_indexes zero entry same = refl
   same_indexes (suc e) entry same =
       elim (decided (is_index entry)) [
@@ -80,7 +80,7 @@ module _ (index other : ℕ → List Entry) where
   pub same_indexes_in : (e : ℕ) (xs : List Entry) → AreSameAt (indexes_in index e xs) → indexes_in other e xs ≡ indexes_in index e xs
   same_indexes_in e xs same = same_parts (indexes_of other e) (indexes_of index e) (indexes_of index e) (same_indexes e) xs same
 
-  same_tree : (e n : ℕ) (entry : Entry) → IsTree index e n entry → AreSameAt (indexes_of index e entry) → IsTree other e n entry
+  pub same_tree : (e n : ℕ) (entry : Entry) → IsTree index e n entry → AreSameAt (indexes_of index e entry) → IsTree other e n entry
   same_tree zero n entry h same = h
   same_tree (suc e) n entry h same = (
     h.0,

@@ -40,7 +40,7 @@ trees_more index e n m xs le h = each_more (IsTree index e) (tree_more index e) 
 
 -- ---- past the last block
 
-entry_count : (e n : ℕ) (entry : Entry) → IsEntry e n entry → entry.length ≤ n
+pub entry_count : (e n : ℕ) (entry : Entry) → IsEntry e n entry → entry.length ≤ n
 entry_count e n entry (inl is) = omega (arith, is.length)
 entry_count e n entry (inr (inl is)) = omega (arith, is.length)
 entry_count e n entry (inr (inr is)) = is.within
@@ -73,7 +73,7 @@ trees_past index e n k xs h le = past_in (blocks_of index e) (IsTree index e) (5
 
 -- ---- holes
 
-hole_tree : (index : ℕ → List Entry) (e n : ℕ) → IsTree index e n hole
+pub hole_tree : (index : ℕ → List Entry) (e n : ℕ) → IsTree index e n hole
 hole_tree index zero n = inl (record { sector = refl; length = refl })
 hole_tree index (suc e) n = (inl (record { sector = refl; length = refl }), λ test. absurd (false≢true test))
 
@@ -186,10 +186,10 @@ has_append xs ys h =
 has_behind : (xs ys : List (Option ℕ)) → HasBlock ys → HasBlock (xs ++ ys)
 has_behind xs ys h = (length xs + h.0, ap is_some (get_or-append-add xs ys h.0 None) ∙ h.1)
 
-index_test : (entry : Entry) → 0 < entry.sector → entry.length ≡ 0 → is_index entry ≡ true
+pub index_test : (entry : Entry) → 0 < entry.sector → entry.length ≡ 0 → is_index entry ≡ true
 index_test entry some none = let test : ltb 0 entry.sector ≡ true = lt-ltb 0 entry.sector some in rw (test, none) refl
 
-not_index : (entry : Entry) → 0 < entry.length → is_index entry ≡ false
+pub not_index : (entry : Entry) → 0 < entry.length → is_index entry ≡ false
 not_index entry some =
     elim (decided (is_index entry)) [
       | inl test ↦ let none : entry.length ≡ 0 = eqb-true entry.length 0 (and-right _ _ test) in absurd (omega arith)

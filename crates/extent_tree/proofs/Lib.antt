@@ -1,9 +1,12 @@
 pub mod Bytes
 pub mod Checking
+pub mod Changes
 pub mod Charges
+pub mod Counts
 pub mod Depths
 pub mod Frames
 pub mod Growing
 pub mod Maps
+pub mod Parts
 pub mod Shapes
 pub mod Trees

@@ -12,7 +12,9 @@ use Rattle.std.specs.BTreeMap.{is_at}
 use Rattle.std.proofs.lemmas.Map.Entries.{lookup_clone}
 use Rattle.extent_tree.specs.declared.entry.Entry.{Entry}
 use Rattle.extent_tree.specs.Held.{entries_at, entries_by, Blocks, blocks_by}
-use Rattle.extent_tree.specs.Tree.{IsRoot}
+use Rattle.extent_tree.specs.Setting.{AreDistinct}
+use Rattle.extent_tree.specs.Tree.{IsRoot, file_indexes}
+use Rattle.extent_tree.proofs.Counts.{distinct_as}
 use Rattle.extent_tree.proofs.Frames.{AreSameAt}
 
 same_node : {R : Type 0} → (items : R → List Entry) (D : R → R → Type 0) → ((v w : R) → D v w → items w ≡ items v) → (a b : Option R) → MatchOption a (b ≡ None) (λ v. IsSomeAnd b (D v)) → entries_at items b ≡ entries_at items a
@@ -34,6 +36,10 @@ root_of-clone index other b root found same here is = subst (IsRoot other b) (sy
 pub blocks_of-clone : (index other : ℕ → List Entry) (b : ℕ) (root found : List Entry) (seen : Blocks) → index ≡ other → found ≡ root → blocks_by index b root ≡ seen → blocks_by other b found ≡ seen
 blocks_of-clone index other b root found seen same here view_is =
     ap (blocks_by other b) here ∙ sym (ap (λ (f : ℕ → List Entry). blocks_by f b root) same) ∙ view_is
+
+pub distinct_of-clone : (index other : ℕ → List Entry) (b : ℕ) (root found : List Entry) → index ≡ other → found ≡ root → AreDistinct (file_indexes index b root) → AreDistinct (file_indexes other b found)
+distinct_of-clone index other b root found same here h =
+    distinct_as (file_indexes other b found) (file_indexes index b root) (ap (file_indexes other b) here ∙ sym (ap (λ (f : ℕ → List Entry). file_indexes f b root) same)) h
 
 abbrev pub Node : Type 0
 Node = Rc (Vec Entry Global) Global
@@ -61,6 +67,9 @@ inserted_here m n sector node entries h is = ap (entries_at items_of) h.1 ∙ is
 pub inserted_apart : (m n : BTreeMap ℕ Node) (sector : ℕ) (node : Node) (sectors : List ℕ) → Updates nat_cmp m n sector (Some node) → AllByRecursion (λ (s : ℕ). s ≢ sector) sectors → AreSameAt (entries_by items_of m) (entries_by items_of n) sectors
 inserted_apart m n sector node [] h apart = tt
 inserted_apart m n sector node (s ∷ sectors) h apart = (ap (entries_at items_of) (h.2 s (apart_at sector s apart.0)), inserted_apart m n sector node sectors h apart.1)
+
+pub inserted_other : (m n : BTreeMap ℕ Node) (sector : ℕ) (node : Node) → Updates nat_cmp m n sector (Some node) → (s : ℕ) → s ≢ sector → entries_by items_of n s ≡ entries_by items_of m s
+inserted_other m n sector node h s apart = ap (entries_at items_of) (h.2 s (apart_at sector s apart))
 
 -- a map that is unchanged has the same entries
 pub entries_by-unchanged : (m n : BTreeMap ℕ Node) → IsUnchanged m n → entries_by items_of m ≡ entries_by items_of n

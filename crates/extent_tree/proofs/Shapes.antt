@@ -21,7 +21,7 @@ get_or-replicate_None zero k = refl
 get_or-replicate_None (suc n) zero = refl
 get_or-replicate_None (suc n) (suc k) = get_or-replicate_None n k
 
-length-run : (span : ℕ) (entry : Entry) → entry.length ≤ span → length (run_of span entry) ≡ span
+pub length-run : (span : ℕ) (entry : Entry) → entry.length ≤ span → length (run_of span entry) ≡ span
 unfolding run_of
 length-run span entry h =
     let front : length (map {A = ℕ} {B = Option ℕ} (λ n. Some n) (range_with_len entry.sector entry.length)) ≡ entry.length = length-map-range_with_len (λ n. Some n) entry.sector entry.length in
@@ -253,7 +253,7 @@ holes : (count n : ℕ) (index : ℕ → List Entry) → EachWithin (IsTree inde
 holes count zero index = tt
 holes count (suc n) index = (inl (record { sector = refl; length = refl }), holes (count - 1) n index)
 
-no_indexes : (n : ℕ) (index : ℕ → List Entry) → indexes_in index 0 (replicate n hole) ≡ []
+pub no_indexes : (n : ℕ) (index : ℕ → List Entry) → indexes_in index 0 (replicate n hole) ≡ []
 no_indexes zero index = refl
 no_indexes (suc n) index = no_indexes n index
 

@@ -3,4 +3,5 @@ pub mod Depth
 pub mod Encoding
 pub mod Entries
 pub mod Held
+pub mod Setting
 pub mod Tree

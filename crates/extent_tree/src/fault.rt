@@ -1,6 +1,7 @@
-//! Why entries could not be read.
+//! Why entries could not be read, or a block not be set.
 
 ghost use Rattle.std.specs.Prelude.{◌≡◌};
+ghost use Rattle.extent_tree.specs.declared.fault.SetFault.TheVariants as set_fault;
 ghost use Rattle.extent_tree.specs.declared.fault.TreeFault.TheVariants.{Memory};
 
 use std::alloc::{AllocError, AllocFailed};
@@ -30,5 +31,32 @@ impl<T: Drop> From<AllocFailed<T>> for TreeFault {
 
     fn from(_e: AllocFailed<T>) -> TreeFault {
         TreeFault::Memory
+    }
+}
+
+/// Why a block could not get a sector.
+#[derive(Clone, Copy, Debug, PartialEq, Eq, Error)]
+pub enum SetFault {
+    /// The tree needs more index sectors than there are spare ones.
+    #[error("too few index sectors")]
+    TooFew,
+    /// Memory ran out.
+    #[error("out of memory")]
+    Memory,
+}
+
+impl From<AllocError> for SetFault {
+    ghost from_gives = { λ _ e. e ≡ set_fault.Memory };
+
+    fn from(_e: AllocError) -> SetFault {
+        SetFault::Memory
+    }
+}
+
+impl<T: Drop> From<AllocFailed<T>> for SetFault {
+    ghost from_gives = { λ _ e. e ≡ set_fault.Memory };
+
+    fn from(_e: AllocFailed<T>) -> SetFault {
+        SetFault::Memory
     }
 }

@@ -1,12 +1,15 @@
 //! The blocks of a file in memory.
 
-ghost use Rattle.std.specs.Prelude.{◌≡◌, ◌≢◌, ◌<◌, ◌≤◌, ◌+◌, ◌*◌, ◌^◌, ◌∷◌, Option, Some, None, length, nat_lt, slice_index_or, if◌then◌else◌, IfOk, OnOk, OnErr};
+ghost use Rattle.std.specs.Prelude.{◌≡◌, ◌≢◌, ◌<◌, ◌≤◌, ◌+◌, ◌*◌, ◌^◌, ◌∷◌, Option, Some, None, length, nat_lt, slice_index_or, slice_set, take, Err, ℕ, if◌then◌else◌, IfOk, OnOk, OnErr};
 ghost use Rattle.std.specs.List.{AllByRecursion, list_all};
 ghost use Rattle.extent_tree.specs.Depth.{depth_of};
 ghost use Rattle.extent_tree.specs.Held.{entries_by, no_blocks, blocks_by, with_room, root_above};
-ghost use Rattle.extent_tree.specs.Tree.{AreSomeTrees, IsRoot, blocks_in, is_hole, with_holes};
+ghost use Rattle.extent_tree.specs.Setting.{times, AreDistinct, AreFresh};
+ghost use Rattle.extent_tree.specs.Tree.{AreSomeTrees, IsRoot, blocks_in, file_indexes, is_hole, with_holes};
 
 use crate::entry::{Entry, INDEX_ENTRIES, ROOT_ENTRIES};
+use crate::fault::SetFault;
+use crate::setting::set_in_root;
 use crate::spans::{MAX_BLOCKS, MAX_DEPTH, depth, span};
 use std::alloc::{AllocError, Global};
 use std::collections::BTreeMap;
@@ -31,7 +34,8 @@ impl Model for ExtentTree {
     ghost use Rattle.std.specs.Prelude.{◌≤◌};
     ghost use Rattle.extent_tree.specs.declared.spans.TheConstants.{MAX_BLOCKS};
     ghost use Rattle.extent_tree.specs.Held.{Blocks, entries_by, blocks_by};
-    ghost use Rattle.extent_tree.specs.Tree.{IsRoot};
+    ghost use Rattle.extent_tree.specs.Setting.{AreDistinct};
+    ghost use Rattle.extent_tree.specs.Tree.{IsRoot, file_indexes};
 
     ghost Value = { Blocks };
 
@@ -39,7 +43,9 @@ impl Model for ExtentTree {
         t.root.value.items };
 
     ghost invariant = { λ t. IsRoot (entries_by (λ rc. rc.value.items) t.nodes) t.blocks
-        t.root.value.items × (t.blocks ≤ MAX_BLOCKS) };
+        t.root.value.items × (t.blocks ≤ MAX_BLOCKS)
+        × AreDistinct (file_indexes (entries_by (λ rc. rc.value.items) t.nodes) t.blocks
+        t.root.value.items) };
 }
 
 impl ExtentTree {
@@ -61,6 +67,8 @@ impl ExtentTree {
     ) -> Result<ExtentTree, AllocError>
         requires blocks { blocks ≤ MAX_BLOCKS }
         requires root { IsRoot (entries_by (λ rc. rc.value.items) nodes) blocks root.items }
+        requires once { AreDistinct
+            (file_indexes (entries_by (λ rc. rc.value.items) nodes) blocks root.items) }
         ensures { IfOk result (λ tree.
             tree ≡ blocks_by (entries_by (λ rc. rc.value.items) nodes) blocks root.items) }
     {
@@ -89,6 +97,7 @@ impl ExtentTree {
     pub fn len(&self) -> u32
         ensures count { result ≡ length self.now.sectors }
         ensures most { length self.now.sectors ≤ MAX_BLOCKS }
+        ensures once { AreDistinct self.now.indexes }
     {
         self.blocks
     }
@@ -101,6 +110,37 @@ impl ExtentTree {
             return None;
         }
         sector_in(&self.nodes, &self.root, depth(self.blocks), block)
+    }
+
+    /// Gives a sector to a block, which may have another or none. Takes the first of the spare sectors
+    /// as index sectors, as many as it returns.
+    ///
+    /// # Errors
+    /// `TooFew` only if there are fewer spare sectors than the tree is deep, and `Memory`; then
+    /// nothing changes.
+    pub fn set(&mut self, block: u32, sector: u32, spare: &[u32]) -> Result<usize, SetFault>
+        requires block { block < length self.old.sectors }
+        requires sector { 0 < sector }
+        requires spare { AreFresh spare.now self.old.indexes }
+        ensures sectors { OnOk result
+            (self.new.sectors ≡ slice_set self.old.sectors block (Some sector)) }
+        ensures indexes { IfOk result (λ taken. (s : ℕ) → times s self.new.indexes
+            ≡ times s self.old.indexes + times s (take taken spare.now)) }
+        ensures taken { IfOk result (λ taken. taken ≤ length spare.now) }
+        ensures few { result ≡ Err SetFault.TooFew
+            → length spare.now < depth_of (length self.old.sectors) }
+        ensures err { OnErr result (self.new ≡ self.old) }
+    {
+        let depth = depth(self.blocks);
+        set_in_root(
+            self.alloc,
+            &mut self.nodes,
+            &mut self.root,
+            depth,
+            block,
+            sector,
+            spare,
+        )
     }
 
     /// Puts holes at the end, so that there are `count` blocks. The tree gets at most one level

@@ -1,10 +1,11 @@
 use Rattle.std.proofs.Common.{Vec, Global, ◌≡◌, ◌∙◌, ap, true, false, sym, refl, arith, inl, inr}
 use Rattle.std.specs.List.{list_all}
 use Rattle.extent_tree.specs.declared.entry.Entry.{Entry}
-use Rattle.extent_tree.specs.Held.{entries_by, with_room, root_above}
+use Rattle.extent_tree.specs.Held.{Blocks, entries_by, with_room, root_above}
 use Rattle.extent_tree.specs.Tree.{is_hole}
+use Rattle.extent_tree.proofs.Counts.{distinct_as, distinct_more}
 use Rattle.extent_tree.proofs.Growing.{Stays, stays_root, stays_sectors, stays_indexes, Deepens, deepens_root, deepens_sectors, deepens_indexes}
-use Rattle.extent_tree.proofs.Maps.{items_of, root_of-clone, blocks_of-clone, inserted_here, inserted_apart, entries_by-unchanged, on_err}
+use Rattle.extent_tree.proofs.Maps.{items_of, root_of-clone, distinct_of-clone, blocks_of-clone, inserted_here, inserted_apart, entries_by-unchanged, on_err}
 use Rattle.extent_tree.proofs.tree.ExtentTree.grow.Goals as goal
 use Rattle.extent_tree.proofs.tree.ExtentTree.grow.Goals.{then-depth-via-then-depth, then-depth-via-else-depth+then-are_holes}
 
@@ -15,7 +16,7 @@ invariant_of-self c =
       | then-depth-via-then-depth w ↦ inl (sym c.depth.ensures.value ∙ w.if-depth.true ∙ c.depth-2.ensures.value)
       | then-depth-via-else-depth+then-are_holes w ↦ let all : list_all is_hole c.self.inside.root.value.items ≡ true = cc in inr all
     ] in
-    (stays_root _ c.self.inside.blocks c.args.count c.self.inside.root.value.items c.args.self.now (record { is = c.self.invariant.0; small = c.self.invariant.1; view_is = c.self.view_is; count = c.requires.count.0; most = c.requires.count.1 }) stays, c.requires.count.1)
+    (stays_root _ c.self.inside.blocks c.args.count c.self.inside.root.value.items c.args.self.now (record { is = c.self.invariant.0; small = c.self.invariant.1; view_is = c.self.view_is; count = c.requires.count.0; most = c.requires.count.1 }) stays, c.requires.count.1, distinct_as _ _ (stays_indexes _ c.self.inside.blocks c.args.count c.self.inside.root.value.items c.args.self.now (record { is = c.self.invariant.0; small = c.self.invariant.1; view_is = c.self.view_is; count = c.requires.count.0; most = c.requires.count.1 }) stays ∙ sym (ap (λ (x : Blocks). x.indexes) c.self.view_is)) c.self.invariant.2)
 
 pub returns-then-depth-clause-sectors : goal.returns-then-depth-clause-sectors
 returns-then-depth-clause-sectors c =
@@ -39,6 +40,7 @@ pub invariant_of-self-in_err-insert : goal.invariant_of-self-in_err-insert
 invariant_of-self-in_err-insert c = (
   root_of-clone _ _ c.self.inside.blocks c.self.inside.root.value.items c.self.inside.root.value.items (entries_by-unchanged c.self.inside.nodes c.insert.new.self c.in_err-insert.ensures.err) refl c.self.invariant.0,
   c.self.invariant.1,
+  distinct_of-clone _ _ c.self.inside.blocks c.self.inside.root.value.items c.self.inside.root.value.items (entries_by-unchanged c.self.inside.nodes c.insert.new.self c.in_err-insert.ensures.err) refl c.self.invariant.2,
 )
 
 pub returns-in_err-insert-clause-err : goal.returns-in_err-insert-clause-err
@@ -62,8 +64,12 @@ invariant_of-self-2 c =
       there = inserted_here c.self.inside.nodes c.insert.new.self c.args.sector c.in_ok-below.below (with_room c.self.inside.root.value.items) c.in_ok-insert.ensures.updates node;
       some = some;
       made = made;
-    } in
-    (deepens_root (entries_by items_of c.self.inside.nodes) (entries_by items_of c.insert.new.self) c.self.inside.blocks c.args.count c.args.sector c.self.inside.root.value.items c.in_ok-root.root.value.items c.args.self.now deepens, c.requires.count.1)
+    } in (
+      deepens_root (entries_by items_of c.self.inside.nodes) (entries_by items_of c.insert.new.self) c.self.inside.blocks c.args.count c.args.sector c.self.inside.root.value.items c.in_ok-root.root.value.items c.args.self.now deepens,
+      c.requires.count.1,
+      distinct_as _ _ (deepens_indexes (entries_by items_of c.self.inside.nodes) (entries_by items_of c.insert.new.self) c.self.inside.blocks c.args.count c.args.sector c.self.inside.root.value.items c.in_ok-root.root.value.items c.args.self.now deepens)
+          (distinct_more c.args.sector c.args.self.now.indexes c.requires.sector.1 (distinct_as _ _ (sym (ap (λ (x : Blocks). x.indexes) c.self.view_is)) c.self.invariant.2)),
+    )
 
 pub returns-clause-sectors : goal.returns-clause-sectors
 returns-clause-sectors c =
