@@ -329,7 +329,7 @@ at_default index mid d j sector xs i new taken y lt is h = subst (λ (x : Entry)
 
 -- ---- below an index sector
 
-run_entry : (e n : ℕ) (x : Entry) → IsEntry e n x → is_index x ≡ false → IsRun e x
+pub run_entry : (e n : ℕ) (x : Entry) → IsEntry e n x → is_index x ≡ false → IsRun e x
 run_entry e n x (inl is) test = record { whole = test; used = λ some. absurd (omega (arith, is.length)); span = omega (arith, is.length); fits = omega (arith, is.sector, is.length) }
 run_entry e n x (inr (inl is)) test = absurd (false≢true (sym test ∙ index_test x is.sector is.length))
 run_entry e n x (inr (inr is)) test = record { whole = test; used = λ some. is.sector; span = is.span; fits = is.fits }

@@ -77,7 +77,7 @@ pub hole_tree : (index : ℕ → List Entry) (e n : ℕ) → IsTree index e n ho
 hole_tree index zero n = inl (record { sector = refl; length = refl })
 hole_tree index (suc e) n = (inl (record { sector = refl; length = refl }), λ test. absurd (false≢true test))
 
-holes_in : (index : ℕ → List Entry) (e span count n : ℕ) → EachWithin (IsTree index e) span count (replicate n hole)
+pub holes_in : (index : ℕ → List Entry) (e span count n : ℕ) → EachWithin (IsTree index e) span count (replicate n hole)
 holes_in index e span count zero = tt
 holes_in index e span count (suc n) = (hole_tree index e (min count span), holes_in index e span (count - span) n)
 
@@ -88,7 +88,7 @@ hole_indexes : (index : ℕ → List Entry) (e : ℕ) → indexes_of index e hol
 hole_indexes index zero = refl
 hole_indexes index (suc e) = refl
 
-holes_indexes : (index : ℕ → List Entry) (e n : ℕ) → indexes_in index e (replicate n hole) ≡ []
+pub holes_indexes : (index : ℕ → List Entry) (e n : ℕ) → indexes_in index e (replicate n hole) ≡ []
 holes_indexes index e zero = refl
 holes_indexes index e (suc n) = ap₂ (λ (x y : List ℕ). x ++ y) (hole_indexes index e) (holes_indexes index e n)
 
@@ -150,7 +150,7 @@ and-left false b h = h
 same_entry : (entry : Entry) → entry.sector ≡ 0 → entry.length ≡ 0 → entry ≡ hole
 same_entry entry first second = rw (first, second) refl
 
-hole_is : (entry : Entry) → is_hole entry ≡ true → entry ≡ hole
+pub hole_is : (entry : Entry) → is_hole entry ≡ true → entry ≡ hole
 hole_is entry test =
     let first : entry.sector ≡ 0 = eqb-true entry.sector 0 (and-left _ _ test) in
     let second : entry.length ≡ 0 = eqb-true entry.length 0 (and-right _ _ test) in

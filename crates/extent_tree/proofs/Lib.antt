@@ -3,6 +3,7 @@ pub mod Checking
 pub mod Changes
 pub mod Charges
 pub mod Counts
+pub mod Cuts
 pub mod Depths
 pub mod Frames
 pub mod Growing

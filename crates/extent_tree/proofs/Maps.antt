@@ -71,6 +71,9 @@ inserted_apart m n sector node (s ∷ sectors) h apart = (ap (entries_at items_o
 pub inserted_other : (m n : BTreeMap ℕ Node) (sector : ℕ) (node : Node) → Updates nat_cmp m n sector (Some node) → (s : ℕ) → s ≢ sector → entries_by items_of n s ≡ entries_by items_of m s
 inserted_other m n sector node h s apart = ap (entries_at items_of) (h.2 s (apart_at sector s apart))
 
+pub removed_other : (m n : BTreeMap ℕ Node) (sector : ℕ) → Updates nat_cmp m n sector None → (s : ℕ) → s ≢ sector → entries_by items_of n s ≡ entries_by items_of m s
+removed_other m n sector h s apart = ap (entries_at items_of) (h.2 s (apart_at sector s apart))
+
 -- a map that is unchanged has the same entries
 pub entries_by-unchanged : (m n : BTreeMap ℕ Node) → IsUnchanged m n → entries_by items_of m ≡ entries_by items_of n
 entries_by-unchanged m n same =

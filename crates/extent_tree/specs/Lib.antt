@@ -1,4 +1,5 @@
 pub mod Charge
+pub mod Cutting
 pub mod Depth
 pub mod Encoding
 pub mod Entries

@@ -1,6 +1,7 @@
 //! The blocks of an inode of form three: a tree of extents.
 #![tactic(auto)]
 
+mod cutting;
 mod encoding;
 mod entry;
 mod fault;

@@ -48,7 +48,7 @@ fn part(entry: Entry, first: u32, span: u32) -> Entry
 }
 
 /// The entries at depth `depth` with the blocks of an entry above them.
-fn parts(alloc: Global, entry: Entry, depth: u8) -> Result<Vec<Entry>, AllocError>
+pub(crate) fn parts(alloc: Global, entry: Entry, depth: u8) -> Result<Vec<Entry>, AllocError>
     requires depth { depth < MAX_DEPTH }
     requires fits { entry.sector + entry.length ≤ 2 ^ 32 }
     ensures { IfOk result (λ made. AreParts depth entry made.items) }
@@ -153,9 +153,9 @@ pub(crate) fn set_below(
     Ok((own, taken))
 }
 
-/// Gives a sector to a block of a file, whose entries in the inode are `root`. Takes the first of the
-/// spare sectors as index sectors, as many as it returns. An `Err` changes no index sector but spare
-/// ones.
+/// Gives a sector to a block of a file, whose entries in the inode are `root`. Takes the first of
+/// the spare sectors as index sectors, as many as it returns. An `Err` changes no index sector but
+/// spare ones.
 pub(crate) fn set_in_root(
     alloc: Global,
     nodes: &mut Nodes,

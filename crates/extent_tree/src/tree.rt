@@ -7,6 +7,7 @@ ghost use Rattle.extent_tree.specs.Held.{entries_by, no_blocks, blocks_by, with_
 ghost use Rattle.extent_tree.specs.Setting.{times, AreDistinct, AreFresh};
 ghost use Rattle.extent_tree.specs.Tree.{AreSomeTrees, IsRoot, blocks_in, file_indexes, is_hole, with_holes};
 
+use crate::cutting::{cut, forget, lowered};
 use crate::entry::{Entry, INDEX_ENTRIES, ROOT_ENTRIES};
 use crate::fault::SetFault;
 use crate::setting::set_in_root;
@@ -112,8 +113,8 @@ impl ExtentTree {
         sector_in(&self.nodes, &self.root, depth(self.blocks), block)
     }
 
-    /// Gives a sector to a block, which may have another or none. Takes the first of the spare sectors
-    /// as index sectors, as many as it returns.
+    /// Gives a sector to a block, which may have another or none. Takes the first of the spare
+    /// sectors as index sectors, as many as it returns.
     ///
     /// # Errors
     /// `TooFew` only if there are fewer spare sectors than the tree is deep, and `Memory`; then
@@ -165,6 +166,30 @@ impl ExtentTree {
         self.root = root;
         self.blocks = count;
         Ok(true)
+    }
+
+    /// Keeps the first `len` blocks. Returns the index sectors that the tree no longer has. An `Err`
+    /// changes nothing.
+    pub fn truncate(&mut self, len: u32) -> Result<Vec<u32>, AllocError>
+        requires { len ≤ length self.old.sectors }
+        ensures sectors { OnOk result (self.new.sectors ≡ take len self.old.sectors) }
+        ensures indexes { IfOk result (λ freed. (s : ℕ) →
+            times s self.new.indexes + times s freed.items ≡ times s self.old.indexes) }
+        ensures err { OnErr result (self.new ≡ self.old) }
+    {
+        let from = depth(self.blocks);
+        let to = depth(len);
+        let mut nodes = self.nodes.clone()?;
+        let mut freed = Vec::new(self.alloc);
+        let copy = Vec::from_slice(self.alloc, self.root.as_slice())?;
+        let made = cut(self.alloc, &mut nodes, copy, from, len, &mut freed)?;
+        let made = lowered(self.alloc, &nodes, made, from, to, &mut freed)?;
+        let root = Rc::new(self.alloc, made)?;
+        forget(&mut nodes, &freed);
+        self.root = root;
+        self.nodes = nodes;
+        self.blocks = len;
+        Ok(freed)
     }
 }
 
