@@ -1,5 +1,5 @@
 -- A block gets a sector.
-use Rattle.std.proofs.Common.{◌≡◌, ◌≢◌, ◌<◌, ◌≤◌, ◌+◌, ◌-◌, ◌*◌, ◌/◌, ◌%◌, ◌^◌, ℕ, zero, suc, true, false, List, [], ◌∷◌, ◌++◌, Option, Some, None, Result, Ok, Err, IfOk, OnOk, OnErr, is_some, length, get_or, set, take, replicate, min, refl, sym, ap, ap₂, ◌∙◌, subst, arith, inl, inr}
+use Rattle.std.proofs.Common.{◌≡◌, ◌≢◌, ◌<◌, ◌≤◌, ◌+◌, ◌-◌, ◌*◌, ◌/◌, ◌%◌, ◌^◌, ℕ, zero, suc, true, false, List, [], ◌∷◌, ◌++◌, Option, Some, None, Result, Ok, Err, IfOk, OnOk, OnErr, is_some, length, get_or, map, set, take, replicate, min, refl, sym, ap, ap₂, ◌∙◌, subst, arith, inl, inr}
 use Rattle.std.specs.List.{flat_map, AllByRecursion}
 use Rattle.std.proofs.Math.Nat.{pow-suc, div-add-mod}
 use Rattle.std.proofs.Math.Seq.{take-set-lt}
@@ -7,6 +7,7 @@ use Rattle.std.proofs.lemmas.Bool.{cases_eq, cases_lt, false≢true}
 use Rattle.std.proofs.lemmas.Nat.{mod_below}
 use Rattle.std.proofs.lemmas.List.{ext_get_or, get_or_default, length-set, get_or-set_same, get_or-set_other, set-get_or, set-append_left, set-append_right}
 use Rattle.extent_tree.specs.declared.entry.Entry.{Entry}
+use Rattle.extent_tree.specs.declared.setting.Touched.{Touched}
 use Rattle.extent_tree.specs.Entries.{EachWithin, IsEntry}
 use Rattle.extent_tree.specs.Depth.{depth_of}
 use Rattle.extent_tree.specs.Held.{hole, Blocks, blocks_by}
@@ -599,6 +600,18 @@ module _ (index other : ℕ → List Entry) (b place sector : ℕ) (root new : L
   pub set_distinct : (spare : List ℕ) (n : ℕ) → taken ≡ take n spare → AreSpare spare (file_indexes index b root) → AreDistinct (file_indexes other b new)
   set_distinct spare n are h s = omega (arith, made.indexes s, h.once s, times-take s n spare, ap (times s) are)
 
+map_same : (index other : ℕ → List Entry) (xs : List ℕ) → AreSameAt index other xs → map other xs ≡ map index xs
+map_same index other [] same = refl
+map_same index other (x ∷ xs) same = ap₂ (λ (y : List Entry) (ys : List (List Entry)). y ∷ ys) same.0 (map_same index other xs same.1)
+
+pub same_held : (index other : ℕ → List Entry) (b : ℕ) (root : List Entry) → AreSameAt index other (file_indexes index b root) → blocks_by other b root ≡ blocks_by index b root
+same_held index other b root same =
+    let made : List (Option ℕ) → List ℕ → List (List Entry) → Blocks = λ sectors indexes nodes. record { sectors = sectors; indexes = indexes; root = root; nodes = nodes } in
+    let indexes : file_indexes other b root ≡ file_indexes index b root = same_indexes_in index other (depth_of b) root same in
+    let nodes : map other (file_indexes index b root) ≡ map index (file_indexes index b root) = map_same index other (file_indexes index b root) same in
+    let sectors : file_blocks other b root ≡ file_blocks index b root = ap (take b) (same_blocks_in index other (depth_of b) root same) in
+    rw (sectors, indexes, nodes) refl
+
 module _ (index other : ℕ → List Entry) (b : ℕ) (root : List Entry) (spare : List ℕ) (kept : AreKept index other spare) (h : AreSpare spare (file_indexes index b root)) where
   kept_same : AreSameAt index other (file_indexes index b root)
   kept_same = same_where index other (file_indexes index b root) (λ s some. kept s (omega (arith, h.once s)))
@@ -607,9 +620,7 @@ module _ (index other : ℕ → List Entry) (b : ℕ) (root : List Entry) (spare
   kept_root is = record { len = is.len; each = same_trees index other (depth_of b) b root is.each kept_same }
 
   pub kept_blocks : blocks_by other b root ≡ blocks_by index b root
-  kept_blocks =
-      let made : List (Option ℕ) → List ℕ → Blocks = λ sectors indexes. record { sectors = sectors; indexes = indexes } in
-      ap₂ made (ap (take b) (same_blocks_in index other (depth_of b) root kept_same)) (same_indexes_in index other (depth_of b) root kept_same)
+  kept_blocks = same_held index other b root kept_same
 
 pub spare_from : (spare indexes : List ℕ) → AreFresh spare indexes → AreDistinct indexes → AreSpare spare indexes
 spare_from spare indexes fresh once = record {
@@ -682,29 +693,30 @@ module _ (index : ℕ → List Entry) (b : ℕ) (root : List Entry) (seen : Bloc
     pub fail_blocks : blocks_by other b new ≡ seen
     fail_blocks = ap (blocks_by other b) same ∙ kept_blocks index other b root spare kept can_spare ∙ h.view_is
 
-  module _ {E : Type 0} (r : Result ℕ E) (other : ℕ → List Entry) (d place sector : ℕ) (new : List Entry) (is : d ≡ depth_of b) (lt : place < length seen.sectors) (made : IfOk r (λ n. AreBlocksSet index other d place sector root new (take n spare))) (kept : OnErr r (AreKept index other spare)) (same : OnErr r (new ≡ root)) where
+  -- whether it is done or not
+  module _ {E : Type 0} (r : Result Touched E) (other : ℕ → List Entry) (d place sector : ℕ) (new : List Entry) (is : d ≡ depth_of b) (lt : place < length seen.sectors) (made : IfOk r (λ t. AreBlocksSet index other d place sector root new (take t.taken spare))) (fail : OnErr r (AreKept index other spare × (new ≡ root))) where
     pub any_invariant : IsRoot other b new × (b ≤ 2 ^ 28) × AreDistinct (file_indexes other b new)
     any_invariant =
-        elim r as (λ q. IfOk q (λ n. AreBlocksSet index other d place sector root new (take n spare)) → OnErr q (AreKept index other spare) → OnErr q (new ≡ root) → IsRoot other b new × (b ≤ 2 ^ 28) × AreDistinct (file_indexes other b new)) [
-          | Ok n ↦ λ m k s. can_invariant other d place sector n new is lt m
-          | Err e ↦ λ m k s. fail_invariant other new k s
-        ] made kept same
+        elim r as (λ q. IfOk q (λ t. AreBlocksSet index other d place sector root new (take t.taken spare)) → OnErr q (AreKept index other spare × (new ≡ root)) → IsRoot other b new × (b ≤ 2 ^ 28) × AreDistinct (file_indexes other b new)) [
+          | Ok t ↦ λ m f. can_invariant other d place sector t.taken new is lt m
+          | Err e ↦ λ m f. fail_invariant other new f.0 f.1
+        ] made fail
 
     pub any_sectors : OnOk r (file_blocks other b new ≡ set seen.sectors place (Some sector))
     any_sectors =
-        elim r as (λ q. IfOk q (λ n. AreBlocksSet index other d place sector root new (take n spare)) → OnOk q (file_blocks other b new ≡ set seen.sectors place (Some sector))) [
-          | Ok n ↦ λ m. can_sectors other d place sector n new is lt m
+        elim r as (λ q. IfOk q (λ t. AreBlocksSet index other d place sector root new (take t.taken spare)) → OnOk q (file_blocks other b new ≡ set seen.sectors place (Some sector))) [
+          | Ok t ↦ λ m. can_sectors other d place sector t.taken new is lt m
           | Err e ↦ λ m. tt
         ] made
 
-    pub any_indexes : IfOk r (λ n. (s : ℕ) → times s (file_indexes other b new) ≡ times s seen.indexes + times s (take n spare))
+    pub any_indexes : IfOk r (λ t. (s : ℕ) → times s (file_indexes other b new) ≡ times s seen.indexes + times s (take t.taken spare))
     any_indexes =
-        elim r as (λ q. IfOk q (λ n. AreBlocksSet index other d place sector root new (take n spare)) → IfOk q (λ n. (s : ℕ) → times s (file_indexes other b new) ≡ times s seen.indexes + times s (take n spare))) [
-          | Ok n ↦ λ m. can_indexes other d place sector n new is lt m
+        elim r as (λ q. IfOk q (λ t. AreBlocksSet index other d place sector root new (take t.taken spare)) → IfOk q (λ t. (s : ℕ) → times s (file_indexes other b new) ≡ times s seen.indexes + times s (take t.taken spare))) [
+          | Ok t ↦ λ m. can_indexes other d place sector t.taken new is lt m
           | Err e ↦ λ m. tt
         ] made
 
     pub any_err : OnErr r (blocks_by other b new ≡ seen)
     any_err =
-        elim r as (λ q. OnErr q (AreKept index other spare) → OnErr q (new ≡ root) → OnErr q (blocks_by other b new ≡ seen)) [ Ok n ↦ λ k s. tt | Err e ↦ λ k s. fail_blocks other new k s ]
-        kept same
+        elim r as (λ q. OnErr q (AreKept index other spare × (new ≡ root)) → OnErr q (blocks_by other b new ≡ seen)) [ Ok t ↦ λ f. tt | Err e ↦ λ f. fail_blocks other new f.0 f.1 ]
+        fail

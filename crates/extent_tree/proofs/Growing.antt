@@ -129,13 +129,21 @@ root_more index b c root is le same = record {
   each = subst (λ (d : ℕ). AreTrees index d c root) (sym same) (trees_more index (depth_of b) b c root le is.each);
 }
 
-abbrev pub with_more : Blocks → (count : ℕ) → List ℕ → Blocks
+-- the sectors of the blocks, and the index sectors
+pub record Part : Type 0 where
+  pub sectors : List (Option ℕ)
+  pub indexes : List ℕ
+
+abbrev pub part_by : (index : ℕ → List Entry) → (b : ℕ) → List Entry → Part
+part_by index b root = record { sectors = file_blocks index b root; indexes = file_indexes index b root }
+
+abbrev pub with_more : Part → (count : ℕ) → List ℕ → Part
 with_more seen count indexes = record { sectors = with_holes seen.sectors count; indexes = indexes }
 
-same_seen : (a b : List (Option ℕ)) (x y : List ℕ) → a ≡ b → x ≡ y → (let first : Blocks = record { sectors = a; indexes = x } in let second : Blocks = record { sectors = b; indexes = y } in first ≡ second)
+same_seen : (a b : List (Option ℕ)) (x y : List ℕ) → a ≡ b → x ≡ y → (let first : Part = record { sectors = a; indexes = x } in let second : Part = record { sectors = b; indexes = y } in first ≡ second)
 same_seen a b x y p q = rw (p, q) refl
 
-pub blocks_more : (index : ℕ → List Entry) (b c : ℕ) (root : List Entry) → IsRoot index b root → b ≤ c → c ≤ 2 ^ 28 → depth_of c ≡ depth_of b → blocks_by index c root ≡ with_more (blocks_by index b root) c (file_indexes index b root)
+pub blocks_more : (index : ℕ → List Entry) (b c : ℕ) (root : List Entry) → IsRoot index b root → b ≤ c → c ≤ 2 ^ 28 → depth_of c ≡ depth_of b → part_by index c root ≡ with_more (part_by index b root) c (file_indexes index b root)
 blocks_more index b c root is le h same =
     same_seen _ _ _ _
     (grown_file index index b c root root is (root_more index b c root is le same) le h (λ k. ap (λ (d : ℕ). get_or (blocks_in index d root) k None) same))
@@ -165,7 +173,7 @@ root_of_holes index b c root is none =
     let all : root ≡ replicate 256 hole = holes_are root none ∙ ap (λ (n : ℕ). replicate n hole) is.len in
     record { len = is.len; each = subst (AreTrees index (depth_of c) c) (sym all) (holes_in index (depth_of c) (512 ^ depth_of c) c 256) }
 
-pub blocks_of_holes : (index : ℕ → List Entry) (b c : ℕ) (root : List Entry) → IsRoot index b root → b ≤ c → c ≤ 2 ^ 28 → list_all is_hole root ≡ true → blocks_by index c root ≡ with_more (blocks_by index b root) c (file_indexes index b root)
+pub blocks_of_holes : (index : ℕ → List Entry) (b c : ℕ) (root : List Entry) → IsRoot index b root → b ≤ c → c ≤ 2 ^ 28 → list_all is_hole root ≡ true → part_by index c root ≡ with_more (part_by index b root) c (file_indexes index b root)
 blocks_of_holes index b c root is le h none =
     let all : root ≡ replicate 256 hole = holes_are root none ∙ ap (λ (n : ℕ). replicate n hole) is.len in
     let blocks = λ (d k : ℕ). ap (λ (xs : List Entry). get_or (blocks_in index d xs) k None) all ∙ holes_none index d 256 k in
@@ -280,7 +288,7 @@ deeper_root index other b c sector root is le h deep used fits same there test =
     }
 
 pub deeper_file : (index other : ℕ → List Entry) (b c sector : ℕ) (root : List Entry) → IsRoot index b root → b ≤ c → c ≤ 2 ^ 28 → depth_of c ≡ depth_of b + 1 → 0 < sector → sector < 2 ^ 32 → AreSameAt index other (file_indexes index b root) → other sector ≡ with_room root
-    → list_all is_hole root ≡ false → blocks_by other c (root_above sector) ≡ with_more (blocks_by index b root) c (sector ∷ file_indexes index b root)
+    → list_all is_hole root ≡ false → part_by other c (root_above sector) ≡ with_more (part_by index b root) c (sector ∷ file_indexes index b root)
 deeper_file index other b c sector root is le h deep used fits same there test =
     let up : suc (depth_of b) ≡ depth_of c = omega arith in
     let spans : b ≤ 256 * 512 ^ depth_of b = (least b (omega arith)).spans in
@@ -306,7 +314,7 @@ pub record CanGrow (index : ℕ → List Entry) (b c : ℕ) (root : List Entry) 
 not_fewer : (index : ℕ → List Entry) (b c : ℕ) (root : List Entry) (seen : Blocks) → CanGrow index b c root seen → b ≤ c
 not_fewer index b c root seen can = omega (arith, can.count, count_is index b root seen can.is can.small can.view_is)
 
-stays_more : (index : ℕ → List Entry) (b c : ℕ) (root : List Entry) (seen : Blocks) → CanGrow index b c root seen → Stays b c root → blocks_by index c root ≡ with_more (blocks_by index b root) c (file_indexes index b root)
+stays_more : (index : ℕ → List Entry) (b c : ℕ) (root : List Entry) (seen : Blocks) → CanGrow index b c root seen → Stays b c root → part_by index c root ≡ with_more (part_by index b root) c (file_indexes index b root)
 stays_more index b c root seen can (inl same) = blocks_more index b c root can.is (not_fewer index b c root seen can) can.most same
 stays_more index b c root seen can (inr none) = blocks_of_holes index b c root can.is (not_fewer index b c root seen can) can.most none
 
@@ -316,11 +324,11 @@ stays_root index b c root seen can (inr none) = root_of_holes index b c root can
 
 pub stays_sectors : (index : ℕ → List Entry) (b c : ℕ) (root : List Entry) (seen : Blocks) → CanGrow index b c root seen → Stays b c root → file_blocks index c root ≡ with_holes seen.sectors c
 stays_sectors index b c root seen can stays =
-    ap (λ (x : Blocks). x.sectors) (stays_more index b c root seen can stays) ∙ ap (λ (x : Blocks). with_holes x.sectors c) can.view_is
+    ap (λ (x : Part). x.sectors) (stays_more index b c root seen can stays) ∙ ap (λ (x : Blocks). with_holes x.sectors c) can.view_is
 
 pub stays_indexes : (index : ℕ → List Entry) (b c : ℕ) (root : List Entry) (seen : Blocks) → CanGrow index b c root seen → Stays b c root → file_indexes index c root ≡ seen.indexes
 stays_indexes index b c root seen can stays =
-    ap (λ (x : Blocks). x.indexes) (stays_more index b c root seen can stays) ∙ ap (λ (x : Blocks). x.indexes) can.view_is
+    ap (λ (x : Part). x.indexes) (stays_more index b c root seen can stays) ∙ ap (λ (x : Blocks). x.indexes) can.view_is
 
 -- `other` has the entries of one more index sector, and `new` those of the inode above it
 pub record Deepens (index other : ℕ → List Entry) (b c sector : ℕ) (root new : List Entry) (seen : Blocks) : Type 0 where
@@ -354,14 +362,14 @@ module _ (index other : ℕ → List Entry) (b c sector : ℕ) (root new : List 
   pub deepens_root : IsRoot other c new
   deepens_root = subst (IsRoot other c) (sym h.made) (deeper_root index other b c sector root h.can.is more h.can.most deep h.used h.fits same_at h.there h.some)
 
-  deepens_more : blocks_by other c new ≡ with_more (blocks_by index b root) c (sector ∷ file_indexes index b root)
-  deepens_more = ap (blocks_by other c) h.made ∙ deeper_file index other b c sector root h.can.is more h.can.most deep h.used h.fits same_at h.there h.some
+  deepens_more : part_by other c new ≡ with_more (part_by index b root) c (sector ∷ file_indexes index b root)
+  deepens_more = ap (part_by other c) h.made ∙ deeper_file index other b c sector root h.can.is more h.can.most deep h.used h.fits same_at h.there h.some
 
   pub deepens_sectors : file_blocks other c new ≡ with_holes seen.sectors c
-  deepens_sectors = ap (λ (x : Blocks). x.sectors) deepens_more ∙ ap (λ (x : Blocks). with_holes x.sectors c) h.can.view_is
+  deepens_sectors = ap (λ (x : Part). x.sectors) deepens_more ∙ ap (λ (x : Blocks). with_holes x.sectors c) h.can.view_is
 
   pub deepens_indexes : file_indexes other c new ≡ sector ∷ seen.indexes
-  deepens_indexes = ap (λ (x : Blocks). x.indexes) deepens_more ∙ ap (λ (x : Blocks). sector ∷ x.indexes) h.can.view_is
+  deepens_indexes = ap (λ (x : Part). x.indexes) deepens_more ∙ ap (λ (x : Blocks). sector ∷ x.indexes) h.can.view_is
 
 -- the entries of an inode above an index sector
 set_first : (n : ℕ) (x : Entry) → set (replicate (suc n) hole) 0 x ≡ x ∷ replicate n hole

@@ -2,6 +2,7 @@ pub mod Bytes
 pub mod Checking
 pub mod Changes
 pub mod Charges
+pub mod Contents
 pub mod Counts
 pub mod Cuts
 pub mod Depths

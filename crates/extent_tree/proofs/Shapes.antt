@@ -1,5 +1,5 @@
 -- The blocks of entries, by their places.
-use Rattle.std.proofs.Common.{◌≡◌, ◌<◌, ◌≤◌, ◌+◌, ◌-◌, ◌*◌, ◌/◌, ◌%◌, ◌^◌, ◌&&◌, ℕ, zero, suc, Bool, true, false, cond, ltb, List, [], ◌∷◌, ◌++◌, Option, Some, None, Result, Ok, Err, IfOk, length, get_or, map, replicate, min, refl, sym, ap, ◌∙◌, subst, arith, inl, inr}
+use Rattle.std.proofs.Common.{◌≡◌, ◌<◌, ◌≤◌, ◌+◌, ◌-◌, ◌*◌, ◌/◌, ◌%◌, ◌^◌, ◌&&◌, ℕ, zero, suc, Bool, true, false, cond, ltb, List, [], ◌∷◌, ◌++◌, Option, Some, None, Result, Ok, Err, IfOk, length, get_or, map, replicate, min, refl, sym, ap, ap₂, ◌∙◌, subst, arith, inl, inr}
 use Rattle.std.specs.List.{flat_map, range_with_len, AllByRecursion}
 use Rattle.std.proofs.Math.Nat.{pow-suc, mul_comm, div-add-mod'}
 use Rattle.std.proofs.lemmas.Bool.{cases_lt, lt-ltb, le-ltb, eqb-true, false≢true}
@@ -262,8 +262,8 @@ IsRoot-none index root is = subst (IsRoot index 0) (sym is) (record { len = leng
 
 none_is : (index : ℕ → List Entry) (root : List Entry) → root ≡ replicate 256 hole → blocks_by index 0 root ≡ no_blocks
 none_is index root is =
-    let made : List ℕ → Blocks = λ indexes. record { sectors = []; indexes = indexes } in
-    ap made (ap (file_indexes index 0) is ∙ no_indexes 256 index)
+    let made : List ℕ → List Entry → Blocks = λ indexes here. record { sectors = []; indexes = indexes; root = here; nodes = map index indexes } in
+    ap₂ made (ap (file_indexes index 0) is ∙ no_indexes 256 index) is
 
 pub none_if_ok : {E : Type 0} → (r : Result Blocks E) (index : ℕ → List Entry) (root : List Entry) → root ≡ replicate 256 hole → IfOk r (λ tree. tree ≡ blocks_by index 0 root) → IfOk r (λ tree. tree ≡ no_blocks)
 none_if_ok (Ok tree) index root is h = h ∙ none_is index root is

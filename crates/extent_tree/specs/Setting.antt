@@ -1,5 +1,5 @@
 -- What a tree is once a block has another sector.
-use Rattle.std.specs.Prelude.{◌≡◌, ◌≢◌, ◌<◌, ◌≤◌, ◌+◌, ◌*◌, ◌-◌, ◌^◌, ◌==◌, ℕ, false, List, [], ◌∷◌, Some, length, min, nat_lt, if◌then◌else◌, slice_set, slice_index_or}
+use Rattle.std.specs.Prelude.{◌≡◌, ◌≢◌, ◌<◌, ◌≤◌, ◌+◌, ◌*◌, ◌-◌, ◌^◌, ◌==◌, ℕ, false, List, [], ◌∷◌, Option, Some, None, length, min, nat_lt, if◌then◌else◌, slice_set, slice_index_or}
 use Rattle.std.specs.List.{AllByRecursion}
 use Rattle.extent_tree.specs.declared.entry.Entry.{Entry}
 use Rattle.extent_tree.specs.Held.{hole}
@@ -28,6 +28,11 @@ pub record AreSpare (spare indexes : List ℕ) : Type 0 where
 -- other index sectors than these keep their entries
 abbrev pub AreKept : (index other : ℕ → List Entry) → List ℕ → Type 0
 AreKept index other sectors = (s : ℕ) → times s sectors ≡ 0 → other s ≡ index s
+
+-- a sector, if there is one
+abbrev pub listed : Option ℕ → List ℕ
+listed None = []
+listed (Some s) = s ∷ []
 
 -- a hole, or an extent at depth e
 pub record IsRun (e : ℕ) (entry : Entry) : Type 0 where

@@ -15,6 +15,7 @@ pub use encoding::{put_entries, read_index, read_root, write_index};
 pub use entry::{Entry, INDEX_ENTRIES, ROOT_ENTRIES, are_entries, is_entry};
 pub use fault::{SetFault, TreeFault};
 pub use laws::{charge_covers, depth_is_least, reads_back};
+pub use setting::Touched;
 pub use spans::{MAX_BLOCKS, MAX_DEPTH, depth, span};
 pub use tree::{ExtentTree, Nodes};
 pub use tree_check::is_root;

@@ -1,8 +1,8 @@
 //! A block gets a sector.
 
-ghost use Rattle.std.specs.Prelude.{◌≡◌, ◌<◌, ◌≤◌, ◌+◌, ◌*◌, ◌^◌, [], ◌∷◌, Err, length, take, slice_set, MatchOption, IfOk, OnErr};
+ghost use Rattle.std.specs.Prelude.{◌≡◌, ◌<◌, ◌≤◌, ◌+◌, ◌*◌, ◌^◌, [], ◌∷◌, ◌++◌, Err, length, take, slice_set, MatchOption, IfOk, OnErr};
 ghost use Rattle.extent_tree.specs.Held.{entries_by};
-ghost use Rattle.extent_tree.specs.Setting.{times, AreSpare, AreKept, IsRun, IsRunSet, part_of, AreParts, IsBlockSet, AreBlocksSet};
+ghost use Rattle.extent_tree.specs.Setting.{times, listed, AreSpare, AreKept, IsRun, IsRunSet, part_of, AreParts, IsBlockSet, AreBlocksSet};
 ghost use Rattle.extent_tree.specs.Tree.{AreSomeTrees, indexes_in};
 
 use crate::entry::{Entry, INDEX_ENTRIES};
@@ -11,6 +11,15 @@ use crate::spans::{MAX_DEPTH, span};
 use crate::tree::{Nodes, entries_of};
 use std::alloc::{AllocError, Global};
 use std::rc::Rc;
+
+/// What changed with a block's new sector.
+#[derive(Clone, Copy, Debug, PartialEq, Eq)]
+pub struct Touched {
+    /// How many spare sectors became index sectors, from the first on.
+    pub taken: usize,
+    /// The index sector that has other entries than before; none if only the inode's changed.
+    pub changed: Option<u32>,
+}
 
 /// The entry with a sector for the block at a place, if an extent has its blocks.
 fn run_with(entry: Entry, place: u32, sector: u32) -> Option<Entry>
@@ -154,8 +163,7 @@ pub(crate) fn set_below(
 }
 
 /// Gives a sector to a block of a file, whose entries in the inode are `root`. Takes the first of
-/// the spare sectors as index sectors, as many as it returns. An `Err` changes no index sector but
-/// spare ones.
+/// the spare sectors as index sectors. An `Err` changes no index sector but spare ones.
 pub(crate) fn set_in_root(
     alloc: Global,
     nodes: &mut Nodes,
@@ -164,20 +172,22 @@ pub(crate) fn set_in_root(
     block: u32,
     sector: u32,
     spare: &[u32],
-) -> Result<usize, SetFault>
+) -> Result<Touched, SetFault>
     requires depth { depth ≤ MAX_DEPTH }
     requires trees { AreSomeTrees (entries_by (λ rc. rc.value.items) nodes.old) depth
         root.old.value.items }
     requires block { (block < 512 ^ depth * length root.old.value.items) × (0 < sector) }
     requires spare { AreSpare spare.now
         (indexes_in (entries_by (λ rc. rc.value.items) nodes.old) depth root.old.value.items) }
-    ensures ok { IfOk result (λ taken. AreBlocksSet (entries_by (λ rc. rc.value.items) nodes.old)
+    ensures ok { IfOk result (λ touched. AreBlocksSet (entries_by (λ rc. rc.value.items) nodes.old)
         (entries_by (λ rc. rc.value.items) nodes.new) depth block sector root.old.value.items
-        root.new.value.items (take taken spare.now)) }
-    ensures taken { IfOk result (λ taken. taken ≤ length spare.now) }
+        root.new.value.items (take touched.taken spare.now)) }
+    ensures kept { IfOk result (λ touched. AreKept (entries_by (λ rc. rc.value.items) nodes.old)
+        (entries_by (λ rc. rc.value.items) nodes.new) (listed touched.changed ++ spare.now)) }
+    ensures taken { IfOk result (λ touched. touched.taken ≤ length spare.now) }
     ensures err { OnErr result (AreKept (entries_by (λ rc. rc.value.items) nodes.old)
-        (entries_by (λ rc. rc.value.items) nodes.new) spare.now) }
-    ensures same { OnErr result (root.new.value.items ≡ root.old.value.items) }
+        (entries_by (λ rc. rc.value.items) nodes.new) spare.now
+        × (root.new.value.items ≡ root.old.value.items)) }
     ensures few { result ≡ Err SetFault.TooFew → length spare.now < depth }
 {
     let entries = root.as_slice();
@@ -186,13 +196,19 @@ pub(crate) fn set_in_root(
     let entry = entries[at];
     let place = block % span;
     if entry.is_index() {
-        let (_, taken) = set_below(alloc, nodes, entry.sector, depth - 1, place, sector, spare)?;
-        return Ok(taken);
+        let (own, taken) = set_below(alloc, nodes, entry.sector, depth - 1, place, sector, spare)?;
+        return Ok(Touched {
+            taken,
+            changed: Some(own),
+        });
     }
     let (entry, taken) = with_block(alloc, nodes, entry, depth, place, sector, spare)?;
     let copy = Vec::from_slice(alloc, entries)?;
     *root = node_with(alloc, copy, at, entry)?;
-    Ok(taken)
+    Ok(Touched {
+        taken,
+        changed: None,
+    })
 }
 
 /// A node with these entries, one of them put in place of another.

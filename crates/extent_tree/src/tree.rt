@@ -1,16 +1,16 @@
 //! The blocks of a file in memory.
 
-ghost use Rattle.std.specs.Prelude.{◌≡◌, ◌≢◌, ◌<◌, ◌≤◌, ◌+◌, ◌*◌, ◌^◌, ◌∷◌, Option, Some, None, length, nat_lt, slice_index_or, slice_set, take, Err, ℕ, if◌then◌else◌, IfOk, OnOk, OnErr};
+ghost use Rattle.std.specs.Prelude.{◌≡◌, ◌≢◌, ◌<◌, ◌≤◌, ◌+◌, ◌*◌, ◌^◌, [], ◌∷◌, ◌++◌, Option, Some, None, length, nat_lt, slice_index_or, slice_set, take, Err, ℕ, if◌then◌else◌, IfOk, OnOk, OnErr};
 ghost use Rattle.std.specs.List.{AllByRecursion, list_all};
 ghost use Rattle.extent_tree.specs.Depth.{depth_of};
-ghost use Rattle.extent_tree.specs.Held.{entries_by, no_blocks, blocks_by, with_room, root_above};
-ghost use Rattle.extent_tree.specs.Setting.{times, AreDistinct, AreFresh};
+ghost use Rattle.extent_tree.specs.Held.{AreHeld, entries_by, held_entries, no_blocks, blocks_by, with_room, root_above};
+ghost use Rattle.extent_tree.specs.Setting.{times, listed, AreDistinct, AreFresh, AreKept};
 ghost use Rattle.extent_tree.specs.Tree.{AreSomeTrees, IsRoot, blocks_in, file_indexes, is_hole, with_holes};
 
 use crate::cutting::{cut, forget, lowered};
 use crate::entry::{Entry, INDEX_ENTRIES, ROOT_ENTRIES};
 use crate::fault::SetFault;
-use crate::setting::set_in_root;
+use crate::setting::{Touched, set_in_root};
 use crate::spans::{MAX_BLOCKS, MAX_DEPTH, depth, span};
 use std::alloc::{AllocError, Global};
 use std::collections::BTreeMap;
@@ -22,7 +22,7 @@ pub type Nodes = BTreeMap<u32, Rc<Vec<Entry>>>;
 
 /// The sector of each block of a file, as a tree of extents; a block without a sector is a hole.
 ///
-/// Contracts see the list of the sectors, and that of the index sectors.
+/// Contracts see the list of the sectors, that of the index sectors, and their entries.
 #[derive(Drop)]
 pub struct ExtentTree {
     alloc: Global,
@@ -103,6 +103,22 @@ impl ExtentTree {
         self.blocks
     }
 
+    /// The entries in the inode. They and those of the index sectors are the tree.
+    pub fn root(&self) -> &[Entry]
+        ensures value { result.now ≡ self.now.root }
+        ensures held { AreHeld self.now }
+    {
+        &self.root
+    }
+
+    /// The entries of an index sector.
+    pub fn index(&self, sector: u32) -> &[Entry]
+        requires { 0 < times sector self.now.indexes }
+        ensures { result.now ≡ held_entries self.now sector }
+    {
+        entries_of(&self.nodes, sector)
+    }
+
     /// The sector of a block; none if it is a hole, or past the last block.
     pub fn at(&self, block: u32) -> Option<u32>
         ensures { result ≡ slice_index_or self.now.sectors block None }
@@ -114,20 +130,23 @@ impl ExtentTree {
     }
 
     /// Gives a sector to a block, which may have another or none. Takes the first of the spare
-    /// sectors as index sectors, as many as it returns.
+    /// sectors as index sectors. Returns how many, and which index sector has other entries.
     ///
     /// # Errors
     /// `TooFew` only if there are fewer spare sectors than the tree is deep, and `Memory`; then
     /// nothing changes.
-    pub fn set(&mut self, block: u32, sector: u32, spare: &[u32]) -> Result<usize, SetFault>
+    pub fn set(&mut self, block: u32, sector: u32, spare: &[u32]) -> Result<Touched, SetFault>
         requires block { block < length self.old.sectors }
         requires sector { 0 < sector }
         requires spare { AreFresh spare.now self.old.indexes }
         ensures sectors { OnOk result
             (self.new.sectors ≡ slice_set self.old.sectors block (Some sector)) }
-        ensures indexes { IfOk result (λ taken. (s : ℕ) → times s self.new.indexes
-            ≡ times s self.old.indexes + times s (take taken spare.now)) }
-        ensures taken { IfOk result (λ taken. taken ≤ length spare.now) }
+        ensures indexes { IfOk result (λ touched. (s : ℕ) → times s self.new.indexes
+            ≡ times s self.old.indexes + times s (take touched.taken spare.now)) }
+        ensures taken { IfOk result (λ touched. touched.taken ≤ length spare.now) }
+        ensures kept { IfOk result (λ touched.
+            AreKept (held_entries self.old) (held_entries self.new)
+            (listed touched.changed ++ take touched.taken spare.now)) }
         ensures few { result ≡ Err SetFault.TooFew
             → length spare.now < depth_of (length self.old.sectors) }
         ensures err { OnErr result (self.new ≡ self.old) }
@@ -154,6 +173,9 @@ impl ExtentTree {
         ensures sectors { OnOk result (self.new.sectors ≡ with_holes self.old.sectors count) }
         ensures indexes { IfOk result (λ taken. self.new.indexes
             ≡ (if taken then sector ∷ self.old.indexes else self.old.indexes)) }
+        ensures kept { IfOk result (λ taken.
+            AreKept (held_entries self.old) (held_entries self.new)
+            (if taken then sector ∷ [] else [])) }
         ensures err { OnErr result (self.new ≡ self.old) }
     {
         if depth(count) == depth(self.blocks) || are_holes(&self.root) {

@@ -50,7 +50,7 @@ returns-then-is_index-clause-ok c =
     let found : c.as_slice-entries.result.now ≡ c.args.root.now.value.items = cc in
     let h = is_in_root index c.args.depth c.args.block c.span-span.result c.args.root.now.value.items c.args.spare.now c.as_slice-entries.result.now found c.requires.trees c.requires.block.0 c.span-span.ensures c.requires.spare in
     let test : is_index y ≡ true = sym c.is_index.ensures ∙ c.if-is_index.true in
-    up_set index c.args.depth (c.args.depth - 1) c.args.block c.span-span.result c.args.root.now.value.items c.args.spare.now y h test refl (entries_by items_of c.set_below.new.nodes) c.args.sector c.in_ok-taken.field-0-0 (take c.in_ok-taken.taken c.args.spare.now) c.in_ok-taken.ensures.ok c.in_ok-taken.ensures.kept.0 c.in_ok-taken.ensures.kept.1
+    up_set index c.args.depth (c.args.depth - 1) c.args.block c.span-span.result c.args.root.now.value.items c.args.spare.now y h test refl (entries_by items_of c.set_below.new.nodes) c.args.sector c.in_ok-own.own (take c.in_ok-own.taken c.args.spare.now) c.in_ok-own.ensures.ok c.in_ok-own.ensures.kept.0 c.in_ok-own.ensures.kept.1
 
 pub with_block-requires-clause-run : goal.with_block-requires-clause-run
 with_block-requires-clause-run c =

@@ -1,6 +1,7 @@
 use Rattle.extent_tree.specs.Held.{entries_by}
 use Rattle.extent_tree.proofs.Maps.{items_of}
 use Rattle.extent_tree.proofs.Changes.{CanSet, can_trees, can_spare_at, can_few, any_invariant, any_sectors, any_indexes, any_err}
+use Rattle.extent_tree.proofs.Contents.{any_kept}
 use Rattle.extent_tree.proofs.tree.ExtentTree.set.Goals as goal
 
 pub set_in_root-requires-clause-trees : goal.set_in_root-requires-clause-trees
@@ -19,19 +20,19 @@ pub invariant_of-self : goal.invariant_of-self
 invariant_of-self c =
     let index = entries_by items_of c.self.inside.nodes in
     let can : CanSet index c.self.inside.blocks c.self.inside.root.value.items c.args.self.now c.args.spare.now = record { is = c.self.invariant.0; small = c.self.invariant.1; once = c.self.invariant.2; view_is = c.self.view_is; fresh = c.requires.spare } in
-    any_invariant index c.self.inside.blocks c.self.inside.root.value.items c.args.self.now c.args.spare.now can c.set_in_root.result (entries_by items_of c.set_in_root.new.nodes) c.depth-depth.result c.args.block c.args.sector c.set_in_root.new.root.value.items c.depth-depth.ensures.value c.requires.block c.set_in_root.ensures.ok c.set_in_root.ensures.err c.set_in_root.ensures.same
+    any_invariant index c.self.inside.blocks c.self.inside.root.value.items c.args.self.now c.args.spare.now can c.set_in_root.result (entries_by items_of c.set_in_root.new.nodes) c.depth-depth.result c.args.block c.args.sector c.set_in_root.new.root.value.items c.depth-depth.ensures.value c.requires.block c.set_in_root.ensures.ok c.set_in_root.ensures.err
 
 pub returns-clause-sectors : goal.returns-clause-sectors
 returns-clause-sectors c =
     let index = entries_by items_of c.self.inside.nodes in
     let can : CanSet index c.self.inside.blocks c.self.inside.root.value.items c.args.self.now c.args.spare.now = record { is = c.self.invariant.0; small = c.self.invariant.1; once = c.self.invariant.2; view_is = c.self.view_is; fresh = c.requires.spare } in
-    any_sectors index c.self.inside.blocks c.self.inside.root.value.items c.args.self.now c.args.spare.now can c.set_in_root.result (entries_by items_of c.set_in_root.new.nodes) c.depth-depth.result c.args.block c.args.sector c.set_in_root.new.root.value.items c.depth-depth.ensures.value c.requires.block c.set_in_root.ensures.ok c.set_in_root.ensures.err c.set_in_root.ensures.same
+    any_sectors index c.self.inside.blocks c.self.inside.root.value.items c.args.self.now c.args.spare.now can c.set_in_root.result (entries_by items_of c.set_in_root.new.nodes) c.depth-depth.result c.args.block c.args.sector c.set_in_root.new.root.value.items c.depth-depth.ensures.value c.requires.block c.set_in_root.ensures.ok c.set_in_root.ensures.err
 
 pub returns-clause-indexes : goal.returns-clause-indexes
 returns-clause-indexes c =
     let index = entries_by items_of c.self.inside.nodes in
     let can : CanSet index c.self.inside.blocks c.self.inside.root.value.items c.args.self.now c.args.spare.now = record { is = c.self.invariant.0; small = c.self.invariant.1; once = c.self.invariant.2; view_is = c.self.view_is; fresh = c.requires.spare } in
-    any_indexes index c.self.inside.blocks c.self.inside.root.value.items c.args.self.now c.args.spare.now can c.set_in_root.result (entries_by items_of c.set_in_root.new.nodes) c.depth-depth.result c.args.block c.args.sector c.set_in_root.new.root.value.items c.depth-depth.ensures.value c.requires.block c.set_in_root.ensures.ok c.set_in_root.ensures.err c.set_in_root.ensures.same
+    any_indexes index c.self.inside.blocks c.self.inside.root.value.items c.args.self.now c.args.spare.now can c.set_in_root.result (entries_by items_of c.set_in_root.new.nodes) c.depth-depth.result c.args.block c.args.sector c.set_in_root.new.root.value.items c.depth-depth.ensures.value c.requires.block c.set_in_root.ensures.ok c.set_in_root.ensures.err
 
 pub returns-clause-few : goal.returns-clause-few
 returns-clause-few c =
@@ -43,4 +44,10 @@ pub returns-clause-err : goal.returns-clause-err
 returns-clause-err c =
     let index = entries_by items_of c.self.inside.nodes in
     let can : CanSet index c.self.inside.blocks c.self.inside.root.value.items c.args.self.now c.args.spare.now = record { is = c.self.invariant.0; small = c.self.invariant.1; once = c.self.invariant.2; view_is = c.self.view_is; fresh = c.requires.spare } in
-    any_err index c.self.inside.blocks c.self.inside.root.value.items c.args.self.now c.args.spare.now can c.set_in_root.result (entries_by items_of c.set_in_root.new.nodes) c.depth-depth.result c.args.block c.args.sector c.set_in_root.new.root.value.items c.depth-depth.ensures.value c.requires.block c.set_in_root.ensures.ok c.set_in_root.ensures.err c.set_in_root.ensures.same
+    any_err index c.self.inside.blocks c.self.inside.root.value.items c.args.self.now c.args.spare.now can c.set_in_root.result (entries_by items_of c.set_in_root.new.nodes) c.depth-depth.result c.args.block c.args.sector c.set_in_root.new.root.value.items c.depth-depth.ensures.value c.requires.block c.set_in_root.ensures.ok c.set_in_root.ensures.err
+
+pub returns-clause-kept : goal.returns-clause-kept
+returns-clause-kept c =
+    let index = entries_by items_of c.self.inside.nodes in
+    let can : CanSet index c.self.inside.blocks c.self.inside.root.value.items c.args.self.now c.args.spare.now = record { is = c.self.invariant.0; small = c.self.invariant.1; once = c.self.invariant.2; view_is = c.self.view_is; fresh = c.requires.spare } in
+    any_kept index c.self.inside.blocks c.self.inside.root.value.items c.args.self.now c.args.spare.now can c.set_in_root.result (entries_by items_of c.set_in_root.new.nodes) c.depth-depth.result c.args.block c.args.sector c.set_in_root.new.root.value.items c.depth-depth.ensures.value c.requires.block c.set_in_root.ensures.ok c.set_in_root.ensures.kept
