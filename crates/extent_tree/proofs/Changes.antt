@@ -1,6 +1,5 @@
 -- A block gets a sector.
 use Rattle.std.proofs.Common.{◌≡◌, ◌≢◌, ◌<◌, ◌≤◌, ◌+◌, ◌-◌, ◌*◌, ◌/◌, ◌%◌, ◌^◌, ℕ, zero, suc, true, false, List, [], ◌∷◌, ◌++◌, Option, Some, None, Result, Ok, Err, IfOk, OnOk, OnErr, is_some, length, get_or, map, set, take, replicate, min, refl, sym, ap, ap₂, ◌∙◌, subst, arith, inl, inr}
-use Rattle.std.specs.List.{flat_map, AllByRecursion}
 use Rattle.std.proofs.Math.Nat.{pow-suc, div-add-mod}
 use Rattle.std.proofs.Math.Seq.{take-set-lt}
 use Rattle.std.proofs.lemmas.Bool.{cases_eq, cases_lt, false≢true}
@@ -8,18 +7,18 @@ use Rattle.std.proofs.lemmas.Nat.{mod_below}
 use Rattle.std.proofs.lemmas.List.{ext_get_or, get_or_default, length-set, get_or-set_same, get_or-set_other, set-get_or, set-append_left, set-append_right}
 use Rattle.extent_tree.specs.declared.entry.Entry.{Entry}
 use Rattle.extent_tree.specs.declared.setting.Touched.{Touched}
-use Rattle.extent_tree.specs.Entries.{EachWithin, IsEntry}
+use Rattle.extent_tree.specs.Entries.{IsEntry}
 use Rattle.extent_tree.specs.Depth.{depth_of}
 use Rattle.extent_tree.specs.Held.{hole, Blocks, blocks_by}
-use Rattle.extent_tree.specs.Tree.{is_index, run_of, blocks_of, blocks_in, indexes_of, indexes_in, IsTree, AreTrees, AreSomeTrees, IsIndexSector, HasBlock, IsRoot, file_blocks, file_indexes}
-use Rattle.extent_tree.specs.Setting.{times, AreDistinct, AreFresh, AreSpare, AreKept, part_of, AreParts, IsRun, IsRunSet, IsBlockSet, AreBlocksSet}
+use Rattle.extent_tree.specs.Tree.{is_index, run_of, blocks_of, blocks_in, indexes_of, indexes_in, AreTrees, AreSomeTrees, HasBlock, IsRoot, file_blocks, file_indexes}
+use Rattle.extent_tree.specs.Setting.{times, AreDistinct, AreFresh, AreSpare, AreKept, AreParts, IsRun, IsRunSet, IsBlockSet, AreBlocksSet}
 use Rattle.extent_tree.proofs.Charges.{span_pos}
 use Rattle.extent_tree.proofs.Depths.{span_small}
-use Rattle.extent_tree.proofs.Counts.{times-append, times-first, times-other, times-take, times-take_more, times-part, same_where, apart_by}
-use Rattle.extent_tree.proofs.Frames.{decided, blocks-index, indexes-index, AreSameAt, same_blocks, same_blocks_in, same_indexes, same_indexes_in, same_tree, same_trees}
+use Rattle.extent_tree.proofs.Counts.{times-append, times-first, times-other, times-take, times-part, same_where, apart_by}
+use Rattle.extent_tree.proofs.Frames.{blocks-index, indexes-index, AreSameAt, same_blocks, same_blocks_in, same_indexes, same_indexes_in, same_tree, same_trees}
 use Rattle.extent_tree.proofs.Growing.{index_test, not_index, entry_count}
-use Rattle.extent_tree.proofs.Parts.{part_whole, part_run, part_is, parts_indexes, parts_trees, parts_blocks, no_indexes_of, run_yes, run_no}
-use Rattle.extent_tree.proofs.Shapes.{is_entry, length-run, length-blocks_of, length-blocks_in, blocks-run, run_at, place_in, place_below, tree_here, index_above, IsSomeTree, AreBelow, below, no_indexes, count_is, root_trees, root_within}
+use Rattle.extent_tree.proofs.Parts.{part_run, part_is, parts_indexes, parts_trees, parts_blocks, no_indexes_of, run_yes, run_no}
+use Rattle.extent_tree.proofs.Shapes.{is_entry, length-run, length-blocks_of, length-blocks_in, blocks-run, place_in, place_below, tree_here, index_above, IsSomeTree, AreBelow, below, no_indexes, count_is, root_trees, root_within}
 use Rattle.extent_tree.proofs.Trees.{tree_plain}
 
 -- ---- an extent

@@ -1,24 +1,25 @@
 -- The last blocks are cut off.
-use Rattle.std.proofs.Common.{◌≡◌, ◌≢◌, ◌<◌, ◌≤◌, ◌+◌, ◌-◌, ◌*◌, ◌/◌, ◌%◌, ◌^◌, ◌⊎◌, ℕ, zero, suc, true, false, cond, ltb, List, [], ◌∷◌, ◌++◌, Option, Some, None, is_some, length, get_or, take, drop, replicate, min, refl, sym, ap, ap₂, ◌∙◌, subst, arith, append_assoc, inl, inr}
-use Rattle.std.specs.List.{flat_map, list_all, AllByRecursion}
+use Rattle.std.proofs.Common.{◌≡◌, ◌≢◌, ◌<◌, ◌≤◌, ◌+◌, ◌-◌, ◌*◌, ◌/◌, ◌%◌, ◌^◌, ◌⊎◌, ℕ, zero, suc, true, false, ltb, List, [], ◌∷◌, ◌++◌, Option, None, length, get_or, map, take, drop, replicate, min, refl, sym, ap, ap₂, ◌∙◌, subst, arith, append_assoc, inl, inr}
+use Rattle.std.specs.List.{list_all}
 use Rattle.std.proofs.Math.Nat.{pow-suc, div-add-mod}
-use Rattle.std.proofs.lemmas.Bool.{cases_eq, cases_lt, lt-ltb, le-ltb, false≢true}
+use Rattle.std.proofs.lemmas.Bool.{cases_lt, lt-ltb, false≢true}
 use Rattle.std.proofs.lemmas.Nat.{div_below, mod_below}
 use Rattle.std.proofs.lemmas.List.Concat.{flat_map-append}
-use Rattle.std.proofs.lemmas.List.{ext_get_or, get_or-take, append-nil, take_all, length-drop, take_more, take-append-drop, length-take-le, get_or_append_left, get_or-append_right, get_or_default, length-replicate, length-append}
+use Rattle.std.proofs.lemmas.List.{ext_get_or, get_or-take, append-nil, take_all, length-drop, take_more, take-append-drop, length-take-le, get_or_append_left, get_or-append_right, get_or_default, length-replicate}
 use Rattle.extent_tree.specs.declared.entry.Entry.{Entry}
 use Rattle.extent_tree.specs.Entries.{EachWithin, IsEntry}
 use Rattle.extent_tree.specs.Depth.{depth_of}
-use Rattle.extent_tree.specs.Held.{hole, Blocks, blocks_by}
+use Rattle.extent_tree.specs.Held.{hole, Blocks, blocks_by, content_in, held_entries}
 use Rattle.extent_tree.specs.Tree.{is_hole, is_index, run_of, blocks_of, blocks_in, indexes_of, indexes_in, IsTree, AreTrees, AreSomeTrees, IsIndexSector, IsRoot, file_blocks, file_indexes}
 use Rattle.extent_tree.specs.Setting.{times, AreDistinct, AreKept, AreParts, IsRun}
 use Rattle.extent_tree.specs.Cutting.{shortened, IsCut, AreCut, AreLower, IsGivenBack, IsRewritten}
 use Rattle.extent_tree.proofs.Changes.{run_entry}
 use Rattle.extent_tree.proofs.Charges.{span_pos}
-use Rattle.extent_tree.proofs.Counts.{times-append, times-first, times-other, times-part, same_where, apart_by}
+use Rattle.extent_tree.proofs.Contents.{kept_contents}
+use Rattle.extent_tree.proofs.Counts.{times-append, times-first, times-part, same_where}
 use Rattle.extent_tree.proofs.Depths.{least}
-use Rattle.extent_tree.proofs.Frames.{decided, blocks-index, indexes-index, AreSameAt, same_blocks, same_blocks_in, same_indexes, same_indexes_in, same_tree, same_trees}
-use Rattle.extent_tree.proofs.Growing.{index_test, not_index, entry_count, hole_tree, hole_is, holes_in, holes_indexes, holes_none, holes_are, some_in}
+use Rattle.extent_tree.proofs.Frames.{blocks-index, indexes-index, AreSameAt, same_blocks, same_blocks_in, same_indexes, same_indexes_in, same_tree, same_trees}
+use Rattle.extent_tree.proofs.Growing.{index_test, not_index, entry_count, hole_tree, holes_in, holes_indexes, holes_none, holes_are, some_in}
 use Rattle.extent_tree.proofs.Parts.{no_indexes_of, parts_blocks, parts_indexes, parts_trees, run_yes, run_no}
 use Rattle.extent_tree.proofs.Shapes.{is_entry, length-blocks_of, length-blocks_in, blocks-run, above_of, index_above, IsSomeTree, AreBelow, below, count_is, length-file_blocks}
 use Rattle.extent_tree.proofs.Trees.{tree_plain}
@@ -683,6 +684,13 @@ module _ (index : ℕ → List Entry) (b c : ℕ) (root : List Entry) (seen : Bl
       pub cut_indexes : (s : ℕ) → times s (file_indexes other c new) + times s f2 ≡ times s seen.indexes
       cut_indexes s = omega (arith, new_indexes s, new_count s, ap (λ (x : Blocks). times s x.indexes) h.view_is)
 
+      pub cut_kept : (changed : List ℕ) → AreKept index mid changed → AreKept (held_entries seen) (held_entries (blocks_by other c new)) (changed ++ f2)
+      cut_kept changed first =
+          let old : List ℕ = file_indexes index b root in
+          let all : AreKept (content_in old (map index old)) (held_entries (blocks_by other c new)) (changed ++ f2) =
+          kept_contents index other old (file_indexes other c new) (changed ++ f2) (λ s none. omega (arith, new_indexes s, new_count s, times-append s changed f2)) (λ s none some. kept s (omega (arith, times-append s changed f2)) ∙ first s (omega (arith, times-append s changed f2))) in
+          subst (λ (x : Blocks). AreKept (held_entries x) (held_entries (blocks_by other c new)) (changed ++ f2)) h.view_is all
+
       new_blocks : (k : ℕ) → k < c → get_or (blocks_in other (depth_of c) new) k None ≡ get_or (blocks_in index (depth_of b) root) k None
       new_blocks k lt =
           let trees : AreTrees index d b root = subst (λ (j : ℕ). AreTrees index j b root) (sym is) h.is.each in
@@ -699,3 +707,15 @@ module _ (index : ℕ → List Entry) (b c : ℕ) (root : List Entry) (seen : Bl
           let within : k < b = omega (arith, held_le) in
           get_or-take c (blocks_in other (depth_of c) new) k None lt ∙ new_blocks k lt ∙ sym (get_or-take b (blocks_in index (depth_of b) root) k None within)
           ∙ ap (λ (x : Blocks). get_or x.sectors k None) h.view_is ∙ sym (get_or-take c seen.sectors k None lt))
+
+-- one change after another
+pub kept_twice : (index mid other : ℕ → List Entry) (first second : List ℕ) → AreKept index mid first → AreKept mid other second → ((s : ℕ) → times s first ≤ times s second) → AreKept index other second
+kept_twice index mid other first second before after grows s none = after s none ∙ before s (omega (arith, grows s))
+
+pub kept_push : (index other : ℕ → List Entry) (sector : ℕ) (first second : List ℕ) → second ≡ first ++ sector ∷ [] → ((s : ℕ) → s ≢ sector → other s ≡ index s) → AreKept index other second
+kept_push index other sector first second is same s none =
+    let all : times s second ≡ times s first + times s (sector ∷ []) = ap (times s) is ∙ times-append s first (sector ∷ []) in
+    same s (λ e. absurd (omega (arith, times-first s [], ap (λ (n : ℕ). times s (n ∷ [])) e)))
+
+pub push_grows : (sector : ℕ) (first second : List ℕ) → second ≡ first ++ sector ∷ [] → (s : ℕ) → times s first ≤ times s second
+push_grows sector first second is s = omega (arith, ap (times s) is, times-append s first (sector ∷ []))

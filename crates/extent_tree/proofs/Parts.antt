@@ -1,18 +1,17 @@
 -- An extent, or a hole, as 512 entries below it.
-use Rattle.std.proofs.Common.{◌≡◌, ◌≢◌, ◌<◌, ◌≤◌, ◌+◌, ◌-◌, ◌*◌, ◌/◌, ◌%◌, ◌^◌, ℕ, zero, suc, true, false, cond, ltb, List, [], ◌∷◌, ◌++◌, Option, Some, None, length, get_or, min, refl, sym, ap, ap₂, ◌∙◌, subst, arith, inl, inr}
+use Rattle.std.proofs.Common.{◌≡◌, ◌<◌, ◌≤◌, ◌+◌, ◌-◌, ◌*◌, ◌/◌, ◌%◌, ◌^◌, ℕ, zero, suc, true, false, ltb, List, [], ◌∷◌, ◌++◌, Option, Some, None, length, get_or, min, refl, sym, ap, ap₂, ◌∙◌, subst, arith, inl, inr}
 use Rattle.std.proofs.Math.Nat.{pow-suc, div-add-mod}
-use Rattle.std.proofs.lemmas.Bool.{cases_lt, lt-ltb, le-ltb, false≢true}
+use Rattle.std.proofs.lemmas.Bool.{cases_lt, lt-ltb, le-ltb}
 use Rattle.std.proofs.lemmas.Nat.{mod_below}
 use Rattle.std.proofs.lemmas.List.{ext_get_or, get_or_append_left, get_or-append-add, length_push}
 use Rattle.extent_tree.specs.declared.entry.Entry.{Entry}
 use Rattle.extent_tree.specs.Entries.{EachWithin, IsEntry}
 use Rattle.extent_tree.specs.Held.{hole}
-use Rattle.extent_tree.specs.Tree.{is_index, run_of, blocks_of, blocks_in, indexes_of, indexes_in, IsTree, AreTrees, AreSomeTrees}
+use Rattle.extent_tree.specs.Tree.{is_index, run_of, blocks_in, indexes_of, indexes_in, IsTree, AreTrees, AreSomeTrees}
 use Rattle.extent_tree.specs.Setting.{part_of, AreParts, IsRun}
 use Rattle.extent_tree.proofs.Charges.{span_pos}
-use Rattle.extent_tree.proofs.Frames.{decided}
-use Rattle.extent_tree.proofs.Growing.{hole_tree, not_index, entry_count}
-use Rattle.extent_tree.proofs.Shapes.{run_at, length-run, is_entry, length-blocks_in, at_entry, blocks-run, place_in}
+use Rattle.extent_tree.proofs.Growing.{hole_tree, not_index}
+use Rattle.extent_tree.proofs.Shapes.{run_at, length-run, length-blocks_in, at_entry, blocks-run, place_in}
 use Rattle.extent_tree.proofs.Trees.{tree_plain}
 
 -- ---- made one after the other

@@ -3,7 +3,7 @@
 ghost use Rattle.std.specs.Prelude.{◌≡◌, ◌≤◌, ◌<◌, ◌+◌, ◌-◌, ◌*◌, ◌^◌, ◌++◌, ◌∷◌, [], ℕ, ◌⊎◌, length, take, replicate, IfOk, OnOk};
 ghost use Rattle.extent_tree.specs.Cutting.{shortened, AreCut, AreLower, IsGivenBack, IsRewritten};
 ghost use Rattle.extent_tree.specs.Held.{entries_by, hole};
-ghost use Rattle.extent_tree.specs.Setting.{AreDistinct, AreKept};
+ghost use Rattle.extent_tree.specs.Setting.{times, AreDistinct, AreKept};
 ghost use Rattle.extent_tree.specs.Tree.{AreTrees, AreSomeTrees, indexes_in};
 
 use crate::entry::{Entry, ROOT_ENTRIES};
@@ -12,6 +12,15 @@ use crate::spans::{MAX_DEPTH, span};
 use crate::tree::{Nodes, are_holes, entries_of};
 use std::alloc::{AllocError, Global};
 use std::rc::Rc;
+
+/// What changed when the last blocks were cut off.
+#[derive(Debug, Drop)]
+pub struct Truncated {
+    /// The index sectors that the tree no longer has.
+    pub freed: Vec<u32>,
+    /// Those that have other entries than before, and some that it no longer has.
+    pub changed: Vec<u32>,
+}
 
 /// The first blocks of an extent.
 fn shortened(entry: Entry, keep: u32) -> Entry
@@ -68,24 +77,30 @@ fn keep_index(
     entry: Entry,
     below: Vec<Entry>,
     freed: &mut Vec<u32>,
+    changed: &mut Vec<u32>,
 ) -> Result<Entry, AllocError>
-    ensures { IfOk result (λ new.
+    ensures new { IfOk result (λ new.
         IsGivenBack (entries_by (λ rc. rc.value.items) nodes.old)
         (entries_by (λ rc. rc.value.items) nodes.new) entry new below.items freed.old.items
         freed.new.items
         ⊎ IsRewritten (entries_by (λ rc. rc.value.items) nodes.old)
         (entries_by (λ rc. rc.value.items) nodes.new) entry new below.items freed.old.items
         freed.new.items) }
+    ensures changed { OnOk result (AreKept (entries_by (λ rc. rc.value.items) nodes.old)
+        (entries_by (λ rc. rc.value.items) nodes.new) changed.new.items) }
+    ensures grows { OnOk result ((s : ℕ) → times s changed.old.items ≤ times s changed.new.items) }
 {
     if are_holes(&below) {
         freed.push(entry.sector)?;
         return Ok(Entry::HOLE);
     }
+    changed.push(entry.sector)?;
     nodes.insert(entry.sector, Rc::new(alloc, below)?)?;
     Ok(entry)
 }
 
-/// The entries of the first `keep` blocks. Gives back the index sectors that they do not have.
+/// The entries of the first `keep` blocks. Gives back the index sectors that they do not have, and
+/// adds those that have other entries to those changed.
 pub(crate) fn cut(
     alloc: Global,
     nodes: &mut Nodes,
@@ -93,6 +108,7 @@ pub(crate) fn cut(
     depth: u8,
     keep: u32,
     freed: &mut Vec<u32>,
+    changed: &mut Vec<u32>,
 ) -> Result<Vec<Entry>, AllocError>
     requires depth { depth ≤ MAX_DEPTH }
     requires trees { (n : ℕ) × ((keep ≤ n)
@@ -106,6 +122,8 @@ pub(crate) fn cut(
     ensures kept { OnOk result (AreKept (entries_by (λ rc. rc.value.items) nodes.old)
         (entries_by (λ rc. rc.value.items) nodes.new)
         (indexes_in (entries_by (λ rc. rc.value.items) nodes.old) depth entries.items)) }
+    ensures changed { OnOk result (AreKept (entries_by (λ rc. rc.value.items) nodes.old)
+        (entries_by (λ rc. rc.value.items) nodes.new) changed.new.items) }
 {
     let span = span(depth);
     let at = (keep / span) as usize;
@@ -119,8 +137,8 @@ pub(crate) fn cut(
         return Ok(made);
     }
     let copy = Vec::from_slice(alloc, entries_of(nodes, entry.sector))?;
-    let below = cut(alloc, nodes, copy, depth - 1, keep % span, freed)?;
-    let new = keep_index(alloc, nodes, entry, below, freed)?;
+    let below = cut(alloc, nodes, copy, depth - 1, keep % span, freed, changed)?;
+    let new = keep_index(alloc, nodes, entry, below, freed, changed)?;
     let made = cut_behind(entries, at, new)?;
     Ok(made)
 }

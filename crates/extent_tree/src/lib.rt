@@ -11,6 +11,7 @@ mod spans;
 mod tree;
 mod tree_check;
 
+pub use cutting::Truncated;
 pub use encoding::{put_entries, read_index, read_root, write_index};
 pub use entry::{Entry, INDEX_ENTRIES, ROOT_ENTRIES, are_entries, is_entry};
 pub use fault::{SetFault, TreeFault};

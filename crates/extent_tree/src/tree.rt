@@ -7,7 +7,7 @@ ghost use Rattle.extent_tree.specs.Held.{AreHeld, entries_by, held_entries, no_b
 ghost use Rattle.extent_tree.specs.Setting.{times, listed, AreDistinct, AreFresh, AreKept};
 ghost use Rattle.extent_tree.specs.Tree.{AreSomeTrees, IsRoot, blocks_in, file_indexes, is_hole, with_holes};
 
-use crate::cutting::{cut, forget, lowered};
+use crate::cutting::{Truncated, cut, forget, lowered};
 use crate::entry::{Entry, INDEX_ENTRIES, ROOT_ENTRIES};
 use crate::fault::SetFault;
 use crate::setting::{Touched, set_in_root};
@@ -190,28 +190,39 @@ impl ExtentTree {
         Ok(true)
     }
 
-    /// Keeps the first `len` blocks. Returns the index sectors that the tree no longer has. An `Err`
-    /// changes nothing.
-    pub fn truncate(&mut self, len: u32) -> Result<Vec<u32>, AllocError>
+    /// Keeps the first `len` blocks. Returns the index sectors that the tree no longer has, and those
+    /// that have other entries. An `Err` changes nothing.
+    pub fn truncate(&mut self, len: u32) -> Result<Truncated, AllocError>
         requires { len ≤ length self.old.sectors }
         ensures sectors { OnOk result (self.new.sectors ≡ take len self.old.sectors) }
-        ensures indexes { IfOk result (λ freed. (s : ℕ) →
-            times s self.new.indexes + times s freed.items ≡ times s self.old.indexes) }
+        ensures indexes { IfOk result (λ cut. (s : ℕ) →
+            times s self.new.indexes + times s cut.freed.items ≡ times s self.old.indexes) }
+        ensures kept { IfOk result (λ cut. AreKept (held_entries self.old) (held_entries self.new)
+            (cut.changed.items ++ cut.freed.items)) }
         ensures err { OnErr result (self.new ≡ self.old) }
     {
         let from = depth(self.blocks);
         let to = depth(len);
         let mut nodes = self.nodes.clone()?;
         let mut freed = Vec::new(self.alloc);
+        let mut changed = Vec::new(self.alloc);
         let copy = Vec::from_slice(self.alloc, self.root.as_slice())?;
-        let made = cut(self.alloc, &mut nodes, copy, from, len, &mut freed)?;
+        let made = cut(
+            self.alloc,
+            &mut nodes,
+            copy,
+            from,
+            len,
+            &mut freed,
+            &mut changed,
+        )?;
         let made = lowered(self.alloc, &nodes, made, from, to, &mut freed)?;
         let root = Rc::new(self.alloc, made)?;
         forget(&mut nodes, &freed);
         self.root = root;
         self.nodes = nodes;
         self.blocks = len;
-        Ok(freed)
+        Ok(Truncated { freed, changed })
     }
 }
 

@@ -1,11 +1,11 @@
-use Rattle.std.proofs.Common.{◌≡◌, ◌∙◌, ◌++◌, ◌∷◌, ◌<◌, ◌+◌, ◌-◌, ◌/◌, ◌%◌, List, ℕ, ap, sym, refl, subst, true, false, length, get_or, take, drop, replicate, arith}
+use Rattle.std.proofs.Common.{◌≡◌, ◌∙◌, ◌++◌, ◌∷◌, ◌<◌, ◌+◌, ◌-◌, ◌/◌, ◌%◌, List, ap, sym, refl, subst, true, length, take, drop, replicate, arith}
 use Rattle.extent_tree.specs.declared.entry.Entry.{Entry}
 use Rattle.extent_tree.specs.Held.{entries_by, hole}
-use Rattle.extent_tree.specs.Tree.{is_index, indexes_in, AreTrees}
+use Rattle.extent_tree.specs.Tree.{is_index, indexes_in}
 use Rattle.extent_tree.specs.Cutting.{AreCut}
 use Rattle.extent_tree.proofs.Charges.{span_pos}
 use Rattle.extent_tree.proofs.Maps.{items_of}
-use Rattle.extent_tree.proofs.Cuts.{IsCutting, cut_place, cut_all, cut_tail, cut_plain, cut_deep, cut_deep_kept, deep_cut_above, deep_cut_trees, deep_cut_long, deep_once, tail_slice, tail_trees, moved_requires}
+use Rattle.extent_tree.proofs.Cuts.{IsCutting, cut_place, cut_all, cut_tail, cut_plain, cut_deep, cut_deep_kept, deep_cut_above, deep_cut_trees, deep_cut_long, deep_once, tail_slice, tail_trees, moved_requires, kept_twice}
 use Rattle.extent_tree.proofs.cutting.+cut.Goals as goal
 
 pub nonzero_div-at : goal.nonzero_div-at
@@ -94,7 +94,7 @@ returns-clause-cut t c =
     let test : is_index y ≡ true = sym c.is_index.ensures ∙ c.if-not-is_index.false in
     let copied : c.in_ok-copy.copy.items ≡ index y.sector = c.in_ok-copy.ensures.items ∙ c.entries_of.ensures in
     subst (λ (zs : List Entry). AreCut index (entries_by items_of c.keep_index.new.nodes) c.args.depth c.args.keep xs zs c.args.freed.now.items c.keep_index.new.freed.items) (sym c.in_ok-made-2.ensures)
-    (cut_deep index c.args.depth c.args.keep w xs h at_lt y c.index-entry.ensures c.args.freed.now.items mid back (c.args.depth - 1) test refl (entries_by items_of c.cut.new.nodes) (entries_by items_of c.keep_index.new.nodes) c.in_ok-copy.copy.items c.in_ok-below.below.items c.in_ok-new.new c.cut.new.freed.items c.keep_index.new.freed.items copied c.in_ok-below.ensures.cut c.in_ok-below.ensures.kept c.in_ok-new.ensures)
+    (cut_deep index c.args.depth c.args.keep w xs h at_lt y c.index-entry.ensures c.args.freed.now.items mid back (c.args.depth - 1) test refl (entries_by items_of c.cut.new.nodes) (entries_by items_of c.keep_index.new.nodes) c.in_ok-copy.copy.items c.in_ok-below.below.items c.in_ok-new.new c.cut.new.freed.items c.keep_index.new.freed.items copied c.in_ok-below.ensures.cut c.in_ok-below.ensures.kept c.in_ok-new.ensures.new)
 
 pub returns-clause-kept : goal.returns-clause-kept
 returns-clause-kept t c =
@@ -109,4 +109,7 @@ returns-clause-kept t c =
     let back : mid ≡ c.args.freed.now.items ++ indexes_in index c.args.depth (drop (at + 1) xs) = tail_slice index c.args.depth (at + 1) xs c.deref.result.now c.args.freed.now.items mid c.deref.ensures.value c.in_ok-give_back.ensures in
     let test : is_index y ≡ true = sym c.is_index.ensures ∙ c.if-not-is_index.false in
     let copied : c.in_ok-copy.copy.items ≡ index y.sector = c.in_ok-copy.ensures.items ∙ c.entries_of.ensures in
-    cut_deep_kept index c.args.depth c.args.keep w xs h at_lt y c.index-entry.ensures c.args.freed.now.items mid back (c.args.depth - 1) test refl (entries_by items_of c.cut.new.nodes) (entries_by items_of c.keep_index.new.nodes) c.in_ok-copy.copy.items c.in_ok-below.below.items c.in_ok-new.new c.cut.new.freed.items c.keep_index.new.freed.items copied c.in_ok-below.ensures.cut c.in_ok-below.ensures.kept c.in_ok-new.ensures
+    cut_deep_kept index c.args.depth c.args.keep w xs h at_lt y c.index-entry.ensures c.args.freed.now.items mid back (c.args.depth - 1) test refl (entries_by items_of c.cut.new.nodes) (entries_by items_of c.keep_index.new.nodes) c.in_ok-copy.copy.items c.in_ok-below.below.items c.in_ok-new.new c.cut.new.freed.items c.keep_index.new.freed.items copied c.in_ok-below.ensures.cut c.in_ok-below.ensures.kept c.in_ok-new.ensures.new
+
+pub returns-clause-changed : goal.returns-clause-changed
+returns-clause-changed t c = kept_twice (entries_by items_of c.args.nodes.now) (entries_by items_of c.cut.new.nodes) (entries_by items_of c.keep_index.new.nodes) c.cut.new.changed.items c.keep_index.new.changed.items c.in_ok-below.ensures.changed c.in_ok-new.ensures.changed c.in_ok-new.ensures.grows

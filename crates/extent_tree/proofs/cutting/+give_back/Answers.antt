@@ -1,6 +1,5 @@
-use Rattle.std.proofs.Common.{◌≡◌, ◌∙◌, ◌++◌, ◌-◌, ap, sym, refl, true, Vec, Global, ℕ, get_or, take, arith}
+use Rattle.std.proofs.Common.{◌∙◌, ◌-◌, ap, sym, refl, Vec, Global, ℕ, get_or, arith}
 use Rattle.extent_tree.specs.Held.{entries_by, hole}
-use Rattle.extent_tree.specs.Tree.{is_index, indexes_in}
 use Rattle.extent_tree.proofs.Maps.{items_of}
 use Rattle.extent_tree.proofs.Cuts.{back_none, back_index, one_here, some_above, some_below}
 use Rattle.extent_tree.proofs.cutting.+give_back.Goals as goal

@@ -1,9 +1,8 @@
-use Rattle.std.proofs.Common.{◌∙◌, ◌≡◌, ◌-◌, ◌/◌, true, false, Vec, Global, sym, ap, refl, get_or, set, arith}
-use Rattle.extent_tree.specs.declared.entry.Entry.{Entry}
+use Rattle.std.proofs.Common.{◌∙◌, ◌≡◌, ◌-◌, ◌/◌, true, sym, ap, refl, get_or, set, arith}
 use Rattle.extent_tree.specs.Held.{entries_by, hole}
 use Rattle.extent_tree.specs.Tree.{is_index}
 use Rattle.extent_tree.proofs.Maps.{items_of, inserted_here, inserted_other}
-use Rattle.extent_tree.proofs.Changes.{is_below, below_run, below_at, deep_above, deep_trees, deep_within, deep_spare, below_ok, below_kept, plain_set}
+use Rattle.extent_tree.proofs.Changes.{is_below, below_run, deep_above, deep_trees, deep_within, deep_spare, below_ok, below_kept, plain_set}
 use Rattle.extent_tree.proofs.setting.+set_below.Goals as goal
 
 pub overflow_sub-depth : goal.overflow_sub-depth

@@ -1,5 +1,5 @@
-use Rattle.std.proofs.Common.{◌≡◌, ◌<◌, ℕ, List, ◌∷◌, ◌-◌, ◌/◌, ◌%◌, ◌∙◌, ap, sym, refl, length, get_or, set, take, arith}
-use Rattle.extent_tree.specs.Held.{entries_by, hole}
+use Rattle.std.proofs.Common.{◌≡◌, ◌<◌, ℕ, List, ◌∷◌, ◌-◌, ◌/◌, ◌%◌, ap, sym, refl, get_or, set, take, arith}
+use Rattle.extent_tree.specs.Held.{entries_by}
 use Rattle.extent_tree.proofs.Charges.{span_pos}
 use Rattle.extent_tree.proofs.Depths.{span_small}
 use Rattle.extent_tree.proofs.Maps.{items_of, inserted_here, inserted_other}

@@ -1,6 +1,5 @@
 use Rattle.std.proofs.Common.{arith}
 use Rattle.extent_tree.proofs.Depths.{index_span_fits}
-use Rattle.extent_tree.proofs.Changes.{plain_set, up_set, set_sectors}
 use Rattle.extent_tree.proofs.setting.parts.Goals as goal
 
 pub overflow_mul-span : goal.overflow_mul-span

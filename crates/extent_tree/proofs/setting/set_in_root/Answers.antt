@@ -1,4 +1,4 @@
-use Rattle.std.proofs.Common.{◌∙◌, ◌≡◌, ◌-◌, ◌/◌, true, false, sym, ap, refl, get_or, set, take, subst, List, arith}
+use Rattle.std.proofs.Common.{◌∙◌, ◌≡◌, ◌-◌, ◌/◌, true, sym, ap, refl, get_or, set, take, subst, List, arith}
 use Rattle.extent_tree.specs.declared.entry.Entry.{Entry}
 use Rattle.extent_tree.specs.Held.{entries_by, hole}
 use Rattle.extent_tree.specs.Setting.{AreBlocksSet}
