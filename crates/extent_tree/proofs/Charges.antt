@@ -39,7 +39,7 @@ rounded_up-split n m k h =
           ap (λ (x : ℕ). rounded_up x m + rounded_up (n - m * k) m) front ∙ omega (arith, whole, first)
     ]
 
-rounded_up-pos : (n m : ℕ) → 0 < n → 0 < m → 1 ≤ rounded_up n m
+pub rounded_up-pos : (n m : ℕ) → 0 < n → 0 < m → 1 ≤ rounded_up n m
 rounded_up-pos n m hn hm = le-div 1 (n + (m - 1)) m hm (omega arith)
 
 pub span_pos : (e : ℕ) → 0 < 512 ^ e
@@ -64,7 +64,7 @@ many_in f P most span split one count [] h = omega arith
 many_in f P most span split one count (x ∷ xs) h =
     omega (arith, length-append (f x) (flat_map f xs), one (min count span) x h.0, many_in f P most span split one (count - span) xs h.1, split count)
 
-split_at : (e n : ℕ) → most_indexes e (min n (512 ^ e)) + most_indexes e (n - 512 ^ e) ≤ most_indexes e n
+pub split_at : (e n : ℕ) → most_indexes e (min n (512 ^ e)) + most_indexes e (n - 512 ^ e) ≤ most_indexes e n
 split_at e n = most-split e n (512 ^ e) 1 (omega arith)
 
 -- an index sector's entry is of a span with a block
@@ -78,7 +78,7 @@ length-chosen : (test : Bool) (s : ℕ) (below : List ℕ) (n : ℕ) → (test �
 length-chosen true s below n h = omega (arith, h refl)
 length-chosen false s below n h = omega arith
 
-most_of : (index : ℕ → List Entry) (e count : ℕ) (entry : Entry) → IsTree index e count entry → length (indexes_of index e entry) ≤ most_indexes e count
+pub most_of : (index : ℕ → List Entry) (e count : ℕ) (entry : Entry) → IsTree index e count entry → length (indexes_of index e entry) ≤ most_indexes e count
 most_of index zero count entry h = omega arith
 most_of index (suc e) count entry h =
     length-chosen (is_index entry) entry.sector (flat_map (indexes_of index e) (index entry.sector)) (most_indexes (suc e) count)

@@ -281,7 +281,7 @@ drop_each P w n zero xs h = (n, h)
 drop_each P w n (suc k) [] h = (n, tt)
 drop_each P w n (suc k) (x ∷ xs) h = drop_each P w (n - w) k xs h.1
 
-at_count : (P : ℕ → Entry → Type 0) (w n : ℕ) (xs : List Entry) (i : ℕ) (d : Entry) → EachWithin P w n xs → i < length xs → P (min (n - w * i) w) (get_or xs i d)
+pub at_count : (P : ℕ → Entry → Type 0) (w n : ℕ) (xs : List Entry) (i : ℕ) (d : Entry) → EachWithin P w n xs → i < length xs → P (min (n - w * i) w) (get_or xs i d)
 at_count P w n [] i d h lt = absurd (omega arith)
 at_count P w n (x ∷ xs) zero d h lt = let here : min n w ≡ min (n - w * 0) w = omega arith in subst (λ (k : ℕ). P k x) here h.0
 at_count P w n (x ∷ xs) (suc i) d h lt =

@@ -9,6 +9,7 @@ pub mod Depths
 pub mod Frames
 pub mod Growing
 pub mod Maps
+pub mod Needs
 pub mod Parts
 pub mod Shapes
 pub mod Trees

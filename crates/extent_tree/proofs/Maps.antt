@@ -3,7 +3,7 @@ use Rattle.std.proofs.Common.{[], ◌∷◌, refl, true, false, ltb, eqb, Result
 use Rattle.std.specs.BTreeMap.{BTreeMap, IsClone, IsUnchanged, Updates, get}
 use Rattle.std.specs.Map.{lookup}
 use Rattle.std.specs.List.{AllByRecursion}
-use Rattle.std.specs.Result.{OnErr}
+use Rattle.std.specs.Result.{OnErr, IsErrAnd}
 use Rattle.std.proofs.lemmas.Bool.{cases_lt, lt-ltb, le-ltb, ne_eqb}
 use Rattle.std.specs.declared.rc.Rc.{Rc}
 use Rattle.std.specs.Option.{MatchOption, IsSomeAnd}
@@ -84,3 +84,8 @@ entries_by-unchanged m n same =
 pub on_err : {T E P : Type 0} → (r : Result T E) → P → OnErr r P
 on_err (Ok x) p = tt
 on_err (Err e) p = p
+
+-- an error that `?` passes on is the one that a call returned
+pub passed_on : {T U E : Type 0} → (r : Result T E) (e f : E) → IsErrAnd r (λ g. g ≡ e) → r ≡ Err f → (let first : Result U E = Err e in let second : Result U E = Err f in first ≡ second)
+passed_on (Ok x) e f h is = absurd h
+passed_on (Err g) e f h is = let same : g ≡ f = cc in let here : e ≡ f = sym h ∙ same in rw here refl

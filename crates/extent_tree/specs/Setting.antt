@@ -2,6 +2,7 @@
 use Rattle.std.specs.Prelude.{◌≡◌, ◌≢◌, ◌<◌, ◌≤◌, ◌+◌, ◌*◌, ◌-◌, ◌^◌, ◌==◌, ℕ, false, List, [], ◌∷◌, Option, Some, None, length, min, nat_lt, if◌then◌else◌, slice_set, slice_index_or}
 use Rattle.std.specs.List.{AllByRecursion}
 use Rattle.extent_tree.specs.declared.entry.Entry.{Entry}
+use Rattle.extent_tree.specs.Charge.{most_indexes}
 use Rattle.extent_tree.specs.Held.{hole}
 use Rattle.extent_tree.specs.Tree.{blocks_of, blocks_in, indexes_of, indexes_in, is_index, IsTree, AreTrees}
 
@@ -83,3 +84,10 @@ pub record AreBlocksSet (index other : ℕ → List Entry) (e place sector : ℕ
       → blocks_in other e new ≡ slice_set (blocks_in index e entries) place (Some sector)
   pub indexes : (s : ℕ)
       → times s (indexes_in other e new) ≡ times s (indexes_in index e entries) + times s taken
+
+-- k spare sectors, with the index sectors below these entries, are fewer than there may be for a
+-- file with the block at this place
+pub record AreTooFew (index : ℕ → List Entry) (e place k : ℕ) (entries : List Entry) : Type 0 where
+  pub depth : k < e
+  pub most : (n : ℕ) → place < n → AreTrees index e n entries
+      → k + length (indexes_in index e entries) < most_indexes e n

@@ -2,7 +2,7 @@
 
 ghost use Rattle.std.specs.Prelude.{◌≡◌, ◌<◌, ◌≤◌, ◌+◌, ◌*◌, ◌^◌, [], ◌∷◌, ◌++◌, Err, length, take, slice_set, MatchOption, IfOk, OnErr};
 ghost use Rattle.extent_tree.specs.Held.{entries_by};
-ghost use Rattle.extent_tree.specs.Setting.{times, listed, AreSpare, AreKept, IsRun, IsRunSet, part_of, AreParts, IsBlockSet, AreBlocksSet};
+ghost use Rattle.extent_tree.specs.Setting.{times, listed, AreSpare, AreTooFew, AreKept, IsRun, IsRunSet, part_of, AreParts, IsBlockSet, AreBlocksSet};
 ghost use Rattle.extent_tree.specs.Tree.{AreSomeTrees, indexes_in};
 
 use crate::entry::{Entry, INDEX_ENTRIES};
@@ -146,7 +146,9 @@ pub(crate) fn set_below(
         × (0 < times done.0 (own ∷ indexes_in index depth (index own)))) }
     ensures err { OnErr result (AreKept (entries_by (λ rc. rc.value.items) nodes.old)
         (entries_by (λ rc. rc.value.items) nodes.new) spare.now) }
-    ensures few { result ≡ Err SetFault.TooFew → length spare.now < depth }
+    ensures few { let index = entries_by (λ rc. rc.value.items) nodes.old in
+        result ≡ Err SetFault.TooFew
+        → AreTooFew index depth place (length spare.now) (index own) }
 {
     let entries = entries_of(nodes, own);
     let span = span(depth);
@@ -188,7 +190,9 @@ pub(crate) fn set_in_root(
     ensures err { OnErr result (AreKept (entries_by (λ rc. rc.value.items) nodes.old)
         (entries_by (λ rc. rc.value.items) nodes.new) spare.now
         × (root.new.value.items ≡ root.old.value.items)) }
-    ensures few { result ≡ Err SetFault.TooFew → length spare.now < depth }
+    ensures few { result ≡ Err SetFault.TooFew
+        → AreTooFew (entries_by (λ rc. rc.value.items) nodes.old) depth block (length spare.now)
+        root.old.value.items }
 {
     let entries = root.as_slice();
     let span = span(depth);

@@ -2,6 +2,7 @@
 
 ghost use Rattle.std.specs.Prelude.{◌≡◌, ◌≢◌, ◌<◌, ◌≤◌, ◌+◌, ◌*◌, ◌^◌, [], ◌∷◌, ◌++◌, Option, Some, None, length, nat_lt, slice_index_or, slice_set, take, Err, ℕ, if◌then◌else◌, IfOk, OnOk, OnErr};
 ghost use Rattle.std.specs.List.{AllByRecursion, list_all};
+ghost use Rattle.extent_tree.specs.Charge.{charge_of};
 ghost use Rattle.extent_tree.specs.Depth.{depth_of};
 ghost use Rattle.extent_tree.specs.Held.{AreHeld, entries_by, held_entries, no_blocks, blocks_by, with_room, root_above};
 ghost use Rattle.extent_tree.specs.Setting.{times, listed, AreDistinct, AreFresh, AreKept};
@@ -133,8 +134,8 @@ impl ExtentTree {
     /// sectors as index sectors. Returns how many, and which index sector has other entries.
     ///
     /// # Errors
-    /// `TooFew` only if there are fewer spare sectors than the tree is deep, and `Memory`; then
-    /// nothing changes.
+    /// `TooFew` only if there are fewer spare sectors than the tree is deep, and if the file is
+    /// charged for more than these and its index sectors; and `Memory`. Then nothing changes.
     pub fn set(&mut self, block: u32, sector: u32, spare: &[u32]) -> Result<Touched, SetFault>
         requires block { block < length self.old.sectors }
         requires sector { 0 < sector }
@@ -148,7 +149,8 @@ impl ExtentTree {
             AreKept (held_entries self.old) (held_entries self.new)
             (listed touched.changed ++ take touched.taken spare.now)) }
         ensures few { result ≡ Err SetFault.TooFew
-            → length spare.now < depth_of (length self.old.sectors) }
+            → (length spare.now < depth_of (length self.old.sectors))
+            × (length spare.now + length self.old.indexes < charge_of (length self.old.sectors)) }
         ensures err { OnErr result (self.new ≡ self.old) }
     {
         let depth = depth(self.blocks);

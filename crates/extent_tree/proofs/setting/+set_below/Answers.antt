@@ -1,8 +1,10 @@
-use Rattle.std.proofs.Common.{◌∙◌, ◌≡◌, ◌-◌, ◌/◌, true, sym, ap, refl, get_or, set, arith}
+use Rattle.std.proofs.Common.{◌∙◌, ◌≡◌, ◌-◌, ◌/◌, true, sym, ap, refl, length, get_or, set, arith}
+use Rattle.extent_tree.specs.declared.fault.SetFault.TheVariants.{TooFew}
 use Rattle.extent_tree.specs.Held.{entries_by, hole}
 use Rattle.extent_tree.specs.Tree.{is_index}
-use Rattle.extent_tree.proofs.Maps.{items_of, inserted_here, inserted_other}
-use Rattle.extent_tree.proofs.Changes.{is_below, below_run, deep_above, deep_trees, deep_within, deep_spare, below_ok, below_kept, plain_set}
+use Rattle.extent_tree.proofs.Maps.{passed_on, items_of, inserted_here, inserted_other}
+use Rattle.extent_tree.proofs.Changes.{is_below, below_at, below_run, deep_above, deep_trees, deep_within, deep_spare, below_ok, below_kept, plain_set}
+use Rattle.extent_tree.proofs.Needs.{plain_too_few, index_too_few}
 use Rattle.extent_tree.proofs.setting.+set_below.Goals as goal
 
 pub overflow_sub-depth : goal.overflow_sub-depth
@@ -71,3 +73,20 @@ returns-clause-ok t c =
     plain_set index c.args.depth c.args.place c.span-span.result c.args.own c.args.spare.now y h mid other c.args.sector c.in_ok-entry.taken c.in_ok-entry.entry (sym c.is_index.ensures ∙ c.if-is_index.false) c.in_ok-entry.ensures.ok c.in_ok-entry.ensures.kept
     (inserted_here c.with_block.new.nodes c.insert.new.self c.args.own c.in_ok-node_with.field-0 (set (mid c.args.own) at c.in_ok-entry.entry) c.in_ok-insert.ensures.updates node)
     (inserted_other c.with_block.new.nodes c.insert.new.self c.args.own c.in_ok-node_with.field-0 c.in_ok-insert.ensures.updates)
+
+pub returns-then-is_index-clause-few : goal.returns-then-is_index-clause-few
+returns-then-is_index-clause-few t c =
+    let index = entries_by items_of c.args.nodes.now in
+    let y = get_or c.entries_of-entries.result.now (c.args.place / c.span-span.result) hole in
+    let h = is_below index c.args.depth c.args.place c.span-span.result c.args.own c.args.spare.now c.entries_of-entries.result.now c.entries_of-entries.ensures c.requires.trees c.requires.place.0 c.span-span.ensures c.requires.spare in
+    let test : is_index y ≡ true = sym c.is_index.ensures ∙ c.if-is_index.true in
+    let above = deep_above index c.args.depth (c.args.depth - 1) c.args.place c.span-span.result c.args.own c.args.spare.now y h test refl in
+    λ is. index_too_few index c.args.depth c.args.place c.span-span.result (length c.args.spare.now) (index c.args.own) y c.span-span.ensures (below_at index c.args.depth c.args.place c.span-span.result c.args.own c.args.spare.now y h) h.entry (c.args.depth - 1) refl above test (c.set_below.ensures.few is)
+
+pub returns-in_err-entry-clause-few : goal.returns-in_err-entry-clause-few
+returns-in_err-entry-clause-few t c =
+    let index = entries_by items_of c.args.nodes.now in
+    let y = get_or c.entries_of-entries.result.now (c.args.place / c.span-span.result) hole in
+    let h = is_below index c.args.depth c.args.place c.span-span.result c.args.own c.args.spare.now c.entries_of-entries.result.now c.entries_of-entries.ensures c.requires.trees c.requires.place.0 c.span-span.ensures c.requires.spare in
+    λ is. plain_too_few index c.args.depth c.args.place c.span-span.result (length c.args.spare.now) (index c.args.own) y c.span-span.ensures (below_at index c.args.depth c.args.place c.span-span.result c.args.own c.args.spare.now y h) h.entry (sym c.is_index.ensures ∙ c.if-is_index.false)
+    (c.in_err-entry.ensures.few (passed_on c.from_residual.result c.in_err-entry.field-0.0 TooFew c.from_residual.ensures.1 is))

@@ -1,7 +1,9 @@
+use Rattle.std.proofs.Common.{length, arith}
 use Rattle.extent_tree.specs.Held.{entries_by}
 use Rattle.extent_tree.proofs.Maps.{items_of}
-use Rattle.extent_tree.proofs.Changes.{CanSet, can_trees, can_spare_at, can_few, any_invariant, any_sectors, any_indexes, any_err}
+use Rattle.extent_tree.proofs.Changes.{CanSet, can_count, can_trees, can_spare_at, can_few, any_invariant, any_sectors, any_indexes, any_err}
 use Rattle.extent_tree.proofs.Contents.{any_kept}
+use Rattle.extent_tree.proofs.Needs.{charged, can_each, can_charge}
 use Rattle.extent_tree.proofs.tree.ExtentTree.set.Goals as goal
 
 pub set_in_root-requires-clause-trees : goal.set_in_root-requires-clause-trees
@@ -38,7 +40,11 @@ pub returns-clause-few : goal.returns-clause-few
 returns-clause-few c =
     let index = entries_by items_of c.self.inside.nodes in
     let can : CanSet index c.self.inside.blocks c.self.inside.root.value.items c.args.self.now c.args.spare.now = record { is = c.self.invariant.0; small = c.self.invariant.1; once = c.self.invariant.2; view_is = c.self.view_is; fresh = c.requires.spare } in
-    λ is. can_few index c.self.inside.blocks c.self.inside.root.value.items c.args.self.now c.args.spare.now can c.depth-depth.result c.depth-depth.ensures.value (c.set_in_root.ensures.few is)
+    λ is.
+    let few = c.set_in_root.ensures.few is in
+    let count = can_count index c.self.inside.blocks c.self.inside.root.value.items c.args.self.now c.args.spare.now can in
+    let all = charged index c.self.inside.blocks c.args.block (length c.args.spare.now) c.depth-depth.result c.self.inside.root.value.items c.self.invariant.1 (omega (arith, count, c.requires.block)) (can_each index c.self.inside.blocks c.self.inside.root.value.items c.args.self.now c.args.spare.now can c.depth-depth.result c.depth-depth.ensures.value) c.depth-depth.ensures.value few.most in
+    (can_few index c.self.inside.blocks c.self.inside.root.value.items c.args.self.now c.args.spare.now can c.depth-depth.result c.depth-depth.ensures.value few.depth, can_charge index c.self.inside.blocks c.self.inside.root.value.items c.args.self.now c.args.spare.now can c.depth-depth.result c.depth-depth.ensures.value (length c.args.spare.now) all)
 
 pub returns-clause-err : goal.returns-clause-err
 returns-clause-err c =
