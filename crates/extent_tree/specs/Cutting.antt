@@ -9,15 +9,18 @@ use Rattle.extent_tree.specs.Setting.{times}
 -- the first `keep` blocks of an extent
 abbrev pub shortened : Entry → (keep : ℕ) → Entry
 shortened entry keep =
-    if nat_lt 0 keep then record { sector = entry.sector; length = min entry.length keep } else hole
+    if nat_lt 0 keep
+    then record { sector = entry.sector; length = min entry.length keep }
+    else hole
 
--- `new` has the first `keep` blocks of `entry`, over the index sectors of `other`; the index sectors
--- that it no longer has were added to those given back
+-- `new` has the first `keep` blocks of `entry`, over the index sectors of `other`; those that it no
+-- longer has were added to the ones given back
 pub record IsCut (index other : ℕ → List Entry) (e keep : ℕ) (entry new : Entry)
     (before after : List ℕ) : Type 0 where
   pub tree : (n : ℕ) → keep ≤ n → IsTree index e n entry → IsTree other e keep new
   pub blocks : (n : ℕ) → keep ≤ n → IsTree index e n entry → (k : ℕ) → k < keep
-      → slice_index_or (blocks_of other e new) k None ≡ slice_index_or (blocks_of index e entry) k None
+      → slice_index_or (blocks_of other e new) k None
+      ≡ slice_index_or (blocks_of index e entry) k None
   pub indexes : (s : ℕ) → times s (indexes_of other e new) + times s after
       ≡ times s (indexes_of index e entry) + times s before
   pub grows : (s : ℕ) → times s before ≤ times s after
@@ -28,7 +31,8 @@ pub record AreCut (index other : ℕ → List Entry) (e keep : ℕ) (entries new
   pub len : length new ≡ length entries
   pub trees : (n : ℕ) → keep ≤ n → AreTrees index e n entries → AreTrees other e keep new
   pub blocks : (n : ℕ) → keep ≤ n → AreTrees index e n entries → (k : ℕ) → k < keep
-      → slice_index_or (blocks_in other e new) k None ≡ slice_index_or (blocks_in index e entries) k None
+      → slice_index_or (blocks_in other e new) k None
+      ≡ slice_index_or (blocks_in index e entries) k None
   pub indexes : (s : ℕ) → times s (indexes_in other e new) + times s after
       ≡ times s (indexes_in index e entries) + times s before
   pub grows : (s : ℕ) → times s before ≤ times s after
@@ -56,7 +60,8 @@ pub record AreLower (index : ℕ → List Entry) (d e : ℕ) (root new : List En
   pub len : length new ≡ 256
   pub trees : (n : ℕ) → n ≤ 256 * 512 ^ e → AreTrees index d n root → AreTrees index e n new
   pub blocks : (n : ℕ) → n ≤ 256 * 512 ^ e → AreTrees index d n root → (k : ℕ) → k < n
-      → slice_index_or (blocks_in index e new) k None ≡ slice_index_or (blocks_in index d root) k None
+      → slice_index_or (blocks_in index e new) k None
+      ≡ slice_index_or (blocks_in index d root) k None
   pub indexes : (n : ℕ) → n ≤ 256 * 512 ^ e → AreTrees index d n root → (s : ℕ)
       → times s (indexes_in index e new) + times s after
       ≡ times s (indexes_in index d root) + times s before

@@ -35,8 +35,8 @@ fn shortened(entry: Entry, keep: u32) -> Entry
     }
 }
 
-/// Gives back the index sectors of consecutive entries.
-fn give_back(
+/// Adds the index sectors of consecutive entries to those given back.
+pub(crate) fn give_back(
     nodes: &Nodes,
     entries: &[Entry],
     depth: u8,

@@ -19,4 +19,4 @@ pub use laws::{charge_covers, depth_is_least, reads_back};
 pub use setting::Touched;
 pub use spans::{MAX_BLOCKS, MAX_DEPTH, depth, span};
 pub use tree::{ExtentTree, Nodes};
-pub use tree_check::is_root;
+pub use tree_check::{index_sectors, is_root};

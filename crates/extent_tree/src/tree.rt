@@ -192,8 +192,8 @@ impl ExtentTree {
         Ok(true)
     }
 
-    /// Keeps the first `len` blocks. Returns the index sectors that the tree no longer has, and those
-    /// that have other entries. An `Err` changes nothing.
+    /// Keeps the first `len` blocks. Returns the index sectors that the tree no longer has, and
+    /// those that have other entries. An `Err` changes nothing.
     pub fn truncate(&mut self, len: u32) -> Result<Truncated, AllocError>
         requires { len ≤ length self.old.sectors }
         ensures sectors { OnOk result (self.new.sectors ≡ take len self.old.sectors) }
