@@ -30,7 +30,7 @@ pub struct Nodes {
 
 /// Whether a sector is zero.
 #[tactic(auto, unfolding(disk::specs::Calls::zero_sector))]
-fn is_zero(content: &[u8; SECTOR]) -> bool
+pub(crate) fn is_zero(content: &[u8; SECTOR]) -> bool
     ensures { IsTrue result ↔ (content.now ≡ zero_sector) }
 {
     *content == [0; SECTOR]
