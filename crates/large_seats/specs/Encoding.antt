@@ -1,5 +1,5 @@
--- The sectors of a place, 1 + 4 q if the seats of its volume have up to q slots. Those of a seat are
--- as in versions 1 and 2. Of a free place only the first is determined.
+-- The sectors of a place: 1 + 4 q if the seats of its volume have up to q slots. Those of a seat
+-- are as in versions 1 and 2. Of a free place only the first is determined.
 use Rattle.std.specs.Prelude.{◌≡◌, ◌<◌, ◌+◌, ◌*◌, ℕ, List, Option, IsTrue}
 use Rattle.layout.specs.Large.{is_determined}
 use Rattle.model_tree.specs.Seats.Seats.{Seat}
