@@ -1,21 +1,22 @@
 -- A device that was formatted without its data region holds the new volume.
-use Rattle.std.proofs.Common.{ℕ, List, [], ◌∷◌, ◌≡◌, ◌≢◌, ◌<◌, ◌⊎◌, ◌∙◌, Bool, length, inl, inr, refl, sym, ap, arith, if◌then◌else◌, eqb}
+use Rattle.std.proofs.Common.{ℕ, List, [], ◌∷◌, ◌≡◌, ◌≢◌, ◌<◌, ◌≤◌, ◌+◌, ◌-◌, ◌⊎◌, ◌∙◌, Bool, length, inl, inr, refl, sym, ap, arith, if◌then◌else◌, eqb}
 use Rattle.std.specs.Prelude.{Result, Ok, Err, OnOk, is_err, false}
 use Rattle.std.proofs.lemmas.Bool.{ne_eqb}
 use Rattle.disk.specs.Calls.{zero_sector}
-use Rattle.disk.specs.Moments.{Image, History}
+use Rattle.disk.specs.Moments.{Image, History, moment}
 use Rattle.disk.proofs.MomentLemmas.{AddsOnly-weaken}
 use Rattle.geometry.specs.Encoding as geometry
 use Rattle.geometry.specs.Encoding.{IsSuperblock}
 use Rattle.disk.specs.declared.update.Update.{Update}
 use Rattle.journal.specs.declared.layout.LogArea.{LogArea}
-use Rattle.geometry.specs.Places.{Fits, data_end, data_start, log_area, log_start}
+use Rattle.geometry.specs.Places.{Fits, data_end, data_sectors, data_start, log_area, log_start}
 use Rattle.geometry.specs.declared.geometry.Geometry.{Geometry}
 use Rattle.geometry.specs.declared.superblock.Superblock.{Superblock}
-use Rattle.journal.specs.Format.{AddsFormatsOutside, IsFormattedOutside, LeavesFormattedOutside, SettlesOutside, formatted}
+use Rattle.journal.specs.Format.{AddsFormatsOutside, IsFormattedOutside, LeavesFormattedOutside, SettlesOutside, formatted, fresh_outside}
 use Rattle.journal.specs.Layout.{AreTargets, targets}
 use Rattle.journal.proofs.Images.{put_other, put_same}
 use Rattle.journal.proofs.Lists.{targets_of-Fit}
+use Rattle.journal.proofs.Outside.{few_outside, logged_at, passed}
 use Rattle.layout.specs.Large.{IsLargeFresh}
 use Rattle.layout.proofs.LargeLaws.{large_fresh}
 use Rattle.std.specs.declared.ops.Range.{Range}
@@ -83,6 +84,25 @@ module _ (area : LogArea) (unread : Range ℕ) (first : List ℕ) (updates : Lis
 
   pub leaves_new : (new : History) → LeavesFormattedOutside area unread first updates new → LeavesNew s new
   leaves_new new leaves = format_leaves s is counted new (rw (sym area_is, sym unread_is, sym first_is, sym updates_are) leaves)
+
+-- how many sectors are written between the two writes of sector 0: none of the log, which ends the
+-- device
+few_at : (g : Geometry) (fits : Fits g) (updates : List Update) → length (fresh_outside (log_area g) (unread_of g) g.sectors updates) + 5 ≤ g.sectors - data_sectors g - g.log + 4
+few_at g fits updates =
+    let same : fresh_outside (log_area g) (unread_of g) g.sectors updates ≡ fresh_outside (log_area g) (unread_of g) (log_start g) updates =
+    passed (log_area g) (unread_of g) updates (log_start g) g.sectors (omega (arith, fits.room)) (omega arith) (λ i low high. logged_at (log_area g) (unread_of g) i low (omega (arith, high, fits.room))) in
+    let few : length (fresh_outside (log_area g) (unread_of g) (log_start g) updates) + (data_end g - data_start g) ≤ log_start g - 1 =
+    few_outside (log_area g) (unread_of g) updates (log_start g) (omega (arith, fits.room)) (omega arith) (omega arith) in
+    omega (arith, ap (λ (us : List Update). length us) same, few, fits.room)
+
+module _ (area : LogArea) (unread : Range ℕ) (size : ℕ) (g : Geometry) (fits : Fits g) (sized : g.sectors ≡ size) (area_is : area ≡ log_area g) (unread_is : unread ≡ unread_of g) (old new : History) where
+  pub few_writes : (updates : List Update) → moment new ≡ moment old + (length (fresh_outside area unread size updates) + 5) → moment new ≤ moment old + (g.sectors - data_sectors g - g.log + 4)
+  few_writes updates cost =
+      let few : length (fresh_outside area unread size updates) + 5 ≤ g.sectors - data_sectors g - g.log + 4 = rw (area_is, unread_is, sym sized) (few_at g fits updates) in
+      omega (arith, cost, few)
+
+  pub always_brief : moment new ≤ moment old + (size - (unread.end - unread.start) + 4) → moment new ≤ moment old + (g.sectors - data_sectors g + 4)
+  always_brief brief = omega (arith, brief, sized, ap (λ (r : Range ℕ). r.end - r.start) unread_is)
 
 pub on_ok : {T E : Type 0} (r : Result T E) (P : Type 0) → is_err r ≡ false → OnOk r P → P
 on_ok (Ok x) P fine is = is

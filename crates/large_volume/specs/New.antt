@@ -1,5 +1,5 @@
 -- A new volume of version 3, and what making one leaves.
-use Rattle.std.specs.Prelude.{ℕ, List, ◌≡◌, ◌≤◌, ◌+◌, ◌-◌, ◌⊎◌}
+use Rattle.std.specs.Prelude.{ℕ, List, Result, OnOk, ◌≡◌, ◌≤◌, ◌+◌, ◌-◌, ◌⊎◌}
 use Rattle.disk.specs.Calls.{zero_sector}
 use Rattle.disk.specs.Moments.{Image, History, AddsOnly, Left, moment}
 use Rattle.disk.specs.declared.update.Update.{Update}
@@ -45,7 +45,9 @@ AddsNew s old new = AddsOnly (λ image. (image 0 ≡ zero_sector) ⊎ IsNew s im
 abbrev pub LeavesNew : Superblock → History → Type 0
 LeavesNew s history = (image : Image) → Left history.now image → IsNew s image
 
--- Its cost: at most one write of each sector outside of the data region, a second one of sector 0,
--- and three syncs
-abbrev pub IsBrief : Geometry → (old new : History) → Type 0
-IsBrief g old new = moment new ≤ moment old + (g.sectors - data_sectors g + 4)
+-- Its cost. However it ends: at most one write of each sector outside of the data region, a second
+-- one of sector 0, and three syncs. If it succeeds: the same without the sectors of the log.
+pub record IsBrief {T E : Type 0} (g : Geometry) (old new : History) (result : Result T E)
+    : Type 0 where
+  pub brief : moment new ≤ moment old + (g.sectors - data_sectors g + 4)
+  pub ok : OnOk result (moment new ≤ moment old + (g.sectors - data_sectors g - g.log + 4))

@@ -33,7 +33,7 @@ pub fn format<D: Device>(
     ensures ok { D.keeps_word → OnOk result
         (LeavesNew (new_superblock geometry.now identity) (D.history device.new)) }
     ensures brief { D.keeps_word → IsBrief geometry.now
-        (D.history device.old) (D.history device.new) }
+        (D.history device.old) (D.history device.new) result }
     // If it fails
     ensures size { IsErrOf result FormatFault.Size
         ↔ ¬ FitsDevice (D.size device.old) geometry.now }
