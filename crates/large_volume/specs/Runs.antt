@@ -1,5 +1,6 @@
 -- The first sector of a volume of version 3, before a run and at its beginning.
-use Rattle.std.specs.Prelude.{ℕ, ⊤, false, [], List, Result, Ok, Err, ◌≡◌, ◌≤◌, ◌+◌, ◌⊎◌}
+use Rattle.std.specs.Prelude.{ℕ, ⊤, true, false, [], List, Result, Ok, Err, ◌≡◌, ◌≤◌, ◌+◌, ◌⊎◌}
+use Rattle.disk.specs.Cause.{IsCounted}
 use Rattle.disk.specs.Moments.{Image, History, AddsOnly, moment}
 use Rattle.geometry.specs.Encoding.{superblock}
 use Rattle.geometry.specs.Places.{log_area}
@@ -59,9 +60,15 @@ pub record RaisesSafely (s : Superblock) (old : Log) (new : History) : Type 0 wh
 -- and then the sectors hold them, and the same nodes, under the next count
 pub record IsRaised (keeps_word : Type 0) (s : Superblock) (old new : Log) : Type 0 where
   pub rests : IsAtRest (restarted s) new
+  pub size : new.size ≡ old.size
   pub holds : keeps_word → (seats : Seats) (tree : Tree) → Holds s seats tree old.base
       → Holds (restarted s) seats tree new.base
   pub cached_nodes : keeps_word → (seats : Seats) (tree : Tree) → Holds s seats tree old.base
       → cached_nodes_in s.geometry.nodes new.base ≡ cached_nodes_in s.geometry.nodes old.base
   pub settled : keeps_word → IsSettled new
   pub cost : keeps_word → Costs 2 old new
+
+-- or the device failed: the failure is counted, and the journal is down from then on
+pub record HasFailed (new : Log) (before after : ℕ) : Type 0 where
+  pub counted : IsCounted before after
+  pub down : new.is_down ≡ true

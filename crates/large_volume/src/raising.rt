@@ -1,9 +1,8 @@
 //! One more restart is counted.
 
 ghost use Rattle.std.specs.Prelude.{◌≡◌, ◌≤◌, ◌<◌, ◌+◌, ◌^◌, ◌⊎◌, IfOk, IfErr, OnOk, OnErr};
-ghost use Rattle.disk.specs.Cause.{IsCounted};
 ghost use Rattle.journal.specs.Journal.{log_of, journal_failures};
-ghost use Rattle.large_volume.specs.Runs.{IsAtRest, IsRaised, RaisesSafely, restarted};
+ghost use Rattle.large_volume.specs.Runs.{HasFailed, IsAtRest, IsRaised, RaisesSafely, restarted};
 
 use disk::Device;
 use geometry::Superblock;
@@ -14,7 +13,7 @@ use journal::{Journal, JournalFault};
 ///
 /// # Errors
 ///
-/// [`JournalFault::Fault`] if the device failed.
+/// [`JournalFault::Fault`] if the device failed; then the journal is down.
 pub fn raise<D: Device>(
     journal: &mut Journal<D>,
     found: &Superblock,
@@ -28,8 +27,8 @@ pub fn raise<D: Device>(
         (log_of journal.old) (log_of journal.new)) }
     // If it fails
     ensures only { IfErr result (λ fault. fault ≡ JournalFault.Fault) }
-    ensures cause { OnErr result
-        (IsCounted (journal_failures journal.old) (journal_failures journal.new)) }
+    ensures cause { OnErr result (HasFailed (log_of journal.new)
+        (journal_failures journal.old) (journal_failures journal.new)) }
     ensures none { OnOk result (journal_failures journal.new ≡ journal_failures journal.old) }
     ensures later { journal_failures journal.old ≤ journal_failures journal.new }
 {

@@ -52,6 +52,7 @@ returns-clause-ok g c =
         listed = c.in_ok-superblock.ensures.list ∙ c.requires.rests.listed;
         placed = c.in_ok-superblock.ensures.area ∙ c.requires.rests.placed;
       };
+      size = c.in_ok-superblock.ensures.size;
       holds = λ k seats tree holds. after_holds s seats tree old.base c.requires.counted holds after (same k);
       cached_nodes = λ k seats tree holds. after_nodes s seats tree old.base c.requires.counted holds after (same k);
       settled = c.in_ok-superblock.ensures.ok.settled;
