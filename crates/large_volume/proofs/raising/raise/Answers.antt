@@ -16,11 +16,13 @@ returns-in_err-superblock-clause-moments g c = λ k.
     let s = c.args.found.now in
     let old : Log = log_of c.args.journal.now in
     let history = (log_of c.superblock.new.self).history in
+    let sectors : AddsEither (log_area s.geometry) (first_update (restarted s) ∷ []) old.base old.history history =
+    subst (λ (a : LogArea). AddsEither a (first_update (restarted s) ∷ []) old.base old.history history) c.requires.rests.placed
+    (subst (λ (content : List ℕ). AddsEither old.area ((let u : Update = record { target = 0; content = content } in u) ∷ []) old.base old.history history) c.encode.ensures
+    (c.in_err-superblock.ensures.moments k)) in
     record {
-      moments = λ seats tree holds. raise_moments s seats tree old.base c.requires.counted holds old.history history
-          (subst (λ (a : LogArea). AddsEither a (first_update (restarted s) ∷ []) old.base old.history history) c.requires.rests.placed
-          (subst (λ (content : List ℕ). AddsEither old.area ((let u : Update = record { target = 0; content = content } in u) ∷ []) old.base old.history history) c.encode.ensures
-          (c.in_err-superblock.ensures.moments k)));
+      sectors = sectors;
+      moments = λ seats tree holds. raise_moments s seats tree old.base c.requires.counted holds old.history history sectors;
       brief = c.in_err-superblock.ensures.brief k;
     }
 
@@ -29,11 +31,13 @@ returns-clause-moments g c = λ k.
     let s = c.args.found.now in
     let old : Log = log_of c.args.journal.now in
     let history = (log_of c.superblock.new.self).history in
+    let sectors : AddsEither (log_area s.geometry) (first_update (restarted s) ∷ []) old.base old.history history =
+    subst (λ (a : LogArea). AddsEither a (first_update (restarted s) ∷ []) old.base old.history history) c.requires.rests.placed
+    (subst (λ (content : List ℕ). AddsEither old.area ((let u : Update = record { target = 0; content = content } in u) ∷ []) old.base old.history history) c.encode.ensures
+    (c.in_ok-superblock.ensures.moments k)) in
     record {
-      moments = λ seats tree holds. raise_moments s seats tree old.base c.requires.counted holds old.history history
-          (subst (λ (a : LogArea). AddsEither a (first_update (restarted s) ∷ []) old.base old.history history) c.requires.rests.placed
-          (subst (λ (content : List ℕ). AddsEither old.area ((let u : Update = record { target = 0; content = content } in u) ∷ []) old.base old.history history) c.encode.ensures
-          (c.in_ok-superblock.ensures.moments k)));
+      sectors = sectors;
+      moments = λ seats tree holds. raise_moments s seats tree old.base c.requires.counted holds old.history history sectors;
       brief = c.in_ok-superblock.ensures.brief k;
     }
 
@@ -53,6 +57,7 @@ returns-clause-ok g c =
         placed = c.in_ok-superblock.ensures.area ∙ c.requires.rests.placed;
       };
       size = c.in_ok-superblock.ensures.size;
+      sectors = same;
       holds = λ k seats tree holds. after_holds s seats tree old.base c.requires.counted holds after (same k);
       cached_nodes = λ k seats tree holds. after_nodes s seats tree old.base c.requires.counted holds after (same k);
       settled = c.in_ok-superblock.ensures.ok.settled;
