@@ -57,8 +57,8 @@ pub record IsAtRest (s : Superblock) (log : Log) : Type 0 where
   pub listed : log.list ≡ []
   pub placed : log.area ≡ log_area s.geometry
 
--- The count is raised by a write and a sync. At each moment a crash leaves the sectors as they were,
--- or with the first one under the next count; so it leaves the tree and the seats.
+-- The count is raised by a write and a sync. At each moment a crash leaves the sectors as they
+-- were, or with the first one under the next count; so it leaves the tree and the seats.
 pub record RaisesSafely (s : Superblock) (old : Log) (new : History) : Type 0 where
   pub sectors : AddsEither (log_area s.geometry) (next_first s ∷ []) old.base old.history new
   pub moments : (seats : Seats) (tree : Tree) → Holds s seats tree old.base
