@@ -3,6 +3,7 @@
 mod directories;
 mod drivers;
 mod files;
+mod large;
 mod lists;
 mod maps;
 mod transactions;
