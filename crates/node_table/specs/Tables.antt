@@ -80,7 +80,7 @@ vacant (suc place) (cached ∷ cached_nodes) = vacant place cached_nodes
 pub record IsIndexed (cached_nodes : List (Option CachedNode)) (index : Keyed ℕ) (free : List ℕ)
     (charge : ℕ)
     : Type 0 where
-  pub few : length cached_nodes ≤ 16384
+  pub few : length cached_nodes ≤ 4194304
   pub each : AreFew cached_nodes
   pub rising : IsAbove 0 index
   pub found : (number place : ℕ) → at number index ≡ Some place

@@ -43,7 +43,7 @@ impl Model for Table {
 
 impl Table {
     /// The most nodes of a table, each at its own place.
-    pub const MAX_NODES: u32 = 16384;
+    pub const MAX_NODES: u32 = 4_194_304;
 
     /// A table with `places` places, all free.
     pub fn new(alloc: Global, places: u32) -> Result<Table, AllocError>
@@ -66,7 +66,7 @@ impl Table {
     }
 
     /// A table of the cached nodes of all places, in their order. Sorting them by number takes at
-    /// most 14 steps for each place.
+    /// most 22 steps for each place.
     ///
     /// # Errors
     ///
