@@ -2,7 +2,7 @@
 use Rattle.std.proofs.Common.{◌≡◌, ℕ, Bool, true, false, refl, sym, ap, ap₂, ◌∙◌, subst, inl, inr, ⊎_elim, arith}
 use Rattle.layout.specs.Stands.{Kept}
 use Rattle.volume.specs.Changes.{Given, Ending, Done, Nothing, Broken, EndsAs}
-use Rattle.volume.specs.VolumeState.{VolumeState, IsSameVolume, IsRecent, AddsKept, MakesAtMost}
+use Rattle.volume.specs.VolumeState.{VolumeState, IsSameVolume, IsRecent, AddsKept, MakesAtMost, call_cost}
 use Rattle.volume.specs.Alike.{ShowsAs}
 use Rattle.model_tree.specs.Trees.Tree.{Tree}
 use Rattle.fs.specs.Changes.{FsChanges, LetsWait, deferred}
@@ -11,6 +11,7 @@ use Rattle.fs.specs.FileSystem.{FileSystem}
 
 pub same_volume : (old new : VolumeState) → new ≡ old → IsSameVolume old new
 same_volume old new is = record {
+  version = ap (λ (h : VolumeState). h.version) is;
   sectors = ap (λ (h : VolumeState). h.sectors) is;
   limits = ap (λ (h : VolumeState). h.limits) is;
   run = ap (λ (h : VolumeState). h.run) is;
@@ -20,8 +21,8 @@ adds_nothing : (old new : VolumeState) (after : Kept) → new ≡ old → AddsKe
 adds_nothing old new after same =
     subst (λ (held : VolumeState). AddsKept old after held.history) (sym same) (λ recent is. record { later = omega arith; added = λ t image l left. inl left })
 
-no_calls : (old new : VolumeState) → new ≡ old → MakesAtMost 396 old new
-no_calls old new same = subst (λ (held : VolumeState). MakesAtMost 396 old held) (sym same) (omega arith)
+no_calls : (old new : VolumeState) → new ≡ old → MakesAtMost (call_cost old) old new
+no_calls old new same = subst (λ (held : VolumeState). MakesAtMost (call_cost old) old held) (sym same) (omega arith)
 
 nothing_done : Nothing ≡ Done → ⊥
 nothing_done is = cc

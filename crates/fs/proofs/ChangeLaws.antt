@@ -210,6 +210,7 @@ pub waiting : (keeps_word : Type 0) (old new : FileSystem) (fault_count : ℕ) �
     → old.defers ≡ true → new.waits ≡ true → FsChanges keeps_word (IsTree old.volume old.volume.tree) old new fault_count fault_count Done
 waiting keeps_word old new fault_count same counts mode up defers waits = later keeps_word old new fault_count fault_count Done (with_tree old.volume old.volume.tree) (λ failed. counts) mode defers waits refl (record {
   same = record {
+    version = ap (λ (h : VolumeState). h.version) same;
     sectors = ap (λ (h : VolumeState). h.sectors) same;
     limits = ap (λ (h : VolumeState). h.limits) same;
     run = ap (λ (h : VolumeState). h.run) same;
@@ -238,7 +239,7 @@ module _ (keeps_word : Type 0) (given : Given) (fs : FileSystem) (fault_count : 
   pub left : FsChanges keeps_word given fs fs fault_count fault_count Nothing
   left = record {
     volume_changes = record {
-      same = record { sectors = refl; limits = refl; run = refl };
+      same = record { version = refl; sectors = refl; limits = refl; run = refl };
       later = omega arith;
       none = λ other. refl;
       moments = λ keeps after lasts is recent ready. AddsOnly-same _ fs.volume.history;

@@ -22,7 +22,7 @@ use Rattle.model.specs.Operations.Directory.{change_of, new_directory}
 use Rattle.model_tree.specs.Trees.Edit.{Metadata}
 use Rattle.model_tree.specs.Rights.Inherit.{created_list}
 use Rattle.model_tree.specs.Trees.Keyed.{at}
-use Rattle.model_tree.specs.Trees.Limits.{limits_of}
+use Rattle.volume.specs.VolumeState.{IsLimited}
 use Rattle.model_tree.specs.Refusals.Name.{name_refusals}
 use Rattle.model.specs.Operations.Operation.{Attributes}
 use Rattle.model_tree.specs.Refusals.Refusal.{first_refusal, refused_or}
@@ -66,7 +66,7 @@ module _ (fs : FileSystem) (formed : MayStand fs.volume fs.changes) (number : �
       subst (λ (acl : List Ace). IsList fs.volume.limits kind.Directory acl) parent.node.acl
       (subst (λ (of : NodeKind). is_list_for fs.volume.limits.aces_set fs.volume.limits.aces of node.acl ≡ true) (ap kind_of content) is.entries))
 
-module _ (fs : FileSystem) (formed : MayStand fs.volume fs.changes) (limited : fs.volume.limits ≡ limits_of fs.volume.sectors fs.volume.limits.nodes)
+module _ (fs : FileSystem) (formed : MayStand fs.volume fs.changes) (limited : IsLimited fs.volume)
     (cred : Cred) (now number : ℕ) (name : List ℕ) (given : Attributes) (cached : CachedNode) (node : IsNodeOf fs.volume.tree number cached) (fit : IsCached cached)
     (passed : first_refusal (new_directory_refusals fs.volume.limits fs.volume.tree cred number name given) ≡ None) where
   pub parent : IsDirectoryOf fs.volume.tree number cached
@@ -91,7 +91,7 @@ module _ (fs : FileSystem) (formed : MayStand fs.volume fs.changes) (limited : f
       none_by_test _ (none_earlier _ status.Exist None rights.1).0
 
   list_of_it : (settings : Settings) → WithinLimits fs.volume.limits kind.Directory settings → IsList fs.volume.limits kind.Directory (list_by kind.Directory cached.fields.acl settings)
-  list_of_it settings within = given_list_fits fs.volume.limits fs.volume.sectors fs.volume.limits.nodes limited kind.Directory cached.fields.acl (listed fs formed number cached parent) settings within
+  list_of_it settings within = given_list_fits fs.volume limited kind.Directory cached.fields.acl (listed fs formed number cached parent) settings within
 
   abbrev own : ℕ
   own = next_stamp fs.volume.run fs.changes

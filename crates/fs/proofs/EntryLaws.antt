@@ -17,7 +17,7 @@ use Rattle.model_tree.specs.declared.node.NodeKind.{NodeKind}
 use Rattle.model_tree.specs.declared.node.NodeKind.TheVariants as kind
 use Rattle.model_tree.specs.Rights.Acl.{is_within, every_right, inheritance, are_flags_for, has_width, is_entry_for, is_list_for}
 use Rattle.model_tree.specs.Rights.Inherit.{created_list}
-use Rattle.model_tree.specs.Trees.Limits.{limits_of}
+use Rattle.volume.specs.VolumeState.{IsLimited, VolumeState}
 use Rattle.model.specs.Operations.SetAttr.{list_set}
 use Rattle.model.proofs.Operations.FileStepLaws.{list_given, list_is_set}
 use Rattle.model_tree.proofs.Rights.LimitLaws.{modes_keep_limits, inheritance_keeps_limits}
@@ -68,28 +68,30 @@ small_list limits of acl is =
     record { each = each_encoded of acl parts.0; few = leb-true (length acl) limits.aces parts.1 }
 
 -- no node has more entries than the limit, whatever its form has room for
-pub few_listed : (fs : FileSystem) → MayStand fs.volume fs.changes → fs.volume.limits ≡ limits_of fs.volume.sectors fs.volume.limits.nodes
+pub few_listed : (fs : FileSystem) → MayStand fs.volume fs.changes → IsLimited fs.volume
     → (number : ℕ) (cached : CachedNode) → IsNodeOf fs.volume.tree number cached
     → length cached.fields.acl ≤ 72
 few_listed fs formed limited number cached node = ∥∥₁_elim formed.well_formed (Prim.hlevel props) (λ well.
     let is = well.nodes number (blank_node node.node) (at-without_data fs.volume.tree number ∙ ap (option_map blank_node) node.there) in
     let small = small_list fs.volume.limits _ node.node.acl is.entries in
-    let most : fs.volume.limits.aces ≡ 72 = ap (λ (l : Limits). l.aces) limited in
+    let most : fs.volume.limits.aces ≡ 72 = ap (λ (l : Limits). l.aces) limited.limits in
     let same : length node.node.acl ≡ length cached.fields.acl = ap (λ (l : List Ace). length l) node.acl in
     omega (arith, small.few, most, same))
 
 -- the list of a new node may be one if the list that is given may
-pub given_list_fits : (limits : Limits) (sectors nodes : ℕ) → limits ≡ limits_of sectors nodes → (of : NodeKind) (parent : List Ace) → IsList limits kind.Directory parent
-    → (settings : Settings) → WithinLimits limits of settings → IsList limits of (created_list parent of settings.is_empty settings.mode settings.acl)
-given_list_fits limits sectors nodes limited of parent is settings within =
-    let room : limits.aces_set + 5 ≤ limits.aces = subst (λ (l : Limits). l.aces_set + 5 ≤ l.aces) (sym limited) (omega arith) in
+pub given_list_fits : (held : VolumeState) → IsLimited held → (of : NodeKind) (parent : List Ace) → IsList held.limits kind.Directory parent
+    → (settings : Settings) → WithinLimits held.limits of settings → IsList held.limits of (created_list parent of settings.is_empty settings.mode settings.acl)
+given_list_fits held limited of parent is settings within =
+    let limits = held.limits in
+    let room : limits.aces_set + 5 ≤ limits.aces = subst (λ (l : Limits). l.aces_set + 5 ≤ l.aces) (sym limited.limits) (omega arith) in
     list_given modes_keep_limits inheritance_keeps_limits limits of room parent is settings.is_empty settings.mode settings.acl
     (λ list said. within.acl (omega (arith, room)) list said)
 
 -- and so may the list that a node has if one, or a mode, is set
-pub set_list : (limits : Limits) (sectors nodes : ℕ) → limits ≡ limits_of sectors nodes → (of : NodeKind) (acl : List Ace) → IsList limits of acl
-    → (settings : Settings) → WithinLimits limits of settings → IsList limits of (list_set of acl settings.mode settings.acl)
-set_list limits sectors nodes limited of acl is settings within =
-    let room : limits.aces_set + 5 ≤ limits.aces = subst (λ (l : Limits). l.aces_set + 5 ≤ l.aces) (sym limited) (omega arith) in
+pub set_list : (held : VolumeState) → IsLimited held → (of : NodeKind) (acl : List Ace) → IsList held.limits of acl
+    → (settings : Settings) → WithinLimits held.limits of settings → IsList held.limits of (list_set of acl settings.mode settings.acl)
+set_list held limited of acl is settings within =
+    let limits = held.limits in
+    let room : limits.aces_set + 5 ≤ limits.aces = subst (λ (l : Limits). l.aces_set + 5 ≤ l.aces) (sym limited.limits) (omega arith) in
     list_is_set modes_keep_limits inheritance_keeps_limits limits of room acl is settings.mode settings.acl
     (λ list said. within.acl (omega (arith, room)) list said)

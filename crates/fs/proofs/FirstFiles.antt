@@ -15,7 +15,8 @@ use Rattle.model_tree.specs.Trees.Changes.{acl_of}
 use Rattle.model_tree.specs.Trees.Edit.{Metadata}
 use Rattle.model_tree.specs.Rights.Inherit.{created_list}
 use Rattle.model_tree.specs.Trees.Keyed.{at}
-use Rattle.model_tree.specs.Trees.Limits.{limits_of}
+use Rattle.volume.proofs.LimitLaws.{file_most}
+use Rattle.volume.specs.VolumeState.{IsLimited}
 use Rattle.model_tree.specs.Refusals.Name.{name_refusals}
 use Rattle.model.specs.Operations.Open.{new_file}
 use Rattle.model.specs.Operations.Operation.{Attributes}
@@ -36,7 +37,7 @@ size_within : (size : Option ℕ) (most : ℕ) → ForSome size (λ some. some �
 size_within None most within = omega arith
 size_within (Some some) most within = within some refl
 
-module _ (fs : FileSystem) (formed : MayStand fs.volume fs.changes) (limited : fs.volume.limits ≡ limits_of fs.volume.sectors fs.volume.limits.nodes)
+module _ (fs : FileSystem) (formed : MayStand fs.volume fs.changes) (limited : IsLimited fs.volume)
     (cred : Cred) (now number : ℕ) (name : List ℕ) (given : Attributes) (cached : CachedNode) (parent : IsDirectoryOf fs.volume.tree number cached)
     (allowed : first_refusal (name_refusals fs.volume.limits name) ≡ None) (lacks : is_named fs.volume.tree number name ≡ false)
     (settings : Settings) (set : AreSettings settings given) (within : WithinLimits fs.volume.limits kind.File settings) (size : ℕ) (size_is : size ≡ unwrap_or settings.size 0) where
@@ -44,7 +45,7 @@ module _ (fs : FileSystem) (formed : MayStand fs.volume fs.changes) (limited : f
   low = (let is = size_within settings.size fs.volume.limits.file_bytes within.size in omega (arith, is, size_is))
 
   pub has_size : IsSizeOf kind.File size
-  has_size = record { none = λ other. absurd cc; low = (let most : fs.volume.limits.file_bytes ≡ 16777216 = ap (λ (l : Limits). l.file_bytes) limited in omega (arith, low, most)) }
+  has_size = record { none = λ other. absurd cc; low = (let most : fs.volume.limits.file_bytes ≤ 16777216 = file_most fs.volume limited in omega (arith, low, most)) }
 
   abbrev own : ℕ
   own = next_stamp fs.volume.run fs.changes
@@ -65,7 +66,7 @@ module _ (fs : FileSystem) (formed : MayStand fs.volume fs.changes) (limited : f
 
     list_of_it : IsList fs.volume.limits kind.File child.acl
     list_of_it = subst (λ (s : Metadata). IsList fs.volume.limits kind.File s.acl) (sym child_is)
-        (given_list_fits fs.volume.limits fs.volume.sectors fs.volume.limits.nodes limited kind.File cached.fields.acl (listed fs formed number cached parent) settings within)
+        (given_list_fits fs.volume limited kind.File cached.fields.acl (listed fs formed number cached parent) settings within)
 
     is_node : IsNode fs.volume.limits (first_node kind.File size child)
     is_node = record {

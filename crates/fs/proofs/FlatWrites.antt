@@ -19,7 +19,7 @@ use Rattle.model_tree.specs.Trees.Charge.{fits}
 use Rattle.model_tree.specs.Trees.Edit.{Edit, PutBytes, Show, Metadata, edited, showing, with_content, overwritten, resized}
 use Rattle.model.specs.Operations.Files.{are_bytes, taken_bytes, write}
 use Rattle.model_tree.specs.Trees.Keyed.{at, with, is_key}
-use Rattle.model_tree.specs.Trees.Limits.{limits_of}
+use Rattle.volume.specs.VolumeState.{IsLimited}
 use Rattle.model.specs.Operations.Need.{granted_on}
 use Rattle.model.specs.Sessions.Opens.{no_opens}
 use Rattle.model.specs.Operations.Operation.{Argument, StateId, WriteArguments}
@@ -103,7 +103,7 @@ pub anonymous_passes : (tree : Tree) (changes run : ℕ) (cred : Cred) (number :
 unfolding found
 anonymous_passes tree changes run cred number = refl
 
-module _ (fs : FileSystem) (formed : MayStand fs.volume fs.changes) (counted : fs.changes < 2 ^ 32) (limited : fs.volume.limits ≡ limits_of fs.volume.sectors fs.volume.limits.nodes)
+module _ (fs : FileSystem) (formed : MayStand fs.volume fs.changes) (counted : fs.changes < 2 ^ 32) (limited : IsLimited fs.volume)
     (cred : Cred) (now number : ℕ) (verdict : Result (Unit {0}) Status) (node : Node) (there : at number fs.volume.tree ≡ Some node)
     (passed : first_refusal (permit_refusals fs.volume.tree cred number write_data verdict) ≡ None)
     (offset : ℕ) (part : List ℕ) (some : 0 < length part) (few : length part ≤ fs.volume.limits.transfer_bytes) (low : offset + length part ≤ fs.volume.limits.file_bytes) where

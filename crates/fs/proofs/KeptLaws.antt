@@ -8,7 +8,7 @@ use Rattle.tree_edits.specs.Edits.{AreDoable}
 use Rattle.tree_edits.specs.Outlines.{without_data}
 use Rattle.model_tree.specs.declared.limits.Limits.{Limits}
 use Rattle.model_tree.specs.Trees.Charge.{fits}
-use Rattle.model_tree.specs.Trees.Limits.{limits_of}
+use Rattle.volume.specs.VolumeState.{IsLimited}
 use Rattle.model.specs.Operations.Operation.{Argument}
 use Rattle.model_tree.specs.Trees.Stamp.{next_stamp, stamp}
 use Rattle.model.specs.Operations.State.{State, Stepped, stamp_of}
@@ -26,7 +26,7 @@ use Rattle.volume.specs.Formed.{IsFormed}
 use Rattle.fs.specs.Forms.{Change, IsAllowed, edits_by}
 use Rattle.fs.proofs.FormLaws.{form_is_change}
 
-module _ (fs : FileSystem) (formed : MayStand fs.volume fs.changes) (counted : fs.changes < 2 ^ 32) (limited : fs.volume.limits ≡ limits_of fs.volume.sectors fs.volume.limits.nodes) where
+module _ (fs : FileSystem) (formed : MayStand fs.volume fs.changes) (counted : fs.changes < 2 ^ 32) (limited : IsLimited fs.volume) where
   abbrev limits : Limits
   limits = fs.volume.limits
 
@@ -38,7 +38,7 @@ module _ (fs : FileSystem) (formed : MayStand fs.volume fs.changes) (counted : f
     before = subst (λ (t : Tree). IsBefore (stamp_of state) t) (sym tree)
         (subst (λ (n : ℕ). IsBefore n (without_data fs.volume.tree)) (ap₂ next_stamp (sym run) (sym changes)) formed.before);
     counted = subst (λ (n : ℕ). n < 2 ^ 32) (sym changes) counted;
-    room_for_mode = subst (λ (l : Limits). l.aces_set + 5 ≤ l.aces) (sym limited) (omega arith);
+    room_for_mode = subst (λ (l : Limits). l.aces_set + 5 ≤ l.aces) (sym limited.limits) (omega arith);
   }
 
   -- what a change leaves of such a state is a tree that the run may have after it, and so is each

@@ -16,7 +16,7 @@ use Rattle.model_tree.specs.Trees.Charge.{fits}
 use Rattle.model_tree.specs.Trees.Edit.{PutNode, PutName, Show, SetSize, done, edited, name_put, with_content, resized}
 use Rattle.model_tree.specs.Trees.Edit as model
 use Rattle.model_tree.specs.Trees.Keyed.{Keyed, at, with, is_key}
-use Rattle.model_tree.specs.Trees.Limits.{limits_of}
+use Rattle.volume.specs.VolumeState.{IsLimited}
 use Rattle.model_tree.specs.Refusals.Name.{name_refusals}
 use Rattle.model_tree.specs.Refusals.Refusal.{first_refusal}
 use Rattle.model_tree.specs.declared.status.Status.TheVariants as status
@@ -73,7 +73,7 @@ no_bytes : (of : NodeKind) (made : model.Metadata) → length (bytes_of (fresh_n
 no_bytes kind.File made = refl
 no_bytes kind.Directory made = refl
 
-module _ (fs : FileSystem) (formed : MayStand fs.volume fs.changes) (counted : fs.changes < 2 ^ 32) (limited : fs.volume.limits ≡ limits_of fs.volume.sectors fs.volume.limits.nodes)
+module _ (fs : FileSystem) (formed : MayStand fs.volume fs.changes) (counted : fs.changes < 2 ^ 32) (limited : IsLimited fs.volume)
     (now number : ℕ) (encoded : Bor (List ℕ)) (parent : Node) (names : Keyed DirEntry) (there : at number fs.volume.tree ≡ Some parent) (content : parent.content ≡ Directory names)
     (of : NodeKind) (child_metadata parent_metadata : Metadata) where
   abbrev own : ℕ
@@ -149,7 +149,7 @@ module _ (fs : FileSystem) (formed : MayStand fs.volume fs.changes) (counted : f
           new_name = ap (λ (o : Option Node). entry_of encoded.now (names_of_node o)) there_then ∙ lacks;
           new_stamp = ap (λ (o : Option Node). at own (names_of_node o)) there_then ∙ laws.new_stamp fs formed now number encoded.now parent names there content;
           some = name_some limits encoded.now may.allowed;
-          short = (let short = name_short limits encoded.now may.allowed in omega (arith, short, ap (λ (l : Limits). l.name_bytes) limited));
+          short = (let short = name_short limits encoded.now may.allowed in omega (arith, short, ap (λ (l : Limits). l.name_bytes) limited.limits));
           above = laws.high fs formed now number encoded.now parent names there content;
         },
         (

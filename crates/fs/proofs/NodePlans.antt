@@ -23,7 +23,7 @@ use Rattle.model_tree.specs.Trees.Changes.{touched}
 use Rattle.model_tree.specs.Trees.Charge.{fits}
 use Rattle.model_tree.specs.Trees.Edit.{SetSize, done, edited, name_put, resized, with_content}
 use Rattle.model_tree.specs.Trees.Keyed.{IsAbove, at, with}
-use Rattle.model_tree.specs.Trees.Limits.{limits_of}
+use Rattle.volume.specs.VolumeState.{IsLimited}
 use Rattle.model_tree.specs.Refusals.Refusal.{first_refusal}
 use Rattle.model_tree.specs.Trees.Stamp.{next_stamp}
 use Rattle.model_tree.specs.Trees.Tree.{Tree, Node, DirEntry, File, Directory, bytes_of, is_directory, is_directory_at, is_directory_node, names_at, names_of_node}
@@ -135,7 +135,7 @@ module _ (fs : FileSystem) (formed : MayStand fs.volume fs.changes) (number : �
         ∙ same_length (zeros size) (resized (bytes_of first.content) size) (length-zeros size ∙ sym (length-resized (bytes_of first.content) size)))
         ∙ ap (λ (t : Tree). fits fs.volume.limits (edited (edits_of naming) t)) (sym (sized_is size))
 
-module _ (fs : FileSystem) (formed : MayStand fs.volume fs.changes) (counted : fs.changes < 2 ^ 32) (limited : fs.volume.limits ≡ limits_of fs.volume.sectors fs.volume.limits.nodes)
+module _ (fs : FileSystem) (formed : MayStand fs.volume fs.changes) (counted : fs.changes < 2 ^ 32) (limited : IsLimited fs.volume)
     (now number : ℕ) (encoded : Bor (List ℕ)) (of : NodeKind) (size : ℕ) (child_metadata parent_metadata : Metadata) (cached : CachedNode) (parent : IsDirectoryOf fs.volume.tree number cached) (has : IsSizeOf of size)
     (may : MayBeMade fs number encoded.now (first_node of size (metadata_of child_metadata))) (entries : AreEntries (metadata_of child_metadata).acl)
     (stamp : ℕ) (edits : List Edit) (stamp_is : stamp ≡ next_stamp fs.volume.run fs.changes) (metadata_is : metadata_of parent_metadata ≡ metadata_by cached.fields stamp now)

@@ -20,7 +20,7 @@ use Rattle.model.specs.Operations.Directory.{change_of}
 use Rattle.model_tree.specs.Trees.Edit.{DropName, DropNode, Show, edited}
 use Rattle.model_tree.specs.Trees.Edit as model
 use Rattle.model_tree.specs.Trees.Keyed.{at}
-use Rattle.model_tree.specs.Trees.Limits.{limits_of}
+use Rattle.volume.specs.VolumeState.{IsLimited}
 use Rattle.model.specs.Operations.Operation.{Argument}
 use Rattle.model_tree.specs.Refusals.Refusal.{first_refusal}
 use Rattle.model_tree.specs.Trees.Stamp.{next_stamp, is_stamp_left}
@@ -54,12 +54,12 @@ metadata_touched tree number cached is stamp now =
 pub change_metadata : (tree : Tree) (number : ℕ) (cached : CachedNode) (is : IsNodeOf tree number cached) → change_of (at number tree) ≡ cached.fields.change
 change_metadata tree number cached is = ap change_of is.there ∙ is.change
 
-pub entries_metadata : (fs : FileSystem) → MayStand fs.volume fs.changes → fs.volume.limits ≡ limits_of fs.volume.sectors fs.volume.limits.nodes → (number : ℕ) (cached : CachedNode) → IsNodeOf fs.volume.tree number cached
+pub entries_metadata : (fs : FileSystem) → MayStand fs.volume fs.changes → IsLimited fs.volume → (number : ℕ) (cached : CachedNode) → IsNodeOf fs.volume.tree number cached
     → (fit : IsCached cached) (metadata : Metadata) (stamp now : ℕ) → metadata_of metadata ≡ metadata_by cached.fields stamp now → AreEntries (metadata_of metadata).acl
 entries_metadata fs formed limited number cached node fit metadata stamp now is =
     subst (λ (s : model.Metadata). AreEntries s.acl) (sym is) (record { few = few_listed fs formed limited number cached node; each = fit.fits.each_ace })
 
-module _ (fs : FileSystem) (formed : MayStand fs.volume fs.changes) (counted : fs.changes < 2 ^ 32) (limited : fs.volume.limits ≡ limits_of fs.volume.sectors fs.volume.limits.nodes)
+module _ (fs : FileSystem) (formed : MayStand fs.volume fs.changes) (counted : fs.changes < 2 ^ 32) (limited : IsLimited fs.volume)
     (cred : Cred) (now number : ℕ) (cached : CachedNode) (encoded : Bor (List ℕ)) (entry_stamp target : ℕ) (node : IsNodeOf fs.volume.tree number cached) (fit_cached : IsCached cached)
     (found : entry_of encoded.now (names_at fs.volume.tree number) ≡ Some (record_from entry_stamp encoded.now target))
     (passed : first_refusal (removal_refusals fs.volume.limits fs.volume.tree cred number encoded.now) ≡ None)

@@ -18,7 +18,7 @@ use Rattle.model.specs.Operations.Directory.{change_of}
 use Rattle.model_tree.specs.Trees.Tree.{is_named, number_named, number_of_entry, Tree, Node, DirEntry, is_directory_node, is_directory_at, names_at, entry_of}
 use Rattle.model_tree.specs.Trees.Edit.{Edit, Metadata, DropName, DropNode, Show, done, edited, name_dropped}
 use Rattle.model_tree.specs.Trees.Keyed.{Keyed, at, is_key}
-use Rattle.model_tree.specs.Trees.Limits.{limits_of}
+use Rattle.volume.specs.VolumeState.{IsLimited}
 use Rattle.model_tree.specs.Refusals.Name.{name_refusals}
 use Rattle.model.specs.Operations.Operation.{Argument}
 use Rattle.model.specs.Sessions.Opens.{no_opens}
@@ -79,7 +79,7 @@ early_refusal fs cred now number name state in_it reason early =
     ∙ ap (λ (n : ℕ). first_refusal (removal_refusals limits fs.volume.tree cred n name)) in_it.is_state.current_is
     ∙ early)
 
-module _ (fs : FileSystem) (formed : MayStand fs.volume fs.changes) (counted : fs.changes < 2 ^ 32) (limited : fs.volume.limits ≡ limits_of fs.volume.sectors fs.volume.limits.nodes)
+module _ (fs : FileSystem) (formed : MayStand fs.volume fs.changes) (counted : fs.changes < 2 ^ 32) (limited : IsLimited fs.volume)
     (cred : Cred) (now number : ℕ) (name : List ℕ) (entry : ℕ × DirEntry) (found : entry_of name (names_at fs.volume.tree number) ≡ Some entry)
     (passed : first_refusal (removal_refusals fs.volume.limits fs.volume.tree cred number name) ≡ None) where
   abbrev limits : Limits

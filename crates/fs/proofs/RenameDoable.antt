@@ -24,7 +24,7 @@ use Rattle.model_tree.specs.Trees.Charge.{fits}
 use Rattle.model_tree.specs.Trees.Edit.{DropName, PutName, Show, done, edited, name_dropped, name_put, showing}
 use Rattle.model_tree.specs.Trees.Edit as model
 use Rattle.model_tree.specs.Trees.Keyed.{at, is_key, IsAbove}
-use Rattle.model_tree.specs.Trees.Limits.{limits_of}
+use Rattle.volume.specs.VolumeState.{IsLimited}
 use Rattle.model_tree.specs.Refusals.Refusal.{first_refusal}
 use Rattle.model_tree.specs.Trees.Stamp.{next_stamp}
 use Rattle.model_tree.specs.Trees.Tree.{Tree, DirEntry, entry_of, names_at, is_directory_at}
@@ -42,7 +42,7 @@ use Rattle.fs.proofs.RenamedLaws as laws
 use Rattle.fs.specs.Forms.{replacing}
 use Rattle.fs.proofs.RoomLaws.{above_altered, show_room}
 
-module _ (fs : FileSystem) (formed : MayStand fs.volume fs.changes) (counted : fs.changes < 2 ^ 32) (limited : fs.volume.limits ≡ limits_of fs.volume.sectors fs.volume.limits.nodes)
+module _ (fs : FileSystem) (formed : MayStand fs.volume fs.changes) (counted : fs.changes < 2 ^ 32) (limited : IsLimited fs.volume)
     (cred : Cred) (now : ℕ) (asked : Renaming) (old_stamp number : ℕ) (target : Option (ℕ × ℕ))
     (found : entry_of asked.old_name.now (names_at fs.volume.tree asked.from) ≡ Some (record_from old_stamp asked.old_name.now number)) (under : IsTarget fs.volume.tree asked target)
     (passed : first_refusal (moving_refusals fs.volume.limits fs.volume.tree asked.from asked.to (arguments_of asked)) ≡ None)
@@ -76,7 +76,7 @@ module _ (fs : FileSystem) (formed : MayStand fs.volume fs.changes) (counted : f
   name_is_some = name_some fs.volume.limits asked.new_name.now places.allowed
 
   pub name_is_short : length asked.new_name.now ≤ 255
-  name_is_short = (let short = name_short fs.volume.limits asked.new_name.now places.allowed in omega (arith, short, ap (λ (l : Limits). l.name_bytes) limited))
+  name_is_short = (let short = name_short fs.volume.limits asked.new_name.now places.allowed in omega (arith, short, ap (λ (l : Limits). l.name_bytes) limited.limits))
 
   pub name_high : 0 < own
   name_high = omega arith

@@ -18,7 +18,7 @@ use Rattle.model.specs.Operations.Directory.{change_of}
 use Rattle.model_tree.specs.Trees.Tree.{is_named, number_of_entry, Tree, DirEntry, is_directory_at, names_at, entry_of}
 use Rattle.model_tree.specs.Trees.Edit.{Edit, Metadata, DropName, DropNode, PutName, Show, done, edited}
 use Rattle.model_tree.specs.Trees.Keyed.{at}
-use Rattle.model_tree.specs.Trees.Limits.{limits_of}
+use Rattle.volume.specs.VolumeState.{IsLimited}
 use Rattle.model_tree.specs.Refusals.Name.{name_refusals}
 use Rattle.model.specs.Operations.Operation.{Argument, RenameArguments}
 use Rattle.model.specs.Sessions.Opens.{Opens, no_opens}
@@ -151,7 +151,7 @@ pub removal_is : (to : ℕ) (name : List ℕ) (target : Option (ℕ × ℕ)) →
 removal_is to name None = refl
 removal_is to name (Some found) = refl
 
-module _ (fs : FileSystem) (formed : MayStand fs.volume fs.changes) (counted : fs.changes < 2 ^ 32) (limited : fs.volume.limits ≡ limits_of fs.volume.sectors fs.volume.limits.nodes)
+module _ (fs : FileSystem) (formed : MayStand fs.volume fs.changes) (counted : fs.changes < 2 ^ 32) (limited : IsLimited fs.volume)
     (cred : Cred) (now : ℕ) (asked : Renaming) (old_stamp number : ℕ) (target : Option (ℕ × ℕ))
     (found : entry_of asked.old_name.now (names_at fs.volume.tree asked.from) ≡ Some (record_from old_stamp asked.old_name.now number)) (under : IsTarget fs.volume.tree asked target)
     (passed : first_refusal (moving_refusals fs.volume.limits fs.volume.tree asked.from asked.to (arguments_of asked)) ≡ None)

@@ -15,7 +15,7 @@ use Rattle.model.specs.Attributes.Attribute.{attribute_refusals, attributes_of, 
 use Rattle.model_tree.specs.Trees.Charge.{fits}
 use Rattle.model_tree.specs.Trees.Edit.{Edit, SetSize, Show, Metadata, edited, done, with_content, resized}
 use Rattle.model_tree.specs.Trees.Keyed.{at, is_key}
-use Rattle.model_tree.specs.Trees.Limits.{limits_of}
+use Rattle.volume.specs.VolumeState.{IsLimited}
 use Rattle.model.specs.Operations.Need.{granted_on}
 use Rattle.model.specs.Operations.Operation.{Argument, Attributes, SetAttrArguments}
 use Rattle.model_tree.specs.Refusals.Refusal.{Refusals, first_refusal}
@@ -57,7 +57,7 @@ flat_set : (tree : Tree) → without_data tree ≡ tree → (number : ℕ) (size
 flat_set tree flat number None metadata = flat_metadata tree flat number metadata
 flat_set tree flat number (Some size) metadata = flat_metadata (done (SetSize number size) tree) (flat_sized tree flat number size) number metadata
 
-module _ (fs : FileSystem) (formed : MayStand fs.volume fs.changes) (counted : fs.changes < 2 ^ 32) (limited : fs.volume.limits ≡ limits_of fs.volume.sectors fs.volume.limits.nodes)
+module _ (fs : FileSystem) (formed : MayStand fs.volume fs.changes) (counted : fs.changes < 2 ^ 32) (limited : IsLimited fs.volume)
     (cred : Cred) (now number : ℕ) (verdict : Result (Unit {0}) Status) (given : Attributes) (node : Node) (there : at number fs.volume.tree ≡ Some node)
     (passed : first_refusal (setting_tests fs.volume.limits fs.volume.tree cred number verdict given) ≡ None) where
   abbrev limits : Limits

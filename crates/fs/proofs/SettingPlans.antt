@@ -27,7 +27,8 @@ use Rattle.model_tree.specs.Trees.Charge.{fits}
 use Rattle.model_tree.specs.Trees.Edit.{Show, SetSize, done, edited, with_content, resized}
 use Rattle.model_tree.specs.Trees.Edit as model
 use Rattle.model_tree.specs.Trees.Keyed.{at, is_key}
-use Rattle.model_tree.specs.Trees.Limits.{limits_of}
+use Rattle.volume.proofs.LimitLaws.{file_most}
+use Rattle.volume.specs.VolumeState.{IsLimited}
 use Rattle.model.specs.Operations.Need.{granted_on}
 use Rattle.model.specs.Operations.Operation.{Attributes, SetAttrArguments}
 use Rattle.model_tree.specs.Refusals.Refusal.{first_refusal}
@@ -109,7 +110,7 @@ room_asked fs formed now asked node settings are =
     resized_room fs formed asked.number (size_given given) (metadata_set (Some node) given (next_stamp fs.volume.run fs.changes) now)
     ∙ ap (λ (size : Option ℕ). fits fs.volume.limits (edited_by fs.volume (resizing asked.number size))) (sym are.size)
 
-module _ (fs : FileSystem) (formed : MayStand fs.volume fs.changes) (counted : fs.changes < 2 ^ 32) (limited : fs.volume.limits ≡ limits_of fs.volume.sectors fs.volume.limits.nodes)
+module _ (fs : FileSystem) (formed : MayStand fs.volume fs.changes) (counted : fs.changes < 2 ^ 32) (limited : IsLimited fs.volume)
     (cred : Cred) (now : ℕ) (asked : Setting) (cached : CachedNode) (is_node : IsNodeOf fs.volume.tree asked.number cached)
     (passed : first_refusal (setting_tests fs.volume.limits fs.volume.tree cred asked.number asked.verdict (given_of asked.attributes)) ≡ None)
     (settings : Settings) (are : AreSettings settings (given_of asked.attributes)) (within : WithinLimits fs.volume.limits cached.fields.kind settings) (some : settings.is_empty ≡ false)
@@ -165,8 +166,8 @@ module _ (fs : FileSystem) (formed : MayStand fs.volume fs.changes) (counted : f
   after_is : edited_by fs.volume edits ≡ edited (wanted (size_given given)) tree
   after_is = ap (λ (l : List model.Edit). edited l tree) wanted_is
 
-  most : limits.file_bytes ≡ 16777216
-  most = ap (λ (l : Limits). l.file_bytes) limited
+  most : limits.file_bytes ≤ 16777216
+  most = file_most fs.volume limited
 
   key : is_key number tree ≡ true
   key = ap is_some is_node.there

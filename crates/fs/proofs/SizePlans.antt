@@ -20,7 +20,8 @@ use Rattle.model_tree.specs.Trees.Charge.{fits}
 use Rattle.model_tree.specs.Trees.Edit.{SetSize, Show, done, edited, with_content, resized}
 use Rattle.model_tree.specs.Trees.Edit as model
 use Rattle.model_tree.specs.Trees.Keyed.{at, is_key}
-use Rattle.model_tree.specs.Trees.Limits.{limits_of}
+use Rattle.volume.proofs.LimitLaws.{file_most}
+use Rattle.volume.specs.VolumeState.{IsLimited}
 use Rattle.model_tree.specs.Trees.Stamp.{next_stamp}
 use Rattle.model_tree.specs.Trees.Tree.{Tree, Node, Content, File, bytes_of, kind_of, is_directory, is_directory_node}
 use Rattle.model_tree.specs.Trees.WellFormed.{IsWellFormed}
@@ -36,7 +37,7 @@ use Rattle.volume.specs.Edits.{edited_by}
 use Rattle.fs.specs.Forms as form
 use Rattle.volume.specs.Nodes.{IsNodeOf, IsFile, ShowsContent}
 
-module _ (fs : FileSystem) (formed : MayStand fs.volume fs.changes) (counted : fs.changes < 2 ^ 32) (limited : fs.volume.limits ≡ limits_of fs.volume.sectors fs.volume.limits.nodes)
+module _ (fs : FileSystem) (formed : MayStand fs.volume fs.changes) (counted : fs.changes < 2 ^ 32) (limited : IsLimited fs.volume)
     (now number : ℕ) (cached : CachedNode) (node : IsNodeOf fs.volume.tree number cached) (file : cached.fields.kind ≡ kind.File) (fit_cached : IsCached cached) (size : ℕ) (low : size ≤ fs.volume.limits.file_bytes)
     (stamp : ℕ) (metadata : Metadata) (edits : List Edit) (stamp_is : stamp ≡ next_stamp fs.volume.run fs.changes) (metadata_is : metadata_of metadata ≡ metadata_by cached.fields stamp now)
     (edits_are : edits ≡ edit.SetSize number size ∷ edit.Show number metadata ∷ []) where
@@ -70,8 +71,8 @@ module _ (fs : FileSystem) (formed : MayStand fs.volume fs.changes) (counted : f
   abbrev list : List Edit
   list = edit.SetSize number size ∷ edit.Show number metadata ∷ []
 
-  most : fs.volume.limits.file_bytes ≡ 16777216
-  most = ap (λ (l : Limits). l.file_bytes) limited
+  most : fs.volume.limits.file_bytes ≤ 16777216
+  most = file_most fs.volume limited
 
   few_now : size_of (at number tree) ≤ 16777216
   few_now =

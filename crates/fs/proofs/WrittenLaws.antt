@@ -27,7 +27,8 @@ use Rattle.model_tree.specs.Trees.Edit.{PutBytes, Show, done, edited, with_conte
 use Rattle.model_tree.specs.Trees.Edit as model
 use Rattle.model.specs.Operations.Files.{are_bytes, has_bytes, taken_bytes, write}
 use Rattle.model_tree.specs.Trees.Keyed.{at, is_key}
-use Rattle.model_tree.specs.Trees.Limits.{limits_of}
+use Rattle.volume.proofs.LimitLaws.{file_most}
+use Rattle.volume.specs.VolumeState.{IsLimited}
 use Rattle.model.specs.Operations.Operation.{Argument, WriteArguments}
 use Rattle.model_tree.specs.Refusals.Refusal.{first_refusal}
 use Rattle.model_tree.specs.Trees.Stamp.{next_stamp, is_stamp_left}
@@ -163,7 +164,7 @@ puts_tree fs cred now number verdict asked edits step then lasts made = (
 
 -- The edits, as they are in memory
 
-module _ (fs : FileSystem) (formed : MayStand fs.volume fs.changes) (counted : fs.changes < 2 ^ 32) (limited : fs.volume.limits ≡ limits_of fs.volume.sectors fs.volume.limits.nodes)
+module _ (fs : FileSystem) (formed : MayStand fs.volume fs.changes) (counted : fs.changes < 2 ^ 32) (limited : IsLimited fs.volume)
     (cred : Cred) (now number : ℕ) (verdict : Result (Unit {0}) Status) (asked : Writing) (cached : CachedNode) (node : IsNodeOf fs.volume.tree number cached) (file : cached.fields.kind ≡ kind.File) (fit_cached : IsCached cached)
     (passed : first_refusal (permit_refusals fs.volume.tree cred number write_data verdict) ≡ None) (some : 0 < length asked.bytes.now)
     (low : asked.offset + length (bytes_taken fs asked) ≤ fs.volume.limits.file_bytes)
@@ -203,10 +204,10 @@ module _ (fs : FileSystem) (formed : MayStand fs.volume fs.changes) (counted : f
   after_is = ap (λ (l : List model.Edit). edited l fs.volume.tree) wanted_is
 
   transfer : fs.volume.limits.transfer_bytes ≡ 8192
-  transfer = ap (λ (l : Limits). l.transfer_bytes) limited
+  transfer = ap (λ (l : Limits). l.transfer_bytes) limited.limits
 
-  most : fs.volume.limits.file_bytes ≡ 16777216
-  most = ap (λ (l : Limits). l.file_bytes) limited
+  most : fs.volume.limits.file_bytes ≤ 16777216
+  most = file_most fs.volume limited
 
   part_some : 0 < length part
   part_some = omega (arith, some, length-take fs.volume.limits.transfer_bytes asked.bytes.now, transfer)

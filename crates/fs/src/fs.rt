@@ -44,7 +44,7 @@ impl<D: Device> Fs<D> {
     ghost use Rattle.model_tree.specs.Seats.SeatViews.{seats_view};
     ghost use Rattle.volume.specs.Changes.{IsSeats, Stays};
     ghost use Rattle.volume.specs.Formed.{ShowsTree};
-    ghost use Rattle.volume.specs.VolumeState.{KeepsRecent, MakesAtMost};
+    ghost use Rattle.volume.specs.VolumeState.{KeepsRecent, MakesAtMost, checkpoint_cost, flush_cost};
     ghost use Rattle.volume.specs.MountAnswers.{FindsSeats, MountGivesBack};
     ghost use Rattle.volume.specs.Rooms.{IsLeftOf};
 
@@ -228,7 +228,9 @@ impl<D: Device> Fs<D> {
         ensures flushes { FsFlushes D.keeps_word (fs_of self.old) (fs_of self.new)
             (fs_failures self.old) (fs_failures self.new) result }
         ensures brief { D.keeps_word
-            → MakesAtMost 198 (fs_of self.old).volume (fs_of self.new).volume }
+            → MakesAtMost
+            (flush_cost (fs_of self.old).volume.version (fs_of self.old).volume.sectors)
+            (fs_of self.old).volume (fs_of self.new).volume }
         ensures shows { OnOk result (ShowsTree D.keeps_word (fs_of self.old).volume.tree
             (fs_of self.new).volume.tree) }
         // If it fails
@@ -250,7 +252,9 @@ impl<D: Device> Fs<D> {
         ensures volume { AltersFs self.old self.new
             (Stays (fs_of self.old).volume) (fs_ending result) }
         ensures brief { D.keeps_word
-            → MakesAtMost 99 (fs_of self.old).volume (fs_of self.new).volume }
+            → MakesAtMost
+            (checkpoint_cost (fs_of self.old).volume.version (fs_of self.old).volume.sectors)
+            (fs_of self.old).volume (fs_of self.new).volume }
         ensures shows { OnOk result (ShowsTree D.keeps_word (fs_of self.old).volume.tree
             (fs_of self.new).volume.tree) }
         ensures recent { D.keeps_word → OnOk result

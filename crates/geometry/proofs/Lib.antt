@@ -1,4 +1,3 @@
 pub mod PlaceLaws
 pub mod ReadBack
-pub mod Whole
 pub mod Written

@@ -1,14 +1,13 @@
 -- The superblock of layout version 3: sector 0 of a volume, byte by byte.
-use Rattle.std.specs.Prelude.{◌≡◌, ◌<◌, ◌^◌, ◌++◌, ℕ, List, codes, length, replicate}
+use Rattle.std.specs.Prelude.{◌≡◌, ◌++◌, ℕ, List, codes, length, replicate}
 use Rattle.std.specs.Int.{w16, w32, w64, to_be_bytes}
 use Rattle.geometry.specs.Places.{Fits}
 use Rattle.geometry.specs.declared.geometry.Geometry.{Geometry}
 use Rattle.geometry.specs.declared.superblock.Superblock.{Superblock}
 
--- what can be encoded
+-- what can be encoded, beside a restart count of four bytes
 pub record IsSuperblock (s : Superblock) : Type 0 where
   pub fits : Fits s.geometry
-  pub restarts : s.restarts < 2 ^ 32
   pub identity : length s.identity ≡ 16
 
 -- bytes 0 to 35
@@ -25,13 +24,13 @@ header restarts g =
     ++ to_be_bytes w32 g.names
 
 -- bytes 0 to 63
-abbrev pub fields : Superblock → List ℕ
-fields s =
-    header s.restarts s.geometry
+abbrev pub fields : Superblock → (restarts : ℕ) → List ℕ
+fields s restarts =
+    header restarts s.geometry
     ++ replicate 4 0
     ++ to_be_bytes w64 s.geometry.file_bytes
     ++ s.identity
 
 -- all of them
-unfoldable pub superblock : Superblock → List ℕ
-superblock s = fields s ++ replicate 4032 0
+unfoldable pub superblock : Superblock → (restarts : ℕ) → List ℕ
+superblock s restarts = fields s restarts ++ replicate 4032 0

@@ -8,7 +8,7 @@
 --   148 + N to S - Z - L - 1     data region, 16 sectors or more
 --   S - Z - L to S - L - 1       seats, 1 + 4 q sectors each
 --   S - L to S - 1               log
-use Rattle.std.specs.Prelude.{◌≡◌, ◌≤◌, ◌<◌, ◌+◌, ◌-◌, ◌*◌, ◌^◌, ℕ, false}
+use Rattle.std.specs.Prelude.{◌≡◌, ◌≤◌, ◌<◌, ◌+◌, ◌-◌, ◌*◌, ◌^◌, ◌==◌, ◌&&◌, ◌↔◌, ℕ, Bool, false, IsTrue, nat_le, nat_lt}
 use Rattle.journal.specs.declared.layout.LogArea.{LogArea}
 use Rattle.geometry.specs.declared.geometry.Geometry.{Geometry}
 
@@ -18,13 +18,12 @@ pub record IsWithinLimits (g : Geometry) : Type 0 where
   pub max_nodes : g.nodes ≤ 4194304
   pub min_log : 288 ≤ g.log
   pub max_log : g.log ≤ 1022
-  pub max_seats : g.seats ≤ 64
-  pub min_slots : 1 ≤ g.slots
-  pub max_slots : g.slots ≤ 8
+  pub seats : g.seats ≡ 5
+  pub slots : g.slots ≡ 2
   pub min_names : 1 ≤ g.names
-  pub max_names : g.names ≤ 1048576
+  pub max_names : g.names ≤ 1024
   pub min_file_bytes : 1 ≤ g.file_bytes
-  pub max_file_bytes : g.file_bytes ≤ 2 ^ 40
+  pub max_file_bytes : g.file_bytes ≤ 2 ^ 24
 
 -- the sectors of a seat, and of all of them
 abbrev pub sectors_per_seat : Geometry → ℕ
@@ -33,11 +32,25 @@ sectors_per_seat g = 1 + 4 * g.slots
 abbrev pub seats_sectors : Geometry → ℕ
 seats_sectors g = g.seats * sectors_per_seat g
 
--- a volume may have this geometry
+-- a volume may have this geometry: as a record, and as a test
 pub record Fits (g : Geometry) : Type 0 where
   pub limits : IsWithinLimits g
   pub room : 164 + g.nodes + seats_sectors g + g.log ≤ g.sectors
   pub sectors : g.sectors < 2 ^ 32
+
+abbrev pub is_within_limits : Geometry → Bool
+is_within_limits g =
+    nat_le 2 g.nodes && nat_le g.nodes 4194304 && nat_le 288 g.log && nat_le g.log 1022
+    && (g.seats == 5) && (g.slots == 2) && nat_le 1 g.names && nat_le g.names 1024
+    && nat_le 1 g.file_bytes && nat_le g.file_bytes (2 ^ 24)
+
+unfoldable pub fits : Geometry → Bool
+fits g =
+    is_within_limits g && nat_le (164 + g.nodes + seats_sectors g + g.log) g.sectors
+    && nat_lt g.sectors (2 ^ 32)
+
+abbrev pub FitsIsTested : Type 0
+FitsIsTested = (g : Geometry) → IsTrue (fits g) ↔ Fits g
 
 abbrev pub data_start : Geometry → ℕ
 data_start g = 148 + g.nodes

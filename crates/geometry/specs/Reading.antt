@@ -1,8 +1,8 @@
 -- What sector 0 says of the volume on a device.
-use Rattle.std.specs.Prelude.{◌≡◌, ◌≢◌, ℕ, List, All, codes, drop, take}
+use Rattle.std.specs.Prelude.{◌≡◌, ◌<◌, ◌^◌, ◌==◌, ◌&&◌, ℕ, Bool, List, Option, Some, None, bytes_eq, codes, drop, take, if◌then◌else◌}
 use Rattle.std.specs.Int.{w16, w32, w64, from_be_bytes}
 use Rattle.geometry.specs.Encoding.{IsSuperblock, superblock}
-use Rattle.geometry.specs.Places.{Fits}
+use Rattle.geometry.specs.Places.{fits}
 use Rattle.geometry.specs.declared.geometry.Geometry.{Geometry}
 use Rattle.geometry.specs.declared.superblock.Superblock.{Superblock}
 
@@ -31,39 +31,31 @@ identity_in sector = take 16 (drop 48 sector)
 abbrev pub superblock_in : List ℕ → Superblock
 superblock_in sector = record {
   geometry = geometry_in sector;
-  restarts = restarts_in sector;
   identity = identity_in sector;
 }
 
--- What a mount finds, in this order
+-- a volume of version 3 of the device's size, whatever its restart count and the bytes outside the
+-- fields
+unfoldable pub is_volume : (device : ℕ) → (sector : List ℕ) → Bool
+is_volume device sector =
+    bytes_eq (take 8 sector) (codes "NFS41VOL") && (version_in sector == 3)
+    && ((geometry_in sector).sectors == device) && fits (geometry_in sector)
 
--- a volume of version 3 of the device's size
-pub record IsVolume (device : ℕ) (sector : List ℕ) : Type 0 where
-  pub magic : take 8 sector ≡ codes "NFS41VOL"
-  pub version : version_in sector ≡ 3
-  pub size : (geometry_in sector).sectors ≡ device
-  pub fits : Fits (geometry_in sector)
-
--- its restarts cannot be counted further
-abbrev pub IsWorn : List ℕ → Type 0
-IsWorn sector = restarts_in sector ≡ 4294967295
-
--- the bytes outside the fields are zero
-pub record IsClean (sector : List ℕ) : Type 0 where
-  pub gap : All (λ byte. byte ≡ 0) (take 4 (drop 36 sector))
-  pub rest : All (λ byte. byte ≡ 0) (take 4032 (drop 64 sector))
-
--- a superblock that a mount takes on this device
-pub record IsMountable (device : ℕ) (s : Superblock) : Type 0 where
-  pub encodes : IsSuperblock s
-  pub size : s.geometry.sectors ≡ device
-  pub counted : s.restarts ≢ 4294967295
+abbrev pub found_in : (device : ℕ) → (sector : List ℕ) → Option Superblock
+found_in device sector =
+    if is_volume device sector then Some (superblock_in sector) else None
 
 -- Laws
 
+pub record ReadsBack (s : Superblock) (run : ℕ) : Type 0 where
+  pub found : found_in s.geometry.sectors (superblock s run) ≡ Some s
+  pub restarts : restarts_in (superblock s run) ≡ run
+
 abbrev pub SuperblocksReadBack : Type 0
-SuperblocksReadBack = (s : Superblock) → IsSuperblock s → superblock_in (superblock s) ≡ s
+SuperblocksReadBack =
+    (s : Superblock) (run : ℕ) → IsSuperblock s → run < 2 ^ 32 → ReadsBack s run
 
 abbrev pub OneEncoding : Type 0
 OneEncoding =
-    (a b : Superblock) → IsSuperblock a → IsSuperblock b → superblock a ≡ superblock b → a ≡ b
+    (a b : Superblock) (run other : ℕ) → IsSuperblock a → IsSuperblock b
+    → superblock a run ≡ superblock b other → a ≡ b

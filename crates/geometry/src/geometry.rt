@@ -2,7 +2,8 @@
 
 ghost use Rattle.std.specs.Prelude.{◌≡◌, ◌<◌, ◌↔◌, IsTrue};
 ghost use Rattle.journal.specs.Layout.{IsArea, area_end};
-ghost use Rattle.geometry.specs.Places.{Fits, IsWithinLimits, data_end, data_sectors, data_start, log_area, log_start, seat_start, seats_sectors, seats_start, sectors_per_seat};
+ghost use Rattle.geometry.specs.Places.{Fits, IsWithinLimits, fits, data_end, data_sectors, data_start};
+ghost use Rattle.geometry.specs.Places.{log_area, log_start, seat_start, seats_sectors, seats_start, sectors_per_seat};
 
 use journal::LogArea;
 
@@ -18,17 +19,17 @@ pub const MIN_LOG: u32 = 288;
 /// The most sectors of a log: a commit record has room for this many targets.
 pub const MAX_LOG: u32 = 1_022;
 
-/// The most seats of a volume.
-pub const MAX_SEATS: u16 = 64;
+/// The number of seats of a volume, the only one so far.
+pub const SEATS: u16 = 5;
 
-/// The most slots of a seat.
-pub const MAX_SLOTS: u16 = 8;
+/// The number of slots of a seat, the only one so far.
+pub const SLOTS: u16 = 2;
 
 /// The most names of a directory.
-pub const MAX_NAMES: u32 = 1_048_576;
+pub const MAX_NAMES: u32 = 1_024;
 
 /// The most bytes of a file.
-pub const MAX_FILE_BYTES: u64 = 1 << 40;
+pub const MAX_FILE_BYTES: u64 = 1 << 24;
 
 /// The first sector of the node table.
 const NODES: u32 = 148;
@@ -62,7 +63,8 @@ impl Geometry {
     /// Returns whether a volume may have this geometry: each number is in its range, and the data
     /// region has at least 16 sectors.
     pub fn fits(&self) -> bool
-        ensures { IsTrue result ↔ Fits self.now }
+        ensures value { result ≡ fits self.now }
+        ensures is { IsTrue result ↔ Fits self.now }
     {
         self.is_within_limits()
             && NODES + MIN_DATA + self.nodes + self.seats_sectors() + self.log <= self.sectors
@@ -76,9 +78,8 @@ impl Geometry {
             && self.nodes <= MAX_NODES
             && MIN_LOG <= self.log
             && self.log <= MAX_LOG
-            && self.seats <= MAX_SEATS
-            && 1 <= self.slots
-            && self.slots <= MAX_SLOTS
+            && self.seats == SEATS
+            && self.slots == SLOTS
             && 1 <= self.names
             && self.names <= MAX_NAMES
             && 1 <= self.file_bytes

@@ -1,10 +1,9 @@
 //! The first sector of a volume.
 
-ghost use Rattle.std.specs.Prelude.{◌≡◌, ◌≤◌, ◌+◌, ◌↔◌, All, IfOk, IsErrOf, IsTrue, drop, length, take};
-ghost use Rattle.geometry.specs.Encoding.{header, superblock};
-ghost use Rattle.geometry.specs.Reading.{IsClean, IsMountable, IsVolume, IsWorn, geometry_in, identity_in};
+ghost use Rattle.std.specs.Prelude.{◌≡◌, IfSome, length, take};
+ghost use Rattle.geometry.specs.Encoding.{IsSuperblock, header, superblock};
+ghost use Rattle.geometry.specs.Reading.{found_in, geometry_in, identity_in, is_volume};
 
-use crate::fault::SuperblockFault;
 use crate::geometry::Geometry;
 use sector::{SIZE, put_bytes, put_u16, put_u32, put_u64, put_zeros, u16_at, u32_at, u64_at};
 
@@ -17,24 +16,23 @@ const VERSION: u32 = 3;
 /// The offset of the first byte after the fields.
 const REST: usize = 64;
 
-/// A volume of layout version 3, as its first sector describes it.
+/// What never changes of a volume of layout version 3, as its first sector describes it. The sector
+/// also counts the mounts of the volume: that is its restart count.
 #[derive(Clone, Copy)]
 pub struct Superblock {
     /// Where the parts of the volume are, and its limits.
     pub geometry: Geometry,
-    /// How often the volume was mounted.
-    pub restarts: u32,
     /// The identity of the volume: random, and given when it is formatted.
     pub identity: [u8; 16],
 }
 
 impl Superblock {
-    /// Returns the sector that encodes the superblock.
-    pub fn encode(&self) -> [u8; SIZE]
-        ensures { result ≡ superblock self.now }
+    /// Returns the sector that encodes the superblock with this restart count.
+    pub fn encode(&self, restarts: u32) -> [u8; SIZE]
+        ensures { result ≡ superblock self.now restarts }
     {
         let mut sector = [0; SIZE];
-        put_header(&mut sector, self.restarts, &self.geometry);
+        put_header(&mut sector, restarts, &self.geometry);
         put_zeros(&mut sector, 36, 4);
         put_u64(&mut sector, 40, self.geometry.file_bytes);
         put_bytes(&mut sector, 48, &self.identity);
@@ -42,43 +40,20 @@ impl Superblock {
         sector
     }
 
-    /// Reads sector 0 of a device of `device_sectors` sectors.
-    ///
-    /// # Errors
-    ///
-    /// Fails with the first of these that holds:
-    ///
-    /// - [`SuperblockFault::NotVolume`] if the sector describes no volume of version 3 that has the
-    ///   device's size and a geometry that fits.
-    /// - [`SuperblockFault::Worn`] if the restart count cannot be raised.
-    /// - [`SuperblockFault::Damaged`] if a byte outside the fields is not zero.
-    pub fn decode(sector: &[u8; SIZE], device_sectors: u32) -> Result<Superblock, SuperblockFault>
-        ensures mountable { IfOk result (IsMountable device_sectors) }
-        ensures encoded { IfOk result (λ found. sector.now ≡ superblock found) }
-        ensures only { (s : Superblock) → IsMountable device_sectors s → sector.now ≡ superblock s
-            → result ≡ Ok s }
-        ensures not_volume { IsErrOf result SuperblockFault.NotVolume
-            ↔ (¬ IsVolume device_sectors sector.now) }
-        ensures worn { IsErrOf result SuperblockFault.Worn
-            ↔ (IsVolume device_sectors sector.now × IsWorn sector.now) }
-        ensures damaged { IsErrOf result SuperblockFault.Damaged
-            ↔ (IsVolume device_sectors sector.now
-            × (¬ IsWorn sector.now) × (¬ IsClean sector.now)) }
+    /// Reads sector 0 of a device of `device_sectors` sectors: none if it describes no volume of
+    /// version 3 that has the device's size and a geometry that fits. The restart count may be full,
+    /// and the bytes outside the fields are not looked at: the sector is sound exactly if it is what
+    /// [`Superblock::encode`] returns.
+    pub fn find(sector: &[u8; SIZE], device_sectors: u32) -> Option<Superblock>
+        ensures found { result ≡ found_in device_sectors sector.now }
+        ensures encodes { IfSome result IsSuperblock }
     {
         let geometry = geometry_of(sector);
         if !is_volume(sector, &geometry, device_sectors) {
-            return Err(SuperblockFault::NotVolume);
+            return None;
         }
-        let restarts = u32_at(sector, 20);
-        if restarts == u32::MAX {
-            return Err(SuperblockFault::Worn);
-        }
-        if !is_clean(sector) {
-            return Err(SuperblockFault::Damaged);
-        }
-        Ok(Superblock {
+        Some(Superblock {
             geometry,
-            restarts,
             identity: identity_of(sector),
         })
     }
@@ -101,29 +76,15 @@ fn put_header(sector: &mut [u8; SIZE], restarts: u32, geometry: &Geometry)
 }
 
 /// Returns whether a sector with this geometry is the first of a volume of version 3.
+#[tactic(auto, unfolding(crate::specs::Reading::is_volume))]
 fn is_volume(sector: &[u8; SIZE], geometry: &Geometry, device_sectors: u32) -> bool
     requires { geometry.now ≡ geometry_in sector.now }
-    ensures { IsTrue result ↔ IsVolume device_sectors sector.now }
+    ensures { result ≡ is_volume device_sectors sector.now }
 {
     &sector[..8] == &MAGIC[..]
         && u32_at(sector, 8) == VERSION
         && geometry.sectors == device_sectors
         && geometry.fits()
-}
-
-/// Returns whether the bytes outside the fields are zero.
-fn is_clean(sector: &[u8; SIZE]) -> bool
-    ensures { IsTrue result ↔ IsClean sector.now }
-{
-    are_zero(sector, 36, 4) && are_zero(sector, REST, SIZE - REST)
-}
-
-/// Returns whether `count` bytes from offset `at` on are zero.
-fn are_zero(sector: &[u8; SIZE], at: usize, count: usize) -> bool
-    requires { at + count ≤ SIZE }
-    ensures { IsTrue result ↔ All (λ byte. byte ≡ 0) (take count (drop at sector.now)) }
-{
-    sector[at..at + count].iter().all(|&byte| byte == 0)
 }
 
 /// Reads the geometry, whatever it is.

@@ -6,7 +6,7 @@ use Rattle.std.proofs.lemmas.Bool.{and_parts, le-leb, lt-ltb, leb-true, ltb-true
 use Rattle.std.proofs.lemmas.Nat.{from_be_bytes-to_be_bytes_4}
 use Rattle.layout.specs.CachedNodeLaws.{OneTree}
 use Rattle.layout.specs.CachedNodes.{tree_in}
-use Rattle.layout.specs.Stands.{Version, HasRegion, is_before_nodes}
+use Rattle.layout.specs.Stands.{Version, HasRegion, end_of, is_before_nodes}
 use Rattle.layout.specs.Superblock.{superblock, is_size}
 
 pub record Sized (size nodes : ℕ) : Type 0 where
@@ -57,7 +57,7 @@ pub is_before : (n : ℕ) → 100 ≤ n → n < 148 → is_before_nodes n ≡ tr
 is_before n low high = rw (le-leb 100 n low, lt-ltb n 148 high) refl
 
 -- the parts of a volume of version 1 or 2
-pub region_at_start : (version : Version) (size nodes : ℕ) → IsTrue (is_size size nodes) → version.data_end size ≡ size → version.end size ≡ size → ((n : ℕ) → version.is_spare n ≡ is_before_nodes n)
+pub region_at_start : (version : Version) (size nodes : ℕ) → IsTrue (is_size size nodes) → version.data_end size ≡ size → end_of version size ≡ size → ((n : ℕ) → version.is_spare n ≡ is_before_nodes n)
     → HasRegion version size nodes
 region_at_start version size nodes sized ends last spare =
     let parts = sized_parts size nodes sized in

@@ -12,11 +12,13 @@ pub mod PrefixBytes
 pub mod KeptLaws
 pub mod Knowing
 pub mod LargeLaws
+pub mod LargeParts
 pub mod Linking
 pub mod MarkOnce
 pub mod MarkProofs
 pub mod NodeEditLaws
 pub mod NumberLaws
+pub mod OneKept
 pub mod Rewriting
 pub mod SeatLaws
 pub mod StepLaws

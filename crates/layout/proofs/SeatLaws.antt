@@ -1,14 +1,21 @@
 -- The seats that a volume keeps, and the sectors that hold them.
-use Rattle.std.proofs.Common.{◌≡◌, ◌≤◌, ◌<◌, ◌-◌, ◌/◌, ◌%◌, ◌==◌, ℕ, zero, suc, Bool, true, false, List, Option, None, get_or, if◌then◌else◌, ne_eqb, refl, sym, ap, ◌∙◌, subst, arith}
+use Rattle.std.proofs.Common.{◌≡◌, ◌≤◌, ◌<◌, ◌+◌, ◌-◌, ◌/◌, ◌%◌, ◌==◌, ◌&&◌, ◌||◌, ℕ, zero, suc, Bool, true, false, List, Option, None, Some, get_or, leb, ltb, eqb, if◌then◌else◌, ne_eqb, refl, sym, ap, ◌∙◌, subst, arith}
 use Rattle.std.specs.Prelude.{IsTrue}
+use Rattle.std.proofs.lemmas.Bool.{and_parts, eqb-true, le-leb, le-ltb, lt-ltb, ltb-true}
+use mathlib.Core.Bool.{or-true}
+use Rattle.disk.specs.Moments.{Image}
 use Rattle.disk.specs.Calls as calls
 use Rattle.disk.specs.Calls.{zero_sector}
 use Rattle.model_tree.specs.Seats.Seats.{Seats, has_seat, no_seats}
 use Rattle.seats.specs.Encoding as encoded
-use Rattle.seats.specs.Encoding.{seat_sector, seats_sector}
-use Rattle.layout.specs.Stands.{AreKept, HasRegion, is_before_nodes, MayHaveSeats, mark_held, spare_by, version_1, version_2, version_by}
-use Rattle.layout.specs.Superblock.{is_size}
+use Rattle.seats.specs.Encoding.{ArePlaces, is_determined, seat_sector, seats_sector}
+use Rattle.seats.proofs.ReadBack.{seats-back}
+use Rattle.geometry.specs.Places.{Fits, seats_start}
+use Rattle.geometry.specs.declared.geometry.Geometry.{Geometry}
+use Rattle.layout.specs.Large.{is_of_seats}
+use Rattle.layout.specs.Stands.{AreKept, HasRegion, HoldSeats, IsMark, IsNumber, MayHaveSeats, frees_whole, is_seat_sector, is_spare_in, mark_held, seats_at, seats_from, size_by, spare_by, spare_in, version_by}
 use Rattle.layout.proofs.FirstLaws.{is_before, region_at_start}
+use Rattle.layout.proofs.LargeParts.{region_at_end}
 use Rattle.layout.specs.declared.versions.VersionNumber.{VersionNumber}
 use Rattle.layout.specs.declared.versions.VersionNumber.TheVariants as numbers
 
@@ -44,25 +51,78 @@ either_free false sector free = free
 pub spare_none : (n : ℕ) → spare_by no_seats None n ≡ zero_sector
 spare_none n = either_free (n == 147) (seats_sector (n - 100) no_seats) (seats_free (n - 100))
 
-pub version_spare : (number : VersionNumber) (mark : Option ℕ) (seats : Seats) (n : ℕ) → MayHaveSeats number mark seats → (version_by number mark seats).spare n ≡ spare_by seats mark n
-version_spare numbers.One mark seats n none = ap (λ (s : Seats). spare_by s mark n) (sym none)
-version_spare numbers.Two mark seats n may = refl
+-- sector 147
 
-pub version_is_spare : (number : VersionNumber) (mark : Option ℕ) (seats : Seats) (n : ℕ) → (version_by number mark seats).is_spare n ≡ is_before_nodes n
-version_is_spare numbers.One mark seats n = refl
-version_is_spare numbers.Two mark seats n = refl
+pub mark_is_spare : (number : VersionNumber) (seats : Seats) → IsTrue (is_spare_in number seats 147)
+mark_is_spare numbers.One seats = refl
+mark_is_spare numbers.Two seats = refl
+mark_is_spare (numbers.Three s) seats = refl
 
-pub spare_sector : (number : VersionNumber) (mark : Option ℕ) (seats : Seats) (n : ℕ) → 100 ≤ n → n < 148 → IsTrue ((version_by number mark seats).is_spare n)
-spare_sector number mark seats n low high = subst IsTrue (sym (version_is_spare number mark seats n)) (is_before n low high)
+pub mark_spare : (number : VersionNumber) (nodes : ℕ) (mark : Option ℕ) (seats : Seats) → IsMark number nodes mark → spare_in number mark seats 147 ≡ mark_held mark
+mark_spare numbers.One nodes mark seats is = refl
+mark_spare numbers.Two nodes mark seats is = refl
+mark_spare (numbers.Three s) nodes None seats is = refl
+mark_spare (numbers.Three s) nodes (Some moved) seats is = absurd is
+
+-- sectors of seats
+
+pub within_seats : (number : VersionNumber) (n : ℕ) (seats : Seats) → IsTrue (is_seat_sector number n seats) → n < 45
+within_seats number n seats is = ltb-true n 45 (and_parts (ltb n 45) (is_determined (frees_whole number) (n % 9) (get_or seats (n / 9) None)) is).0
+
+pub seat_determined : (number : VersionNumber) (n : ℕ) (seats : Seats) → IsTrue (is_seat_sector number n seats) → IsTrue (is_determined (frees_whole number) (n % 9) (get_or seats (n / 9) None))
+seat_determined number n seats is = (and_parts (ltb n 45) (is_determined (frees_whole number) (n % 9) (get_or seats (n / 9) None)) is).1
+
+pub is_seat : (number : VersionNumber) (n : ℕ) (seats : Seats) → n < 45 → IsTrue (is_determined (frees_whole number) (n % 9) (get_or seats (n / 9) None)) → IsTrue (is_seat_sector number n seats)
+is_seat number n seats low is = rw (lt-ltb n 45 low, is) refl
+
+-- in version 3 they are after the data region
+module _ (g : Geometry) where
+  pub of_large_seats : (seats : Seats) (n : ℕ) → n < 45 → IsTrue (is_determined false (n % 9) (get_or seats (n / 9) None)) → is_of_seats g seats (seats_start g + n) ≡ true
+  of_large_seats seats n low is = rw (
+    le-leb (seats_start g) (seats_start g + n) (omega arith),
+    lt-ltb (seats_start g + n) (seats_start g + 45) (omega (arith, low)),
+    (let e : seats_start g + n - seats_start g ≡ n = omega arith in e),
+    is,
+  ) refl
+
+  pub behind_nodes : Fits g → 148 ≤ seats_start g
+  behind_nodes fits = omega (arith, fits.room)
+
+pub seat_is_spare : (number : VersionNumber) (n : ℕ) (seats : Seats) → IsTrue (is_seat_sector number n seats) → IsTrue (is_spare_in number seats (seats_from number + n))
+seat_is_spare numbers.One n seats is = is_before (100 + n) (omega arith) (omega (arith, within_seats numbers.One n seats is))
+seat_is_spare numbers.Two n seats is = is_before (100 + n) (omega arith) (omega (arith, within_seats numbers.Two n seats is))
+seat_is_spare (numbers.Three s) n seats is =
+    rw (of_large_seats s.geometry seats n (within_seats (numbers.Three s) n seats is) (seat_determined (numbers.Three s) n seats is))
+    (or-true (leb 98 (seats_start s.geometry + n) && ltb (seats_start s.geometry + n) 148))
+
+pub seat_spare : (number : VersionNumber) (mark : Option ℕ) (n : ℕ) (seats : Seats) → IsNumber number → MayHaveSeats number mark seats → n < 45
+    → spare_in number mark seats (seats_from number + n) ≡ seats_sector n seats
+seat_spare numbers.One mark n seats is may low =
+    ap (λ (s : Seats). spare_by s mark (100 + n)) (sym may) ∙ (spare_seats seats mark (100 + n) (λ e. omega (arith, e, low)) ∙ ap (λ (k : ℕ). seats_sector k seats) (omega arith))
+seat_spare numbers.Two mark n seats is may low = spare_seats seats mark (100 + n) (λ e. omega (arith, e, low)) ∙ ap (λ (k : ℕ). seats_sector k seats) (omega arith)
+seat_spare (numbers.Three s) mark n seats is may low =
+    let first = seats_start s.geometry in
+    rw (le-ltb (first + n) 148 (omega (arith, behind_nodes s.geometry is.fits)), (let e : first + n - first ≡ n = omega arith in e)) refl
+
+-- so the sectors of a volume hold its seats, and encode them
+pub holds_seats : (number : VersionNumber) (mark : Option ℕ) (seats : Seats) (image : Image) → IsNumber number → MayHaveSeats number mark seats
+    → ((n : ℕ) → IsTrue (is_spare_in number seats n) → image n ≡ spare_in number mark seats n) → HoldSeats number image seats
+holds_seats number mark seats image is may spare n within =
+    spare (seats_from number + n) (seat_is_spare number n seats within) ∙ seat_spare number mark n seats is may (within_seats number n seats within)
+
+pub seats_held : (number : VersionNumber) (seats : Seats) (image : Image) → ArePlaces seats → HoldSeats number image seats → seats_at number image ≡ seats
+seats_held number seats image places holds = seats-back (frees_whole number) seats (λ n. image (seats_from number + n)) places
+    (λ n low is. holds n (is_seat number n seats low is))
 
 -- the parts of a volume
-pub version_region : (number : VersionNumber) (mark : Option ℕ) (seats : Seats) (size nodes : ℕ) → IsTrue (is_size size nodes) → HasRegion (version_by number mark seats) size nodes
-version_region numbers.One mark seats size nodes sized = region_at_start (version_1 mark) size nodes sized refl refl (λ n. refl)
-version_region numbers.Two mark seats size nodes sized = region_at_start (version_2 mark seats) size nodes sized refl refl (λ n. refl)
-
-pub version_sized : (number : VersionNumber) (mark : Option ℕ) (seats : Seats) (size nodes : ℕ) → (version_by number mark seats).is_size size nodes ≡ is_size size nodes
-version_sized numbers.One mark seats size nodes = refl
-version_sized numbers.Two mark seats size nodes = refl
+pub version_region : (number : VersionNumber) (mark : Option ℕ) (seats : Seats) (size nodes : ℕ) → IsNumber number → IsTrue (size_by number size nodes) → HasRegion (version_by number mark seats) size nodes
+version_region numbers.One mark seats size nodes is sized = region_at_start (version_by numbers.One mark seats) size nodes sized refl refl (λ n. refl)
+version_region numbers.Two mark seats size nodes is sized = region_at_start (version_by numbers.Two mark seats) size nodes sized refl refl (λ n. refl)
+version_region (numbers.Three s) mark seats size nodes is sized =
+    let both = and_parts (eqb s.geometry.sectors size) (eqb s.geometry.nodes nodes) sized in
+    subst (λ (n : ℕ). HasRegion (version_by (numbers.Three s) mark seats) n nodes) (eqb-true s.geometry.sectors size both.0)
+    (subst (λ (n : ℕ). HasRegion (version_by (numbers.Three s) mark seats) s.geometry.sectors n) (eqb-true s.geometry.nodes nodes both.1)
+    (region_at_end s mark seats is))
 
 -- What a volume may keep
 

@@ -12,6 +12,7 @@ pub mod KnownProps
 pub mod Laid
 pub mod LaidProps
 pub mod Large
+pub mod LargeLaws
 pub mod MarkLaws
 pub mod Marks
 pub mod NodeEdits
@@ -20,3 +21,4 @@ pub mod Stands
 pub mod Steps
 pub mod SumLaws
 pub mod Superblock
+pub mod Versions

@@ -10,7 +10,7 @@ use Rattle.layout.specs.CachedNodes.{CachedNode, cached_nodes_in, tree_of}
 use Rattle.layout.specs.Laid.{AreLaid}
 use Rattle.layout.specs.Marks.{once_if, mark_in, mark_by}
 use Rattle.layout.specs.declared.versions.Marking.TheVariants.{InSectors}
-use Rattle.layout.specs.Stands.{Version, HasRegion, HaveForms, IsLaid, TreeStands}
+use Rattle.layout.specs.Stands.{Version, HasRegion, HaveForms, IsLaid, TreeStands, end_of}
 
 -- one more sector is marked, or one less
 pub record MarksChange (first : ℕ) (places : List Bool) (place : ℕ) : Type 0 where
@@ -64,14 +64,14 @@ abbrev pub KeptAlone : Type 0
 KeptAlone =
     (version : Version) (size nodes : ℕ) (old new : Image) (cached_nodes : List (Option CachedNode))
     → HasRegion version size nodes → IsLaid version size nodes old cached_nodes
-    → ((n : ℕ) → 98 ≤ n → n < version.end size → new n ≡ old n)
+    → ((n : ℕ) → 98 ≤ n → n < end_of version size → new n ≡ old n)
     → SeesSame version size nodes old new cached_nodes
 
 -- so for images that are known only in these sectors it does not matter which one is meant
 abbrev pub StandsAlone : Type 0
 StandsAlone = (version : Version) (size nodes : ℕ) (old new : Image) (run : ℕ) (tree : Tree)
     → TreeStands version size nodes old run tree → new 0 ≡ old 0
-    → ((n : ℕ) → 98 ≤ n → n < version.end size → new n ≡ old n)
+    → ((n : ℕ) → 98 ≤ n → n < end_of version size → new n ≡ old n)
     → TreeStands version size nodes new run tree
 
 -- If all places are marked, the tree is charged for all of them: so if it is charged for less, a

@@ -1,24 +1,30 @@
 //! The versions of the layout, and the mark of a migration from the first one to the second.
 
-ghost use Rattle.std.specs.Prelude.{◌≡◌, ◌↔◌, IsTrue, length, take};
-ghost use Rattle.layout.specs.Stands as marks;
-ghost use Rattle.layout.specs.Stands.{IsMark, mark_fields, mark_held, version_by};
+ghost use Rattle.std.specs.Prelude.{◌≡◌, ◌≤◌, ◌+◌, ◌↔◌, IsTrue, length, take};
+ghost use Rattle.layout.specs.Versions as marks;
+ghost use Rattle.layout.specs.Versions.{IsMark, mark_fields, mark_held, version_by};
 ghost use Rattle.model_tree.specs.Seats.Seats.{no_seats};
 
+use crate::places::{NODES, SPARE};
 use disk::SECTOR;
+use geometry::Superblock;
 use inode::Form;
+use journal::LogArea;
+use model_tree::limits::Limits;
 use sector::{put_bytes, put_u32, put_zeros};
 
 /// The bytes that a mark begins with.
 const MARK_MAGIC: [u8; 4] = *b"MIGR";
 
 /// The version of a volume's layout, as its first sector has it.
-#[derive(Clone, Copy, Debug, PartialEq, Eq)]
+#[derive(Clone, Copy)]
 pub enum VersionNumber {
     /// Nodes have form one, except those that a migration has moved.
     One,
     /// Nodes have form two.
     Two,
+    /// A volume that has no bitmap, and whose seats and log are at its end, as its superblock says.
+    Three(Superblock),
 }
 
 /// What marks the used sectors of the data region.
@@ -31,9 +37,11 @@ pub enum Marking {
 }
 
 impl VersionNumber {
-    ghost use Rattle.layout.specs.Stands.{number_of_version};
+    ghost use Rattle.std.specs.Prelude.{◌≡◌, ◌≤◌, ◌+◌};
+    ghost use Rattle.layout.specs.Versions.{IsNumber, data_end_by, limits_by, log_by, marking_by};
+    ghost use Rattle.layout.specs.Versions.{frees_whole, number_of_version, seats_from, served};
 
-    /// The version in which volumes are made and served.
+    /// The version in which `nfs41` makes volumes.
     pub const CURRENT: VersionNumber = VersionNumber::Two;
 
     /// The number in the first sector.
@@ -43,7 +51,85 @@ impl VersionNumber {
         match self {
             VersionNumber::One => 1,
             VersionNumber::Two => 2,
+            VersionNumber::Three(_) => 3,
         }
+    }
+
+    /// The version in which a volume of this one is served, once it is mounted.
+    pub fn served(self) -> VersionNumber
+        ensures { result ≡ served self }
+    {
+        match self {
+            VersionNumber::One | VersionNumber::Two => VersionNumber::Two,
+            VersionNumber::Three(superblock) => VersionNumber::Three(superblock),
+        }
+    }
+
+    /// What marks the used sectors.
+    pub fn marking(self) -> Marking
+        ensures { result ≡ marking_by self }
+    {
+        match self {
+            VersionNumber::One | VersionNumber::Two => Marking::InSectors,
+            VersionNumber::Three(_) => Marking::AsNamed,
+        }
+    }
+
+    /// The sector at which the data region of a volume of this many sectors ends.
+    pub fn data_end(self, sectors: u32) -> u32
+        requires { IsNumber self }
+        ensures { result ≡ data_end_by self sectors }
+    {
+        match self {
+            VersionNumber::One | VersionNumber::Two => sectors,
+            VersionNumber::Three(superblock) => superblock.geometry.data_end(),
+        }
+    }
+
+    /// The first sector of the seats.
+    pub fn seats_from(self) -> u32
+        requires { IsNumber self }
+        ensures { result ≡ seats_from self }
+    {
+        match self {
+            VersionNumber::One | VersionNumber::Two => SPARE,
+            VersionNumber::Three(superblock) => superblock.geometry.seats_start(),
+        }
+    }
+
+    /// Whether each sector of a free seat is zero, not only the first.
+    pub fn frees_whole(self) -> bool
+        ensures { result ≡ frees_whole self }
+    {
+        !matches!(self, VersionNumber::Three(_))
+    }
+
+    /// The log of a volume of this many sectors.
+    pub fn log_area(self, sectors: u32) -> LogArea
+        requires { IsNumber self }
+        ensures { result ≡ log_by self sectors }
+    {
+        match self {
+            VersionNumber::One | VersionNumber::Two => LogArea::log_at_start(sectors),
+            VersionNumber::Three(superblock) => superblock.geometry.log_area(),
+        }
+    }
+
+    /// The limits of a volume of this many sectors and nodes.
+    pub fn limits(self, sectors: u32, nodes: u32) -> Limits
+        requires number { IsNumber self }
+        requires within { 148 + nodes ≤ sectors }
+        requires region { 148 + nodes ≤ data_end_by self sectors }
+        ensures { result ≡ limits_by self sectors nodes }
+    {
+        let mut limits = Limits::of_volume(sectors as usize, nodes as usize);
+        if let VersionNumber::Three(superblock) = self {
+            let geometry = &superblock.geometry;
+            limits.data_sectors = (geometry.data_end() - (NODES + nodes)) as usize;
+            limits.names = geometry.names as usize;
+            limits.file_bytes = geometry.file_bytes as usize;
+        }
+        limits
     }
 }
 
@@ -65,6 +151,7 @@ pub fn is_mark(number: VersionNumber, nodes: u32, mark: Option<u32>) -> bool
         (_, None) => true,
         (VersionNumber::One, Some(moved)) => 0 < moved && moved <= nodes,
         (VersionNumber::Two, Some(moved)) => moved == nodes,
+        (VersionNumber::Three(_), Some(_)) => false,
     }
 }
 

@@ -2,7 +2,7 @@
 
 ghost use Rattle.layout.specs.CachedNodeLaws.{OneTree, OneKept, OneProof};
 ghost use Rattle.layout.specs.FreshLaws.{FreshStands};
-ghost use Rattle.layout.specs.Large.{LargeFirst, LargeFresh, LargeRegion};
+ghost use Rattle.layout.specs.LargeLaws.{LargeFirst, LargeFresh, LargeRegion};
 ghost use Rattle.layout.specs.MarkLaws.{KeptAlone, StandsAlone};
 ghost use Rattle.layout.specs.Rewriting.{RewrittenStands, RewrittenCachedNodes, FormStays};
 ghost use Rattle.layout.specs.Rewriting.{LaidSecond, KnownSecond, CurrentSecond};

@@ -11,7 +11,7 @@ use Rattle.journal.specs.Settled.{AreSame}
 use Rattle.journal.proofs.Images.{put_same, put_other}
 use Rattle.layout.specs.CachedNodes.{CachedNode, node_sector, cached_nodes_in}
 use Rattle.layout.specs.Rewriting.{all_second, IsRewritten}
-use Rattle.layout.specs.Stands.{By, Version, IsMark, MayHaveSeats, TreeStands, StandsAs, bare, current_version, version_1, version_2}
+use Rattle.layout.specs.Stands.{By, Version, IsMark, end_of, MayHaveSeats, TreeStands, StandsAs, bare, current_version, version_1, version_2}
 use Rattle.layout.specs.declared.versions.VersionNumber.TheVariants as numbers
 use Rattle.layout.proofs.FirstLaws.{before_nodes}
 use Rattle.layout.proofs.SeatLaws.{no_seats_kept, spare_none, spare_other, version_region}
@@ -32,7 +32,7 @@ same_whole : (end size : ℕ) (a b : Image) → end ≡ size → AreSame end a b
 same_whole end size a b whole same = subst (λ (n : ℕ). AreSame n a b) whole same
 
 module _ (version : Version) (size nodes run : ℕ) (a b : Image) (tree : Tree) (same : AreSame size a b) (stands : TreeStands version size nodes a run tree) where
-  behind : (n : ℕ) → 98 ≤ n → n < version.end size → b n ≡ a n
+  behind : (n : ℕ) → 98 ≤ n → n < end_of version size → b n ≡ a n
   behind n above below = sym (same n (inr above, omega (arith, below, stands.region.within)))
 
   stands_same : TreeStands version size nodes b run tree
@@ -106,7 +106,7 @@ module _ (mark : Option ℕ) (size nodes run : ℕ) (image : Image) (tree : Tree
   clears : IsRewritten (version_2 mark no_seats) (current_version no_seats) size nodes run image without
   clears = record {
     sized = stands.sized;
-    region = version_region numbers.Two None no_seats size nodes stands.sized;
+    region = version_region numbers.Two None no_seats size nodes tt stands.sized;
     first = others 0 (λ e. omega arith) ∙ stands.first;
     limits = refl;
     others = record {
@@ -134,7 +134,7 @@ module _ (mark : Option ℕ) (size nodes run : ℕ) (image : Image) (tree : Tree
   either_stands marked zero few = (
     record {
       version = version_2 mark no_seats;
-      is_version = By numbers.Two mark no_seats marked (none_kept mark);
+      is_version = By numbers.Two mark no_seats tt marked (none_kept mark);
       keeps = no_seats_kept run;
       stands = stands;
     },
@@ -143,7 +143,7 @@ module _ (mark : Option ℕ) (size nodes run : ℕ) (image : Image) (tree : Tree
   either_stands marked (suc zero) few = (
     record {
       version = current_version no_seats;
-      is_version = By numbers.Two None no_seats tt tt;
+      is_version = By numbers.Two None no_seats tt tt tt;
       keeps = no_seats_kept run;
       stands = cleared_stands;
     },

@@ -115,7 +115,7 @@ module _ (size run : ℕ) (tree : Tree) (cached_nodes : List (Option CachedNode)
   rewrites : IsRewritten was is size (length cached_nodes) run image new
   rewrites = record {
     sized = reached.stands.sized;
-    region = version_region numbers.One (Some (moved + count)) no_seats size (length cached_nodes) reached.stands.sized;
+    region = version_region numbers.One (Some (moved + count)) no_seats size (length cached_nodes) tt reached.stands.sized;
     first = far_stays cached_nodes moved count image 0 (λ e. omega arith) (inl (omega arith)) ∙ reached.stands.first;
     limits = refl;
     others = record {
@@ -173,7 +173,7 @@ pub reached_stands : (size run : ℕ) (tree : Tree) (cached_nodes : List (Option
 reached_stands size run tree cached_nodes moved image reached = (
   record {
     version = version_1 reached.mark;
-    is_version = By numbers.One reached.mark no_seats reached.marked refl;
+    is_version = By numbers.One reached.mark no_seats tt reached.marked refl;
     keeps = no_seats_kept run;
     stands = reached.stands;
   },

@@ -1,6 +1,6 @@
 -- What is read from the sectors of seats is what was encoded there.
 use Rattle.std.proofs.Common.{◌≡◌, ◌≤◌, ◌<◌, ◌+◌, ◌-◌, ◌*◌, ◌/◌, ◌%◌, ℕ, zero, suc, Bool, true, false, ◌==◌, if◌then◌else◌, List, [], ◌∷◌, ◌++◌, Option, Some, None, length, get_or, take, drop, replicate, refl, ap, ap₂, ◌∙◌, arith, eq-eqb}
-use Rattle.std.specs.Prelude.{slice_index, Result, Err}
+use Rattle.std.specs.Prelude.{IsTrue, slice_index, Result, Err}
 use Rattle.std.specs.Int.{w32, from_be_bytes}
 use Rattle.std.specs.List.{AllByRecursion}
 use Rattle.std.proofs.lemmas.Bool.{ne_eqb}
@@ -8,7 +8,7 @@ use Rattle.std.proofs.lemmas.List.{take_at}
 use Rattle.std.proofs.lemmas.Nat.{from_be_bytes-to_be_bytes_4}
 use Rattle.model_tree.specs.Seats.Seats.{HeldReply, Seat, Seats}
 use Rattle.seats.specs.declared.fault.SeatFault.{SeatFault}
-use Rattle.seats.specs.Encoding.{AreSectorsOf, ArePlaces, IsHeld, IsSeatPlace, IsSeat, IsSlot, held_prefix, seat_sector, seats_sector, slot_text}
+use Rattle.seats.specs.Encoding.{AreSectorsOf, ArePlaces, HoldPlace, IsHeld, IsSeatPlace, IsSeat, IsSlot, held_prefix, is_determined, seat_sector, seats_sector, slot_text}
 use Rattle.seats.specs.Reading.{SeatsReadBack, held_in, seat_from, seat_in, seats_in, slot_in, slots_in, taken_from, text_from}
 use Rattle.seats.proofs.Parts.{body_of, text_apart, free_sector}
 use Rattle.seats.proofs.Sectors.{number_zero, mark_there, session_there, principal_there, count_there, owner_there, head_there, first_there, second_there}
@@ -94,24 +94,35 @@ place_some sectors e =
     let same : slice_index (sectors 0) 0 == 83 ≡ true = eq-eqb (slice_index (sectors 0) 0) 83 e in
     ap (λ (b : Bool). if b then Some (taken_from sectors) else None) same
 
+-- the sectors of a taken place are all determined
+pub all_taken : (whole : Bool) (seat : Seat) (sectors : ℕ → List ℕ) → HoldPlace whole sectors (Some seat) → AreSectorsOf sectors (Some seat)
+all_taken whole seat sectors encoded k few = encoded k few refl
+
+-- the first sector of a place is
+first_determined : (whole : Bool) (place : Option Seat) → is_determined whole 0 place ≡ true
+first_determined true None = refl
+first_determined false None = refl
+first_determined whole (Some seat) = refl
+
 -- the sectors of a free place begin with no S
-pub no_mark : (sectors : ℕ → List ℕ) → AreSectorsOf sectors None → slice_index (sectors 0) 0 ≡ 83 → ⊥
-no_mark sectors encoded e =
-    let zeros : sectors 0 ≡ replicate 4096 0 = encoded 0 (omega arith) ∙ free_sector 0 in
+pub no_mark : (whole : Bool) (sectors : ℕ → List ℕ) → HoldPlace whole sectors None → slice_index (sectors 0) 0 ≡ 83 → ⊥
+no_mark whole sectors encoded e =
+    let zeros : sectors 0 ≡ replicate 4096 0 = encoded 0 (omega arith) (first_determined whole None) ∙ free_sector 0 in
     let none : slice_index (sectors 0) 0 ≡ 0 = ap (λ (s : List ℕ). slice_index s 0) zeros in
     absurd (omega arith)
 
-pub place-back : (place : Option Seat) (sectors : ℕ → List ℕ) → IsSeatPlace place → AreSectorsOf sectors place → seat_in sectors ≡ place
-place-back None sectors is encoded = place_none sectors (no_mark sectors encoded)
-place-back (Some seat) sectors is encoded =
-    let mark : slice_index (sectors 0) 0 ≡ 83 = ap (λ (h : List ℕ). slice_index h 0) (head_there seat is sectors encoded) ∙ mark_there seat is in
-    place_some sectors mark ∙ ap (λ (s : Seat). Some s) (taken-back seat sectors is encoded)
+pub place-back : (whole : Bool) (place : Option Seat) (sectors : ℕ → List ℕ) → IsSeatPlace place → HoldPlace whole sectors place → seat_in sectors ≡ place
+place-back whole None sectors is encoded = place_none sectors (no_mark whole sectors encoded)
+place-back whole (Some seat) sectors is encoded =
+    let all = all_taken whole seat sectors encoded in
+    let mark : slice_index (sectors 0) 0 ≡ 83 = ap (λ (h : List ℕ). slice_index h 0) (head_there seat is sectors all) ∙ mark_there seat is in
+    place_some sectors mark ∙ ap (λ (s : Seat). Some s) (taken-back seat sectors is all)
 
 -- if no seat has these sectors, no place has them
 pub no_place : (sectors : ℕ → List ℕ) → slice_index (sectors 0) 0 ≡ 83 → ((seat : Seat) → IsSeat seat → AreSectorsOf sectors (Some seat) → ⊥)
-    → (place : Option Seat) → IsSeatPlace place → AreSectorsOf sectors place → ⊥
-no_place sectors mark none None is encoded = no_mark sectors encoded mark
-no_place sectors mark none (Some seat) is encoded = none seat is encoded
+    → (whole : Bool) (place : Option Seat) → IsSeatPlace place → HoldPlace whole sectors place → ⊥
+no_place sectors mark none whole None is encoded = no_mark whole sectors encoded mark
+no_place sectors mark none whole (Some seat) is encoded = none seat is (all_taken whole seat sectors encoded)
 
 -- All places
 
@@ -130,19 +141,21 @@ place_is [] k all = tt
 place_is (place ∷ seats) zero all = all.0
 place_is (place ∷ seats) (suc k) all = place_is seats k all.1
 
-module _ (seats : Seats) (sectors : ℕ → List ℕ) (are : ArePlaces seats) (encoded : (n : ℕ) → n < 45 → sectors n ≡ seats_sector n seats) where
+module _ (whole : Bool) (seats : Seats) (sectors : ℕ → List ℕ) (are : ArePlaces seats)
+    (encoded : (n : ℕ) → n < 45 → IsTrue (is_determined whole (n % 9) (get_or seats (n / 9) None)) → sectors n ≡ seats_sector n seats) where
   one-back : (place first : ℕ) → place < 5 → first ≡ 9 * place → seat_from sectors first ≡ get_or seats place None
-  one-back place first few e = place-back (get_or seats place None) (λ (k : ℕ). sectors (first + k)) (place_is seats place are.each)
-      (λ k h.
+  one-back place first few e = place-back whole (get_or seats place None) (λ (k : ℕ). sectors (first + k)) (place_is seats place are.each)
+      (λ k h is.
       let rest : (first + k) % 9 ≡ k = omega arith in
-      let whole : (first + k) / 9 ≡ place = omega arith in
-      encoded (first + k) (omega arith) ∙ ap₂ (λ (i j : ℕ). seat_sector i (get_or seats j None)) rest whole)
+      let of : (first + k) / 9 ≡ place = omega arith in
+      encoded (first + k) (omega arith) (ap₂ (λ (i j : ℕ). is_determined whole i (get_or seats j None)) rest of ∙ is)
+      ∙ ap₂ (λ (i j : ℕ). seat_sector i (get_or seats j None)) rest of)
 
 pub seats-back : SeatsReadBack
 unfolding seats_in
-seats-back seats sectors are encoded = five-back (seat_from sectors 0) (seat_from sectors 9) (seat_from sectors 18) (seat_from sectors 27) (seat_from sectors 36) seats are.five
-    (one-back seats sectors are encoded 0 0 (omega arith) (omega arith)) (one-back seats sectors are encoded 1 9 (omega arith) (omega arith)) (one-back seats sectors are encoded 2 18 (omega arith) (omega arith))
-    (one-back seats sectors are encoded 3 27 (omega arith) (omega arith)) (one-back seats sectors are encoded 4 36 (omega arith) (omega arith))
+seats-back whole seats sectors are encoded = five-back (seat_from sectors 0) (seat_from sectors 9) (seat_from sectors 18) (seat_from sectors 27) (seat_from sectors 36) seats are.five
+    (one-back whole seats sectors are encoded 0 0 (omega arith) (omega arith)) (one-back whole seats sectors are encoded 1 9 (omega arith) (omega arith)) (one-back whole seats sectors are encoded 2 18 (omega arith) (omega arith))
+    (one-back whole seats sectors are encoded 3 27 (omega arith) (omega arith)) (one-back whole seats sectors are encoded 4 36 (omega arith) (omega arith))
 
 -- a result has only one fault
 pub err_is : {A : Type 0} (x y : SeatFault) → (let r : Result A SeatFault = Err x in r ≡ Err y) → x ≡ y

@@ -1,6 +1,6 @@
 -- The sectors of a seat, byte by byte. A free place has nine sectors of zeros. The first sector of
 -- a taken place has `SESS` and says whose it is; four follow for each of two slots.
-use Rattle.std.specs.Prelude.{◌≡◌, ◌≤◌, ◌<◌, ◌-◌, ◌*◌, ◌/◌, ◌%◌, ◌^◌, ◌==◌, ◌++◌, ℕ, List, [], Option, Some, None, codes, drop, length, replicate, slice_index_or, take, if◌then◌else◌}
+use Rattle.std.specs.Prelude.{◌≡◌, ◌≤◌, ◌<◌, ◌-◌, ◌*◌, ◌/◌, ◌%◌, ◌^◌, ◌==◌, ◌||◌, ◌++◌, ℕ, Bool, true, List, [], Option, Some, None, IsTrue, codes, drop, length, replicate, slice_index_or, take, if◌then◌else◌}
 use Rattle.std.specs.Int.{w32, to_be_bytes}
 use Rattle.std.specs.List.{AllByRecursion}
 use Rattle.model_tree.specs.Seats.Seats.{HeldReply, Seat, Seats}
@@ -68,9 +68,20 @@ seat_sector k (Some seat) =
     if k == 0 then head_sector seat
     else part_of ((k - 1) % 4) (slot_text (slot_at ((k - 1) / 4) seat))
 
--- these nine sectors are those of the place
+-- Which of the nine sectors are determined: each of a taken place, and the first of a free one. The
+-- others of a free one are zero too if places are freed as a whole, and hold anything if not.
+abbrev pub is_determined : (whole : Bool) → (k : ℕ) → Option Seat → Bool
+is_determined whole k None = whole || (k == 0)
+is_determined whole k (Some seat) = true
+
+-- all nine are those of the place
 abbrev pub AreSectorsOf : (ℕ → List ℕ) → Option Seat → Type 0
 AreSectorsOf sectors place = (k : ℕ) → k < 9 → sectors k ≡ seat_sector k place
+
+-- those that are determined are
+abbrev pub HoldPlace : (whole : Bool) → (ℕ → List ℕ) → Option Seat → Type 0
+HoldPlace whole sectors place =
+    (k : ℕ) → k < 9 → IsTrue (is_determined whole k place) → sectors k ≡ seat_sector k place
 
 -- the sectors of a list by their numbers
 abbrev pub sector_of : List (List ℕ) → ℕ → List ℕ

@@ -1,9 +1,10 @@
 -- What sectors say about seats, whatever their bytes: nothing is checked. For sectors in which
--- seats are encoded, it is these seats: so they encode at most one list of seats.
-use Rattle.std.specs.Prelude.{◌≡◌, ◌<◌, ◌+◌, ◌==◌, ◌++◌, ℕ, List, [], ◌∷◌, Option, Some, None, drop, slice_index, take, if◌then◌else◌}
+-- seats are encoded, it is these seats: so they encode at most one list of seats. Of a free place only
+-- the first sector is looked at.
+use Rattle.std.specs.Prelude.{◌≡◌, ◌<◌, ◌+◌, ◌/◌, ◌%◌, ◌==◌, ◌++◌, ℕ, Bool, List, [], ◌∷◌, Option, Some, None, IsTrue, drop, slice_index, slice_index_or, take, if◌then◌else◌}
 use Rattle.std.specs.Int.{w32, from_be_bytes}
 use Rattle.model_tree.specs.Seats.Seats.{HeldReply, Seat, Seats}
-use Rattle.seats.specs.Encoding.{ArePlaces, seats_sector}
+use Rattle.seats.specs.Encoding.{ArePlaces, is_determined, seats_sector}
 
 abbrev pub held_in : List ℕ → HeldReply
 held_in text = record {
@@ -55,5 +56,8 @@ seats_in sectors =
 -- The law
 abbrev pub SeatsReadBack : Type 0
 SeatsReadBack =
-    (seats : Seats) (sectors : ℕ → List ℕ) → ArePlaces seats
-    → ((n : ℕ) → n < 45 → sectors n ≡ seats_sector n seats) → seats_in sectors ≡ seats
+    (whole : Bool) (seats : Seats) (sectors : ℕ → List ℕ) → ArePlaces seats
+    → ((n : ℕ) → n < 45
+    → IsTrue (is_determined whole (n % 9) (slice_index_or seats (n / 9) None))
+    → sectors n ≡ seats_sector n seats)
+    → seats_in sectors ≡ seats

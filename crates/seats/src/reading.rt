@@ -1,10 +1,10 @@
 //! Reading the sectors of a seat.
 
-ghost use Rattle.std.specs.Prelude.{◌≡◌, ◌<◌, ◌+◌, ◌≤◌, ℕ, length, map, vec_len, Option, Some, IfOk, IsErrOf, IsTrue, ◌↔◌};
+ghost use Rattle.std.specs.Prelude.{◌≡◌, ◌<◌, ◌+◌, ◌≤◌, ℕ, length, map, vec_len, Bool, Option, Some, IfOk, IsErrOf, IsTrue, ◌↔◌};
 ghost use Rattle.std.specs.Option.{option_map};
 ghost use Rattle.model_tree.specs.Seats.Seats as kept;
 ghost use Rattle.model_tree.specs.Seats.SeatViews.{held_view, seat_view, place_view};
-ghost use Rattle.seats.specs.Encoding.{AreSectorsOf, IsSeatPlace, IsSeat, IsSlot, sector_of, slot_text};
+ghost use Rattle.seats.specs.Encoding.{AreSectorsOf, HoldPlace, IsSeatPlace, IsSeat, IsSlot, is_determined, sector_of, slot_text};
 ghost use Rattle.seats.specs.Reading.{taken_from, text_from, seat_in};
 ghost use Rattle.seats.specs.Reading as total;
 
@@ -104,8 +104,8 @@ fn taken_in(alloc: Global, sectors: &[[u8; SIZE]]) -> Result<Seat, SeatFault>
 fn place_in(alloc: Global, sectors: &[[u8; SIZE]]) -> Result<Option<Seat>, SeatFault>
     requires { length sectors.now ≡ 9 }
     ensures value { IfOk result (λ place. place_view place ≡ seat_in (sector_of sectors.now)) }
-    ensures err { IsErrOf result SeatFault.NotSeat → (place : Option kept.Seat) → IsSeatPlace place
-        → ¬ AreSectorsOf (sector_of sectors.now) place }
+    ensures err { IsErrOf result SeatFault.NotSeat → (whole : Bool) (place : Option kept.Seat)
+        → IsSeatPlace place → ¬ HoldPlace whole (sector_of sectors.now) place }
 {
     if sectors[0][0] != b'S' {
         return Ok(None);
@@ -114,35 +114,47 @@ fn place_in(alloc: Global, sectors: &[[u8; SIZE]]) -> Result<Option<Seat>, SeatF
     Ok(Some(seat))
 }
 
-/// Whether these sectors are those of the place.
-fn are_sectors_of(sectors: &[[u8; SIZE]], place: &Option<Seat>) -> bool
+/// Whether sector `k` of a place is determined: of a free place the first is, and the others are
+/// zero if places are freed as a whole.
+fn is_determined(whole: bool, k: usize, place: &Option<Seat>) -> bool
+    ensures { result ≡ is_determined whole k (place_view place.now) }
+{
+    whole || k == 0 || place.is_some()
+}
+
+/// Whether these sectors are those of the place, as far as they are determined.
+fn are_sectors_of(sectors: &[[u8; SIZE]], whole: bool, place: &Option<Seat>) -> bool
     requires { length sectors.now ≡ 9 }
-    ensures { IsTrue result ↔ AreSectorsOf (sector_of sectors.now) (place_view place.now) }
+    ensures { IsTrue result ↔ HoldPlace whole (sector_of sectors.now) (place_view place.now) }
 {
     for (k, sector) in sectors.iter().enumerate() {
-        if *sector != seat_sector(place, k) {
+        if is_determined(whole, k, place) && *sector != seat_sector(place, k) {
             return false;
         }
     }
     true
 }
 
-/// The place for a seat that has these nine sectors.
+/// The place for a seat that has these nine sectors. Of a free place all are zero if places are
+/// freed as a whole, and else the first.
 ///
 /// # Errors
 /// `NotSeat` exactly if no place has them: whatever is read is written again, and has to give each
 /// byte back.
-pub fn read_seat(alloc: Global, sectors: &[[u8; SIZE]]) -> Result<Option<Seat>, SeatFault>
+pub fn read_seat(
+    alloc: Global,
+    sectors: &[[u8; SIZE]],
+    whole: bool,
+) -> Result<Option<Seat>, SeatFault>
     requires { length sectors.now ≡ 9 }
     ensures fits { IfOk result (λ place. IsSeatPlace (place_view place)) }
     ensures found { IfOk result (λ place.
-        AreSectorsOf (sector_of sectors.now) (place_view place)) }
+        HoldPlace whole (sector_of sectors.now) (place_view place)) }
     ensures not_seat { IsErrOf result SeatFault.NotSeat → (place : Option kept.Seat)
-        → IsSeatPlace place
-        → ¬ AreSectorsOf (sector_of sectors.now) place }
+        → IsSeatPlace place → ¬ HoldPlace whole (sector_of sectors.now) place }
 {
     let place = place_in(alloc, sectors)?;
-    if !are_sectors_of(sectors, &place) {
+    if !are_sectors_of(sectors, whole, &place) {
         return Err(SeatFault::NotSeat);
     }
     Ok(place)

@@ -12,7 +12,7 @@ use Rattle.fs.specs.declared.fault.FsFault.TheVariants as faults
 use Rattle.volume.proofs.PrefixLaws.{among_more}
 use Rattle.layout.specs.Stands.{Kept}
 use Rattle.volume.specs.Changes.{Stays, LeavesKept, LeavesOnCrash}
-use Rattle.volume.specs.VolumeState.{VolumeState, MakesAtMost, IsSameVolume, IsRecent, KeepsRecent, AddsKept, StandsForOne, MayAdd, kept_of}
+use Rattle.volume.specs.VolumeState.{VolumeState, MakesAtMost, call_cost, IsSameVolume, IsRecent, KeepsRecent, AddsKept, StandsForOne, MayAdd, kept_of}
 use Rattle.model_tree.specs.Trees.Keyed.{Keyed}
 use Rattle.model.specs.Sessions.Opens.{Opens}
 use Rattle.model.specs.Server.Runs.{Serving, Event, Left}
@@ -72,7 +72,7 @@ module _ (old new : FileSystem) (table : Table) (opens : Opens) (connections : K
 
   -- if it is done
   pub checkpointed : new.volume.tree ≡ old.volume.tree → old.volume.is_down ≡ false → new.volume.is_down ≡ false → KeepsRecent old.volume new.volume
-      → AddsKept old.volume (kept_of old.volume) new.volume.history → MakesAtMost 396 old.volume new.volume → (recent : List Left) → IsReady old.volume recent → Keeps recent recent
+      → AddsKept old.volume (kept_of old.volume) new.volume.history → MakesAtMost (call_cost old.volume) old.volume new.volume → (recent : List Left) → IsReady old.volume recent → Keeps recent recent
   checkpointed trees up still_up keeps adds brief recent ready = record {
     serving =
         ap (λ (world : World). serving_by world recent new.volume.is_down new.waits) (kept_world old new table opens connections same changes trees)
@@ -87,7 +87,7 @@ module _ (old new : FileSystem) (table : Table) (opens : Opens) (connections : K
   }
 
   -- if the device fails in it
-  pub checkpoint_fails : old.volume.is_down ≡ false → new.volume.is_down ≡ true → AddsKept old.volume (kept_of old.volume) new.volume.history → MakesAtMost 396 old.volume new.volume
+  pub checkpoint_fails : old.volume.is_down ≡ false → new.volume.is_down ≡ true → AddsKept old.volume (kept_of old.volume) new.volume.history → MakesAtMost (call_cost old.volume) old.volume new.volume
       → (event : Event) (recent : List Left) → IsReady old.volume recent → (left : List Left)
       × Breaks (record { serving = serving_of old recent; volume = old.volume }) event (record {
         serving = serving_by (record (world_by (shared new table opens) connections) { tree = old.volume.tree }) left new.volume.is_down new.waits;
@@ -136,7 +136,7 @@ module _ (old new : FileSystem) (table : Table) (opens : Opens) (connections : K
 
   -- if it is done
   pub flushed_all : new.volume.tree ≡ old.volume.tree → table.seats ≡ old.volume.seats → old.volume.is_down ≡ false → new.volume.is_down ≡ false → new.waits ≡ false
-      → AddsKept old.volume (kept_of old.volume) new.volume.history → MakesAtMost 396 old.volume new.volume → LeavesKept old.volume new.volume (kept_of old.volume) true
+      → AddsKept old.volume (kept_of old.volume) new.volume.history → MakesAtMost (call_cost old.volume) old.volume new.volume → LeavesKept old.volume new.volume (kept_of old.volume) true
       → (recent : List Left) → IsReady old.volume recent → (after : List Left) × FlushesAll (seen_of old recent) (seen_of new after)
   flushed_all trees seated up still_up none_waits adds brief leaves recent ready =
       let left = leaves (map kept_by recent) ready in (

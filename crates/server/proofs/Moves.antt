@@ -4,11 +4,12 @@ use Rattle.std.specs.List.{IsAmong}
 use Rattle.std.specs.Prelude.{map}
 use Rattle.std.proofs.Math.Logic.{∥∥₁_elim, ∥∥₁_map, ∥∥₁_prop}
 use Rattle.model_tree.specs.declared.limits.Limits.{Limits}
-use Rattle.model_tree.specs.Trees.Limits.{limits_of}
+use Rattle.layout.specs.Versions.{limits_by}
 use Rattle.model.specs.Server.SoundRuns.{IsStart}
 use Rattle.model_tree.specs.Trees.Stamp.{stamp, next_stamp}
 use Rattle.model_tree.specs.Trees.WellFormed.{IsWellFormed, IsBefore}
 use Rattle.model_tree.proofs.Trees.ChangeLaws.{was_before}
+use Rattle.volume.proofs.RemountLaws.{seen_left}
 use Rattle.volume.specs.MountAnswers.{FindsSeats}
 use Rattle.volume.specs.Remounts.{IsFound}
 use Rattle.disk.specs.Moments as moments
@@ -17,7 +18,7 @@ use Rattle.compound.specs.States.{shared}
 use Rattle.compound.proofs.QuietLaws.{same_volume}
 use Rattle.fs.specs.FileSystem.{FileSystem}
 use Rattle.layout.specs.Stands.{Kept}
-use Rattle.volume.specs.VolumeState.{VolumeState, IsSameVolume, StandsForOne, LeavesOne, IsRecent, Holds, MayAdd, AddsKept, kept_of}
+use Rattle.volume.specs.VolumeState.{VolumeState, IsSameVolume, IsJustMounted, StandsForOne, LeavesCurrent, LeavesOne, IsRecent, Holds, MayAdd, AddsKept, kept_of}
 use Rattle.volume.specs.Stands.{StandsFor}
 use Rattle.model.specs.Server.Runs as runs
 use Rattle.model.specs.Server.Runs.{Serving, Event, MayBeTaken, executed_of, effect_of}
@@ -33,7 +34,6 @@ use Rattle.server.specs.Seen.{Seen, kept_by, left_of, IsReady, LeavesNow, MayKee
 use Rattle.server.proofs.Pairs.{among_left}
 use Rattle.server.proofs.Worlds.{happened_quietly}
 use Rattle.volume.proofs.PrefixLaws.{among_rest}
-use Rattle.volume.proofs.LoadLaws.{any_limits}
 use Rattle.disk.proofs.MomentLemmas.{AddsOnly-same}
 
 -- no past moment is as late as the present
@@ -164,18 +164,23 @@ module _ (fs : FileSystem) (table : Table) (opens : Opens) (connections : Keyed 
   }
 
 -- the tree that was found is one with which this run may begin
-pub found_start : (sectors : ℕ) (old : moments.History) (held : VolumeState) → IsFound sectors old held → held.limits ≡ limits_of sectors held.limits.nodes
+-- what a crash leaves of it is well formed in its limits
+current_formed : (sectors : ℕ) (held : VolumeState) → IsJustMounted sectors held → LeavesCurrent held → ∥ IsWellFormed held.limits held.tree ∥₁
+current_formed sectors held new current = ∥∥₁_elim (current (moments.seen held.history.now) (seen_left held.history.now)) ∥∥₁_prop (λ base.
+    ∥∥₁_map base.2.stands.well_formed (λ well.
+    subst (λ (l : Limits). IsWellFormed l held.tree) (sym new.limits)
+    (subst (λ (s : ℕ). IsWellFormed (limits_by held.version s held.limits.nodes) held.tree) new.on_device well)))
+
+pub found_start : (sectors : ℕ) (old : moments.History) (held : VolumeState) → IsFound sectors old held → IsJustMounted sectors held → LeavesCurrent held
     → ∥ IsStart held.limits held.run held.tree ∥₁
-found_start sectors old held found limits = ∥∥₁_elim found.stood ∥∥₁_prop (λ base. ∥∥₁_map base.stands.stands.well_formed (λ well. record {
-  well_formed = subst (λ (l : Limits). IsWellFormed l held.tree) (sym limits)
-      (subst (λ (f : ℕ → ℕ → Limits). IsWellFormed (f sectors held.limits.nodes) held.tree)
-      (any_limits held.limits.nodes base.stands.version held.seats base.stands.is_version) well);
+found_start sectors old held found new current = ∥∥₁_elim found.stood ∥∥₁_prop (λ base. ∥∥₁_map (current_formed sectors held new current) (λ well. record {
+  well_formed = well;
   before = was_before (stamp held.run 0) (next_stamp held.run 0) held.tree
       (subst (λ (r : ℕ). IsBefore (stamp r 0) held.tree) (sym found.raised) base.stands.stands.before) (omega arith);
 }))
 
-pub limits_room : (sectors : ℕ) (held : VolumeState) → held.limits ≡ limits_of sectors held.limits.nodes → held.limits.aces_set + 5 ≤ held.limits.aces
-limits_room sectors held limits = subst (λ (l : Limits). l.aces_set + 5 ≤ l.aces) (sym limits) (omega arith)
+pub limits_room : (sectors : ℕ) (held : VolumeState) → IsJustMounted sectors held → held.limits.aces_set + 5 ≤ held.limits.aces
+limits_room sectors held new = subst (λ (l : Limits). l.aces_set + 5 ≤ l.aces) (sym new.limits) (omega arith)
 
 pub same_seen : (old new : World) (recent : List runs.Left) (old_held new_held : VolumeState) (old_waits new_waits : Bool) → new ≡ old → new_held ≡ old_held → new_waits ≡ old_waits
     → (let one : Seen = record { serving = serving_by old recent old_held.is_down old_waits; volume = old_held } in one)

@@ -31,7 +31,7 @@ turn_refused old new number turns.Device untouched broken = broken refl
 -- turns of a hang-up
 
 pub begins_on : (view : View) (number : ℕ) → view.volume.is_down ≡ false → HasRunOn view view number
-begins_on view number up = record { still_up = up; none_failed = refl; same = record { sectors = refl; limits = refl; run = refl }; others = λ other apart. refl }
+begins_on view number up = record { still_up = up; none_failed = refl; same = record { version = refl; sectors = refl; limits = refl; run = refl }; others = λ other apart. refl }
 
 same_on : (first old new : View) (number : ℕ) → new.volume.is_down ≡ false → new.failures ≡ old.failures → IsSameVolume old.volume new.volume
     → ((other : ℕ) → (other ≡ number → ⊥) → connection_at new other ≡ connection_at old other)
@@ -39,7 +39,7 @@ same_on : (first old new : View) (number : ℕ) → new.volume.is_down ≡ false
 same_on first old new number up failed same others was = record {
   still_up = up;
   none_failed = failed ∙ was.none_failed;
-  same = record { sectors = same.sectors ∙ was.same.sectors; limits = same.limits ∙ was.same.limits; run = same.run ∙ was.same.run };
+  same = record { version = same.version ∙ was.same.version; sectors = same.sectors ∙ was.same.sectors; limits = same.limits ∙ was.same.limits; run = same.run ∙ was.same.run };
   others = λ other apart. others other apart ∙ was.others other apart;
 }
 
@@ -59,7 +59,7 @@ hang_up_refused first old new number faults.Memory on later busy refused =
     let world : new.world ≡ old.world = refused.0 in
     let volume : new.volume ≡ old.volume = refused.1 in (
       same_on first old new number (ap (λ (held : VolumeState). held.is_down) volume ∙ on.still_up) refused.2
-          (record { sectors = ap (λ (held : VolumeState). held.sectors) volume; limits = ap (λ (held : VolumeState). held.limits) volume; run = ap (λ (held : VolumeState). held.run) volume })
+          (record { version = ap (λ (held : VolumeState). held.version) volume; sectors = ap (λ (held : VolumeState). held.sectors) volume; limits = ap (λ (held : VolumeState). held.limits) volume; run = ap (λ (held : VolumeState). held.run) volume })
           (λ other apart. ap (λ (w : World). at other w.connections) world) on,
       λ none.
           let gone : connection_at old number ≡ None = sym (ap (λ (w : World). at number w.connections) world) ∙ none in

@@ -1,4 +1,4 @@
-use Rattle.std.proofs.Common.{◌≡◌, ◌≤◌, ◌+◌, ◌*◌, ℕ, suc, List, ◌∷◌, Option, Some, None, Bool, true, false, cond, refl, ap, subst, arith}
+use Rattle.std.proofs.Common.{◌≡◌, ◌≤◌, ◌+◌, ◌*◌, ℕ, suc, List, ◌∷◌, Option, Some, None, Bool, true, false, cond, refl, ap, ap₂, subst, arith}
 use Rattle.std.specs.List.{IsAmong}
 use Rattle.volume.proofs.RemountLaws.{seen_left}
 use Rattle.model.specs.Operations.Answer.{Answer, Outcome}
@@ -14,7 +14,9 @@ use Rattle.disk.specs.Moments.{moment, seen}
 use Rattle.server.specs.RunLaws.{HangUpIsCalls, IsBounded, NeverEmpty, IsIdle, OnlyIdle}
 use Rattle.server.specs.Seen.{Seen, ServerCall, Did, IsSeenReady, IsServed, IsTurned, Stays, count_of, left_of}
 use Rattle.server.specs.Seen as served
-use Rattle.server.proofs.Stops.{joined, mounted_leaves}
+use Rattle.layout.specs.declared.versions.VersionNumber.{VersionNumber}
+use Rattle.volume.specs.VolumeState.{VolumeState, IsSameVolume, MakesAtMost, call_cost, flush_cost}
+use Rattle.server.proofs.Stops.{joined, mounted_leaves, same_on}
 
 further_calls : (connection now : ℕ) (first old new : Seen) (calls : List ServerCall) → IsServed first calls old → IsTurned connection now old new
     → (more : List ServerCall) × IsServed first more new
@@ -30,16 +32,41 @@ still_ready connection now old new (served.Goes_on {between = between} busy does
 pub hang_up_is_calls : HangUpIsCalls
 hang_up_is_calls connection now first old new calls before turned = (further_calls connection now first old new calls before turned, still_ready connection now old new turned)
 
-one_more : (first middle last count : ℕ) → middle ≤ first + 396 * count → last ≤ middle + 396 → last ≤ first + 396 * suc count
-one_more first middle last count so_far call = omega (arith, so_far, call)
+-- a run stays on one volume, so each of its calls costs the same at most
+same_so_far : (first last : Seen) (calls : List ServerCall) → IsServed first calls last → IsSameVolume first.volume last.volume
+same_so_far first last calls served.IsServed.Begins = record { version = refl; sectors = refl; limits = refl; run = refl }
+same_so_far first last calls (served.IsServed.Goes_on {old = between} event said before does) = same_on first.volume between.volume last.volume (same_so_far first between _ before) does.moves.same
+same_so_far first last calls (served.IsServed.Fails_at {old = between} event before breaks) = same_on first.volume between.volume last.volume (same_so_far first between _ before) breaks.moves.same
+same_so_far first last calls (served.IsServed.Stays_down {old = between} connection said before gives) = same_on first.volume between.volume last.volume (same_so_far first between _ before) gives.moves.same
+same_so_far first last calls (served.IsServed.Keeps_on {old = between} before checkpoints) =
+    same_on first.volume between.volume last.volume (same_so_far first between _ before) (checkpoints.moves (runs.Takes 0)).same
+same_so_far first last calls (served.IsServed.Flushed {old = between} before flushes) =
+    same_on first.volume between.volume last.volume (same_so_far first between _ before) (flushes.moves (runs.Takes 0)).same
+
+same_cost : (first last : VolumeState) → IsSameVolume first last → call_cost last ≡ call_cost first
+same_cost first last same = ap₂ (λ (v : VersionNumber) (s : ℕ). 2 * flush_cost v s) same.version same.sectors
+
+times_more : (cost count : ℕ) → cost * suc count ≡ cost * count + cost
+times_more cost count = grind arith
+
+one_more : (first middle last : Seen) (count : ℕ) → IsSameVolume first.volume middle.volume → moment middle.volume.history ≤ moment first.volume.history + call_cost first.volume * count
+    → MakesAtMost (call_cost middle.volume) middle.volume last.volume → moment last.volume.history ≤ moment first.volume.history + call_cost first.volume * suc count
+one_more first middle last count same so_far call =
+    let cost = call_cost first.volume in
+    omega (arith, so_far, call, same_cost first.volume middle.volume same, times_more cost count)
 
 pub is_bounded : IsBounded
 is_bounded first last calls served.IsServed.Begins = omega arith
-is_bounded first last calls (served.IsServed.Goes_on event said before does) = one_more _ _ _ (count_of before) (is_bounded first _ _ before) does.moves.brief
-is_bounded first last calls (served.IsServed.Fails_at event before breaks) = one_more _ _ _ (count_of before) (is_bounded first _ _ before) breaks.moves.brief
-is_bounded first last calls (served.IsServed.Stays_down connection said before gives) = one_more _ _ _ (count_of before) (is_bounded first _ _ before) gives.moves.brief
-is_bounded first last calls (served.IsServed.Keeps_on before checkpoints) = one_more _ _ _ (count_of before) (is_bounded first _ _ before) (checkpoints.moves (runs.Takes 0)).brief
-is_bounded first last calls (served.IsServed.Flushed before flushes) = one_more _ _ _ (count_of before) (is_bounded first _ _ before) (flushes.moves (runs.Takes 0)).brief
+is_bounded first last calls (served.IsServed.Goes_on {old = between} event said before does) =
+    one_more first between last (count_of before) (same_so_far first between _ before) (is_bounded first between _ before) does.moves.brief
+is_bounded first last calls (served.IsServed.Fails_at {old = between} event before breaks) =
+    one_more first between last (count_of before) (same_so_far first between _ before) (is_bounded first between _ before) breaks.moves.brief
+is_bounded first last calls (served.IsServed.Stays_down {old = between} connection said before gives) =
+    one_more first between last (count_of before) (same_so_far first between _ before) (is_bounded first between _ before) gives.moves.brief
+is_bounded first last calls (served.IsServed.Keeps_on {old = between} before checkpoints) =
+    one_more first between last (count_of before) (same_so_far first between _ before) (is_bounded first between _ before) (checkpoints.moves (runs.Takes 0)).brief
+is_bounded first last calls (served.IsServed.Flushed {old = between} before flushes) =
+    one_more first between last (count_of before) (same_so_far first between _ before) (is_bounded first between _ before) (flushes.moves (runs.Takes 0)).brief
 
 pub never_empty : NeverEmpty
 never_empty settings run start first last calls mounted served none =

@@ -11,6 +11,7 @@ use Rattle.volume.specs.VolumeState.{VolumeState, IsSameVolume, kept_of}
 use Rattle.volume.specs.Stands.{StandsFor, IsBase}
 use Rattle.volume.specs.Superblock.{last_run}
 use Rattle.volume.proofs.FormatLaws.{fresh_stands_for}
+use Rattle.volume.proofs.StandLaws.{is_number}
 use Rattle.volume.proofs.OneTree.{Kept-set, one_stands}
 use Rattle.model.proofs.Server.HeldLaws.{every_held_is_kept}
 use Rattle.model.proofs.Operations.AnswerLaws.{every_answer_is_permitted}
@@ -56,8 +57,9 @@ pub record IsJoined (first : Seen) (calls : List ServerCall) (last : Seen) (serv
   pub leaves : LeavesNow last
   pub same : IsSameVolume first.volume last.volume
 
-same_on : (a b c : VolumeState) → IsSameVolume a b → IsSameVolume b c → IsSameVolume a c
+pub same_on : (a b c : VolumeState) → IsSameVolume a b → IsSameVolume b c → IsSameVolume a c
 same_on a b c ab bc = record {
+  version = bc.version ∙ ab.version;
   sectors = bc.sectors ∙ ab.sectors;
   limits = bc.limits ∙ ab.limits;
   run = bc.run ∙ ab.run;
@@ -73,7 +75,7 @@ joined first last calls leaves Begins = record {
   run = runs.Begins;
   counts = record { settled_is = refl; taken_is = refl };
   leaves = leaves;
-  same = record { sectors = refl; limits = refl; run = refl };
+  same = record { version = refl; sectors = refl; limits = refl; run = refl };
 }
 joined first last calls leaves (Goes_on {calls = earlier} {old = old} {new = new} event said before does) =
     let was = joined first old earlier leaves before in
@@ -199,14 +201,14 @@ every_run_again stopped device from again remounts found =
 -- Between runs
 
 new_leaves : (sectors nodes : ℕ) (new : History) (since : ℕ) → IsNewVolume sectors nodes new since → LeavesGood sectors nodes 0 (λ kept. kept ≡ bare fresh_tree) new since
-new_leaves sectors nodes new since (Formatted {device = device} fresh) = record {
+new_leaves sectors nodes new since (Formatted {device = device} version served fresh) = record {
   within = omega arith;
-  leaves = λ image left. stands_more sectors nodes 0 (λ kept. kept ≡ bare fresh_tree) (bare fresh_tree) image refl (fresh_stands_for sectors nodes image (fresh image (left_now device image left)));
+  leaves = λ image left. stands_more sectors nodes 0 (λ kept. kept ≡ bare fresh_tree) (bare fresh_tree) image refl (fresh_stands_for version sectors nodes image (is_number version served) (fresh image (left_now device image left)));
 }
-new_leaves sectors nodes new since (Powers {image = was} fresh) = record {
+new_leaves sectors nodes new since (Powers {image = was} version served fresh) = record {
   within = omega arith;
   leaves = λ image left. stands_more sectors nodes 0 (λ kept. kept ≡ bare fresh_tree) (bare fresh_tree) image refl
-      (fresh_stands_for sectors nodes image (subst (λ (i : Image). IsFresh sectors nodes i) (sym (rests_left was image left)) fresh));
+      (fresh_stands_for version sectors nodes image (is_number version served) (subst (λ (i : Image). IsFresh version sectors nodes i) (sym (rests_left was image left)) fresh));
 }
 
 pub every_first : EveryFirst

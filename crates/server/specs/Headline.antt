@@ -11,6 +11,8 @@ use Rattle.model.specs.Server.SoundRuns.{IsStart}
 use Rattle.model.specs.Server.StampRuns.{AreGiven}
 use Rattle.model_tree.specs.Trees.Tree.{Tree}
 use Rattle.model.specs.Server.World.{Entry}
+use Rattle.layout.specs.Versions as versions
+use Rattle.layout.specs.declared.versions.VersionNumber.{VersionNumber}
 use Rattle.volume.specs.Formats.{IsFresh, LeavesFresh}
 use Rattle.volume.specs.VolumeState.{VolumeState, kept_of}
 use Rattle.volume.specs.MountAnswers.{IsMountRefused}
@@ -127,12 +129,14 @@ EveryRun =
     → IsMountedAfter stopped device from
     → IsFound stopped.first.volume.sectors device again → HasGoodTree stopped again
 
--- A new volume, and from which moment of its device on a crash counts: what a format that returned
--- Ok leaves, or an image that a crash left of one.
+-- A new volume, of any version, and from which moment of its device on a crash counts: what a format
+-- that returned Ok leaves, or an image that a crash left of one.
 pub data IsNewVolume (sectors nodes : ℕ) : History → ℕ → Type 0 where
-  Formatted : {device : History} → LeavesFresh sectors nodes device
+  Formatted : {device : History} (version : VersionNumber) → versions.IsServed version
+      → LeavesFresh version sectors nodes device
       → IsNewVolume sectors nodes device (moment device)
-  Powers : {image : Image} → IsFresh sectors nodes image
+  Powers : {image : Image} (version : VersionNumber) → versions.IsServed version
+      → IsFresh version sectors nodes image
       → IsNewVolume sectors nodes (at_rest image) 0
 
 -- Before the first run: however often a new volume was mounted, and those mounts refused or

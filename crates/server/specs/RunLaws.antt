@@ -2,6 +2,7 @@
 use Rattle.std.specs.Prelude.{ℕ, List, [], Option, Some, ◌≡◌, ◌≤◌, ◌+◌, ◌*◌, ◌↔◌}
 use Rattle.disk.specs.Moments.{moment}
 use Rattle.layout.specs.Stands.{Kept}
+use Rattle.volume.specs.VolumeState.{call_cost}
 use Rattle.model_tree.specs.Trees.Keyed.{at}
 use Rattle.model.specs.Wire.Rpc.{NoCall, read_call}
 use Rattle.model.specs.Server.World.{World, Connection, Waiting, Busy, Idle, one}
@@ -17,12 +18,13 @@ HangUpIsCalls =
     → IsTurned connection now old new
     → ((more : List ServerCall) × IsServed first more new) × (IsSeenReady old → IsSeenReady new)
 
--- At most 396 writes and syncs take effect in a call of a run, also in one in which the device
--- fails.
+-- At most the writes and syncs of two flushes take effect in a call of a run, also in one in which
+-- the device fails.
 abbrev pub IsBounded : Type 0
 IsBounded =
     (first last : Seen) (calls : List ServerCall) (served : IsServed first calls last)
-    → moment last.volume.history ≤ moment first.volume.history + 396 * count_of served
+    → moment last.volume.history
+    ≤ moment first.volume.history + call_cost first.volume * count_of served
 
 -- one that claims that a crash leaves nothing
 abbrev pub NeverEmpty : Type 0

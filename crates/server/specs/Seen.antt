@@ -4,7 +4,7 @@ use Rattle.std.specs.Prelude.{ℕ, suc, true, false, List, [], ◌∷◌, Option
 use Rattle.std.specs.List.{IsAmong}
 use Rattle.disk.specs.Moments.{Image, AddsOnly, Left}
 use Rattle.layout.specs.Stands.{Kept}
-use Rattle.volume.specs.VolumeState.{VolumeState, IsSameVolume, MakesAtMost, StandsForOne, IsRecent}
+use Rattle.volume.specs.VolumeState.{VolumeState, IsSameVolume, MakesAtMost, StandsForOne, IsRecent, call_cost}
 use Rattle.model_tree.specs.Trees.Keyed.{at}
 use Rattle.model.specs.Server.Runs.{Serving, Event, Arrives, Turns, HangsUp, Connects, Takes, Happens, Flushes, DeviceFails, StaysDown, RunHistory, no_history, history_after, history_failing, effect_of, MayBeLeft}
 use Rattle.model.specs.Server.Runs as runs
@@ -52,8 +52,8 @@ pub record Moves (old : Seen) (event : Event) (new : Seen) : Type 0 where
       new.volume.history
   pub leaves : LeavesNow new
   pub same : IsSameVolume old.volume new.volume
-  -- it makes at most 396 writes and syncs
-  pub brief : MakesAtMost 396 old.volume new.volume
+  -- it makes at most these writes and syncs
+  pub brief : MakesAtMost (call_cost old.volume) old.volume new.volume
 
 -- What a call returns
 

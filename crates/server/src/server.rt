@@ -52,6 +52,7 @@ impl<D: Device> Server<D> {
     ghost use Rattle.model.specs.Server.Runs as runs;
     ghost use Rattle.model.specs.Server.World.{Closed, is_busy, can_connect};
     ghost use Rattle.server.specs.Connections.{turn_view};
+    ghost use Rattle.volume.specs.VolumeState.{call_cost, checkpoint_cost, flush_cost};
     ghost use Rattle.server.specs.Refused.{view, IsUntouched, connection_at, HasKept, HasRunOn, HasTurned, RefusesCheckpoint, RefusesTurn, RefusesHangUp, UsesDevice};
     ghost use Rattle.server.specs.Seen.{Does, Breaks, Took, Turned, Done};
     ghost use Rattle.server.specs.Views.{world_of, files_of, volume_of, waits_of, server_failures, most_connections, seen_with, seen_down, gave, Serves, ServesLater, ServesAs, LetsWait, FlushesServer, ServerFails, GivesReply, Keeps, Turning};
@@ -230,7 +231,8 @@ impl<D: Device> Server<D> {
             → connection_at (view self.old) conn ≡ None → IsErrOf result ServerFault.NoConnection }
         ensures is_closed { (volume_of self.old).is_down ≡ false
             → connection_at (view self.old) conn ≡ Some Closed → IsErrOf result ServerFault.Closed }
-        ensures device { UsesDevice D.keeps_word 396 (view self.old) (view self.new) }
+        ensures device { UsesDevice D.keeps_word (call_cost (view self.old).volume)
+            (view self.old) (view self.new) }
     {
         self.defer(false);
         self.take_turn(conn, now)
@@ -262,7 +264,8 @@ impl<D: Device> Server<D> {
             → connection_at (view self.old) conn ≡ None → IsErrOf result ServerFault.NoConnection }
         ensures is_closed { (volume_of self.old).is_down ≡ false
             → connection_at (view self.old) conn ≡ Some Closed → IsErrOf result ServerFault.Closed }
-        ensures device { UsesDevice D.keeps_word 396 (view self.old) (view self.new) }
+        ensures device { UsesDevice D.keeps_word (call_cost (view self.old).volume)
+            (view self.old) (view self.new) }
     {
         self.defer(true);
         self.take_turn(conn, now)
@@ -300,7 +303,8 @@ impl<D: Device> Server<D> {
             → connection_at (view self.old) conn ≡ None → IsErrOf result ServerFault.NoConnection }
         ensures is_closed { (volume_of self.old).is_down ≡ false
             → connection_at (view self.old) conn ≡ Some Closed → IsErrOf result ServerFault.Closed }
-        ensures device { UsesDevice D.keeps_word 396 (view self.old) (view self.new) }
+        ensures device { UsesDevice D.keeps_word (call_cost (view self.old).volume)
+            (view self.old) (view self.new) }
     {
         if self.fs.is_down() {
             return Err(ServerFault::Device);
@@ -337,7 +341,9 @@ impl<D: Device> Server<D> {
         // If the device fails in it
         ensures fails { D.keeps_word → (volume_of self.old).is_down ≡ false
             → OnErr result ((event : runs.Event) → ServerFails self.old self.new event) }
-        ensures device { UsesDevice D.keeps_word 198 (view self.old) (view self.new) }
+        ensures device { UsesDevice D.keeps_word
+            (flush_cost (view self.old).volume.version (view self.old).volume.sectors)
+            (view self.old) (view self.new) }
         // If it fails
         ensures refused { IfErr result (RefusesCheckpoint (view self.old) (view self.new)) }
         ensures waits { OnErr result (waits_of self.new ≡ waits_of self.old) }
@@ -429,7 +435,9 @@ impl<D: Device> Server<D> {
         // If the device fails in it
         ensures fails { D.keeps_word → (volume_of self.old).is_down ≡ false
             → OnErr result ((event : runs.Event) → ServerFails self.old self.new event) }
-        ensures device { UsesDevice D.keeps_word 99 (view self.old) (view self.new) }
+        ensures device { UsesDevice D.keeps_word
+            (checkpoint_cost (view self.old).volume.version (view self.old).volume.sectors)
+            (view self.old) (view self.new) }
         // If it fails
         ensures refused { IfErr result (RefusesCheckpoint (view self.old) (view self.new)) }
         ensures is_down { (volume_of self.old).is_down ≡ true

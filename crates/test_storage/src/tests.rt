@@ -3,7 +3,6 @@
 mod directories;
 mod drivers;
 mod files;
-mod large;
 mod lists;
 mod maps;
 mod transactions;

@@ -10,8 +10,9 @@ use Rattle.model_tree.specs.declared.node.NodeKind.{NodeKind}
 use Rattle.model_tree.specs.declared.node.NodeKind.TheVariants as kind
 use Rattle.model_tree.specs.Rights.Acl.{is_list_for}
 use Rattle.model_tree.specs.Trees.Keyed.{at, here_or}
-use Rattle.model_tree.specs.Trees.Tree.{Tree, DirEntry, root, kind_of, is_directory, is_directory_node, is_directory_at}
+use Rattle.model_tree.specs.Trees.Tree.{Tree, Node, DirEntry, names_of, root, kind_of, is_directory, is_directory_node, is_directory_at}
 use Rattle.model_tree.specs.Trees.WellFormed.{one_if, times_named, AreNames, IsContent, IsNode}
+use Rattle.model_tree.proofs.Trees.KeyedParts.{total-ones}
 use Rattle.directory.specs.Listing.{by_stamp}
 use Rattle.directory.specs.Records.{Record, name_of, NamesApart, NamesStamped}
 use Rattle.directory.proofs.ByStamp.{at-by_stamp}
@@ -19,15 +20,16 @@ use Rattle.layout.specs.CachedNodes.{CachedNode, tree_of, node_of, content_of, b
 use Rattle.layout.specs.Known.{HasContent, AreCached}
 use Rattle.layout.specs.Marks.{times, times_set, namings_of}
 use Rattle.layout.proofs.Answering.{tree_answers}
-use Rattle.layout.proofs.Changing.{named-at}
+use Rattle.layout.proofs.Changing.{named-at, tree-above}
 use Rattle.layout.proofs.ChargeLaws.{above_by_stamp}
 use Rattle.layout.proofs.Frame.{bytes-kept}
-use Rattle.layout.proofs.Knowing.{laid_are_cached_nodes}
+use Rattle.layout.proofs.Knowing.{each_above, laid_are_cached_nodes}
 use Rattle.layout.proofs.Linking.{bytes_fit}
 use Rattle.layout.proofs.Summing.{names_total}
 use Rattle.tree_check.specs.Nodes.{IsNameAllowed, AreNamesAllowed, IsContentAllowed, IsNodeAllowed, HasRootDirectory, AreNodesAllowed}
 use Rattle.tree_check.specs.ShapeLaws.{HoldBytes, HasAllowedNodes, EachNode}
 use Rattle.tree_check.proofs.AgeLaws.{node-is, none-node}
+use Rattle.tree_check.proofs.FitLaws.{few-at, few-from}
 use Rattle.tree_check.proofs.TreeLaws.{There, Nowhere, at-stamp, find, is_cached}
 
 -- Names
@@ -88,6 +90,9 @@ allowed-names : (limits : Limits) (names : List Record) → NamesStamped names �
 allowed-names limits names stamped are = all-each (λ (r : Record). IsNameAllowed limits (name_of r)) names
     (λ i d h. are.named (get_or names i d).0 (get_or names i d).1 (at-by_stamp (get_or names i d).0 names ∙ at-stamp names stamped i d h))
 
+names-count : (names : List Record) → NamesStamped names → length (by_stamp names) ≡ length names
+names-count names stamped = sym (total-ones (by_stamp names)) ∙ names_total (λ entry. 1) names stamped ∙ total-ones names
+
 -- Bytes of files: an image that holds nothing in sectors that are not marked holds the same files
 
 abbrev marked_by : ℕ → List ℕ → List ℕ
@@ -134,11 +139,18 @@ module _ (image : Image) (limits : Limits) where
 
   content-allowed : (kind : NodeKind) (cached_node : CachedNode) → All (λ byte. byte < 256) (bytes_in image cached_node.blocks cached_node.fields.size) → HasContent kind cached_node → IsContentAllowed limits kind cached_node → IsContent limits (content_of image kind cached_node)
   content-allowed kind.File cached_node bytes has allowed = (bytes, omega (arith, size-is cached_node))
-  content-allowed kind.Directory cached_node bytes has allowed = names-allowed limits cached_node.names has.stamped has.names.apart allowed
+  content-allowed kind.Directory cached_node bytes has allowed = names-allowed limits cached_node.names has.stamped has.names.apart allowed.names
 
-  allowed-content : (kind : NodeKind) (cached_node : CachedNode) → HasContent kind cached_node → IsContent limits (content_of image kind cached_node) → IsContentAllowed limits kind cached_node
-  allowed-content kind.File cached_node has is = let few = is.1 in omega (arith, size-is cached_node)
-  allowed-content kind.Directory cached_node has is = allowed-names limits cached_node.names has.stamped is
+  content-few : (kind : NodeKind) (cached_node : CachedNode) → HasContent kind cached_node → IsContentAllowed limits kind cached_node → length (names_of (content_of image kind cached_node)) ≤ limits.names
+  content-few kind.File cached_node has allowed = omega arith
+  content-few kind.Directory cached_node has allowed = omega (arith, names-count cached_node.names has.stamped, allowed.few)
+
+  allowed-content : (kind : NodeKind) (cached_node : CachedNode) → HasContent kind cached_node → IsContent limits (content_of image kind cached_node) → length (names_of (content_of image kind cached_node)) ≤ limits.names → IsContentAllowed limits kind cached_node
+  allowed-content kind.File cached_node has is few = let short = is.1 in omega (arith, size-is cached_node)
+  allowed-content kind.Directory cached_node has is few = record {
+    few = omega (arith, names-count cached_node.names has.stamped);
+    names = allowed-names limits cached_node.names has.stamped is;
+  }
 
   node-allowed : (cached_node : CachedNode) → All (λ byte. byte < 256) (bytes_in image cached_node.blocks cached_node.fields.size) → HasContent cached_node.fields.kind cached_node → IsNodeAllowed limits cached_node → IsNode limits (node_of image cached_node)
   unfolding node_of
@@ -147,11 +159,15 @@ module _ (image : Image) (limits : Limits) where
     content = content-allowed cached_node.fields.kind cached_node bytes has allowed.content;
   }
 
-  allowed-node : (cached_node : CachedNode) → HasContent cached_node.fields.kind cached_node → IsNode limits (node_of image cached_node) → IsNodeAllowed limits cached_node
+  node-few : (cached_node : CachedNode) → HasContent cached_node.fields.kind cached_node → IsNodeAllowed limits cached_node → length (names_of (node_of image cached_node).content) ≤ limits.names
   unfolding node_of
-  allowed-node cached_node has is = record {
+  node-few cached_node has allowed = content-few cached_node.fields.kind cached_node has allowed.content
+
+  allowed-node : (cached_node : CachedNode) → HasContent cached_node.fields.kind cached_node → IsNode limits (node_of image cached_node) → length (names_of (node_of image cached_node).content) ≤ limits.names → IsNodeAllowed limits cached_node
+  unfolding node_of
+  allowed-node cached_node has is few = record {
     entries = subst (λ (kind : NodeKind). IsTrue (is_list_for limits.aces_set limits.aces kind cached_node.fields.acl)) (kind-is cached_node.fields.kind cached_node) is.entries;
-    content = allowed-content cached_node.fields.kind cached_node has is.content;
+    content = allowed-content cached_node.fields.kind cached_node has is.content few;
   }
 
   directory-content : (of : NodeKind) (cached_node : CachedNode) → of ≡ kind.Directory → is_directory (content_of image of cached_node) ≡ true
@@ -184,6 +200,12 @@ module _ (nodes : ℕ) (image : Image) (mark : ℕ → ℕ) (cached_nodes : List
           (node-allowed image limits cached_node (file-bytes nodes image mark cached_nodes known bytes place cached_node there) (is_cached nodes image mark cached_nodes known place cached_node there).content (allowed.each place cached_node there))
       | Nowhere none ↦ absurd (none-node nodes image mark cached_nodes known 0 number node e ((tree_answers image cached_nodes known.apart number).none none))
     ];
+    few = few-from limits.names 0 tree (tree-above image cached_nodes (each_above cached_nodes (is_cached nodes image mark cached_nodes known))) (λ number node e. elim (find cached_nodes number) [
+      | There place cached_node there is ↦
+          subst (λ (node : Node). length (names_of node.content) ≤ limits.names) (sym (node-is nodes image mark cached_nodes known 0 number node place cached_node e there is))
+          (node-few image limits cached_node (is_cached nodes image mark cached_nodes known place cached_node there).content (allowed.each place cached_node there))
+      | Nowhere none ↦ absurd (none-node nodes image mark cached_nodes known 0 number node e ((tree_answers image cached_nodes known.apart number).none none))
+    ]);
     rooted = (let rooted = allowed.rooted in
         let at_root : at root tree ≡ Some (node_of image rooted.cached) = (tree_answers image cached_nodes known.apart root).found rooted.place rooted.cached rooted.there rooted.is.number in
         ap is_directory_node at_root ∙ directory-is image limits rooted.cached rooted.is.directory);
@@ -205,8 +227,10 @@ module _ (nodes : ℕ) (image : Image) (mark : ℕ → ℕ) (cached_nodes : List
 
   tree-allowed : HasAllowedNodes limits tree → AreNodesAllowed limits cached_nodes
   tree-allowed has = record {
-    each = λ place cached_node there. allowed-node image limits cached_node (is_cached nodes image mark cached_nodes known place cached_node there).content
-        (has.nodes cached_node.fields.number (node_of image cached_node) ((tree_answers image cached_nodes known.apart cached_node.fields.number).found place cached_node there refl));
+    each = λ place cached_node there.
+        let found = (tree_answers image cached_nodes known.apart cached_node.fields.number).found place cached_node there refl in
+        allowed-node image limits cached_node (is_cached nodes image mark cached_nodes known place cached_node there).content
+        (has.nodes cached_node.fields.number (node_of image cached_node) found) (few-at limits.names tree cached_node.fields.number (node_of image cached_node) has.few found);
     rooted = root-cached has.rooted;
   }
 

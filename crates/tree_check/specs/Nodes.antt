@@ -1,5 +1,5 @@
 -- The limits allow each node at the places of a table, and the root is a directory.
-use Rattle.std.specs.Prelude.{◌≡◌, ◌≤◌, ℕ, List, Option, Some, None, IsTrue, slice_index_or}
+use Rattle.std.specs.Prelude.{◌≡◌, ◌≤◌, ℕ, List, Option, Some, None, IsTrue, length, slice_index_or}
 use Rattle.std.specs.List.{AllByRecursion}
 use Rattle.model_tree.specs.declared.limits.Limits.{Limits}
 use Rattle.model_tree.specs.declared.node.NodeKind.{NodeKind}
@@ -19,9 +19,14 @@ IsNameAllowed limits name = first_refusal (name_refusals limits name) ≡ None
 abbrev pub AreNamesAllowed : Limits → List Record → Type 0
 AreNamesAllowed limits names = AllByRecursion (λ entry. IsNameAllowed limits (name_of entry)) names
 
+-- a directory's names are within their limit, and allowed
+pub record HasAllowedNames (limits : Limits) (cached_node : CachedNode) : Type 0 where
+  pub few : length cached_node.names ≤ limits.names
+  pub names : AreNamesAllowed limits cached_node.names
+
 abbrev pub IsContentAllowed : Limits → NodeKind → CachedNode → Type 0
 IsContentAllowed limits kind.File cached_node = cached_node.fields.size ≤ limits.file_bytes
-IsContentAllowed limits kind.Directory cached_node = AreNamesAllowed limits cached_node.names
+IsContentAllowed limits kind.Directory cached_node = HasAllowedNames limits cached_node
 
 pub record IsNodeAllowed (limits : Limits) (cached_node : CachedNode) : Type 0 where
   pub entries : IsTrue

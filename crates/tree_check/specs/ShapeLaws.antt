@@ -3,11 +3,10 @@ use Rattle.std.specs.Prelude.{◌≡◌, ◌≤◌, ◌↔◌, ◌<◌, ◌&&◌
 use Rattle.disk.specs.Moments.{Image}
 use Rattle.node_table.specs.Tables.{charge_of_all, count_of_all}
 use Rattle.model_tree.specs.declared.limits.Limits.{Limits}
-use Rattle.model_tree.specs.Trees.Charge.{fits}
+use Rattle.model_tree.specs.Trees.Charge.{few_names, fits}
 use Rattle.model_tree.specs.Trees.Keyed.{at, is_key}
 use Rattle.model_tree.specs.Trees.Tree.{Tree, Node, root, is_directory_at}
 use Rattle.model_tree.specs.Trees.WellFormed.{links_to, links_owed, stamped_in, IsBefore, IsFrom, IsNode, IsWellFormed}
-use Rattle.directory.specs.declared.names.TheConstants.Names.{MAX_NAMES}
 use Rattle.layout.specs.CachedNodes.{CachedNode, tree_of}
 use Rattle.layout.specs.Known.{AreCached}
 use Rattle.layout.specs.Laid.{AreLaid}
@@ -45,25 +44,27 @@ EachAge =
     → AreLaid nodes image mark cached_nodes
     → (stamp : ℕ) → AreBefore stamp cached_nodes ↔ IsBefore stamp (tree_of image cached_nodes)
 
--- The tree fits exactly if the nodes' charges and their count do: no directory has more than
--- MAX_NAMES names
+-- The tree fits exactly if the nodes' charges and their count do, and no directory has too many
+-- names
 abbrev pub EachFit : Type 0
 EachFit =
     (nodes : ℕ) (image : Image) (mark : ℕ → ℕ) (cached_nodes : List (Option CachedNode))
     → AreLaid nodes image mark cached_nodes
-    → (limits : Limits) → MAX_NAMES ≤ limits.names
+    → (limits : Limits)
     → fits limits (tree_of image cached_nodes)
-    ≡ (nat_le (charge_of_all cached_nodes) limits.data_sectors && nat_le
-    (count_of_all cached_nodes) limits.nodes)
+    ≡ (nat_le (charge_of_all cached_nodes) limits.data_sectors && (nat_le
+    (count_of_all cached_nodes) limits.nodes && few_names limits.names
+    (tree_of image cached_nodes)))
 
--- if the sectors that nodes name hold bytes, two more: the limits allow each node, and the root is
--- a directory
+-- if the sectors that nodes name hold bytes, the rest: the limits allow each node, no directory has
+-- too many names, and the root is a directory
 
 abbrev pub HoldBytes : Image → (mark : ℕ → ℕ) → Type 0
 HoldBytes image mark = (n : ℕ) → 0 < mark n → All (λ byte. byte < 256) (image n)
 
 pub record HasAllowedNodes (limits : Limits) (tree : Tree) : Type 0 where
   pub nodes : (number : ℕ) (node : Node) → at number tree ≡ Some node → IsNode limits node
+  pub few : IsTrue (few_names limits.names tree)
   pub rooted : IsTrue (is_directory_at tree root)
 
 abbrev pub EachNode : Type 0
@@ -75,7 +76,7 @@ EachNode = (nodes : ℕ) (image : Image) (mark : ℕ → ℕ) (cached_nodes : Li
 abbrev pub EachTree : Type 0
 EachTree = (nodes : ℕ) (image : Image) (mark : ℕ → ℕ) (cached_nodes : List (Option CachedNode))
     → AreLaid nodes image mark cached_nodes → HoldBytes image mark
-    → (limits : Limits) → MAX_NAMES ≤ limits.names → (stamp : ℕ)
+    → (limits : Limits) → (stamp : ℕ)
     → AreWellFormed limits stamp cached_nodes
     ↔ (IsWellFormed limits (tree_of image cached_nodes)
     × IsBefore stamp (tree_of image cached_nodes))
@@ -85,7 +86,7 @@ EachTree = (nodes : ℕ) (image : Image) (mark : ℕ → ℕ) (cached_nodes : Li
 abbrev pub EachKnownTree : Type 0
 EachKnownTree = (nodes : ℕ) (mark : ℕ → ℕ) (cached_nodes : List (Option CachedNode))
     → AreCached nodes mark cached_nodes
-    → (limits : Limits) → MAX_NAMES ≤ limits.names → (stamp : ℕ)
+    → (limits : Limits) → (stamp : ℕ)
     → AreWellFormed limits stamp cached_nodes
     ↔ (IsWellFormed limits (tree_of (λ n. []) cached_nodes)
     × IsBefore stamp (tree_of (λ n. []) cached_nodes))

@@ -32,7 +32,9 @@ fn is_content_allowed(cached: &CachedNode, limits: &Limits) -> bool
 {
     match cached.inode.kind {
         NodeKind::File => cached.inode.size <= limits.file_bytes as u64,
-        NodeKind::Directory => are_names_allowed(&cached.names, limits),
+        NodeKind::Directory => {
+            cached.names.len() <= limits.names && are_names_allowed(&cached.names, limits)
+        }
     }
 }
 
@@ -63,8 +65,8 @@ fn has_root_directory(table: &Table) -> bool
 }
 
 /// Whether the limits allow each of a volume's nodes, and the root is a directory: each node may
-/// have its access control list, a file has no more bytes than the limits allow, and each name is
-/// allowed.
+/// have its access control list, a file has no more bytes and a directory no more names than the
+/// limits allow, and each name is allowed.
 pub(crate) fn are_nodes_allowed(table: &Table, limits: &Limits) -> bool
     ensures { IsTrue result ↔ AreNodesAllowed limits.now table.now }
 {

@@ -1,7 +1,7 @@
 -- Names of the outline and names of cached nodes.
 use Rattle.std.proofs.Common.{◌≡◌, ◌<◌, ◌+◌, ◌≤◌, eqb, ℕ, Bool, true, false, List, [], ◌∷◌, Option, Some, None, length, refl, sym, ap, ◌∙◌, arith, subst}
 use Rattle.std.specs.Prelude.{bytes_eq, if◌then◌else◌, nat_le, IsTrue}
-use Rattle.std.proofs.lemmas.Bool.{and_parts, leb-true}
+use Rattle.std.proofs.lemmas.Bool.{and_parts, le-leb, leb-true}
 use Rattle.directory.specs.declared.names.TheConstants.Names.{MAX_NAMES}
 use Rattle.directory.specs.Listing.{by_stamp, without_entry}
 use Rattle.directory.specs.Records.{Record, record_from, place_of, with_record, without_place}
@@ -22,7 +22,7 @@ use Rattle.model_tree.specs.Trees.Charge.{charge, charge_of_blocks, blocks_of, f
 use Rattle.model_tree.specs.Trees.Edit.{altered, altered_at, name_put}
 use Rattle.model_tree.specs.Trees.Keyed.{at, here_or, with, without}
 use Rattle.model_tree.proofs.Trees.KeyedLaws.{at-with_same}
-use Rattle.model_tree.specs.Trees.Tree.{Tree, Node, DirEntry, entry_of, names_at, names_of, found_or}
+use Rattle.model_tree.specs.Trees.Tree.{Tree, Node, DirEntry, entry_of, names_at, names_of, names_of_node, found_or}
 
 -- a name that is not among records comes after the last
 pub place_behind : (name : List ℕ) (names : List Record) → entry_of name names ≡ None → place_of name names ≡ length names
@@ -59,6 +59,20 @@ few-at most (entry ∷ rest) number node few there = by_key (few-at most rest nu
         → here_or same entry.1 (at number rest) ≡ Some node → length (names_of node.content) ≤ most
     by_key later true here = subst (λ (n : Node). length (names_of n.content) ≤ most) (some_is here) (leb-true (length (names_of entry.1.content)) most parts.0)
     by_key later false found = later parts.1 found
+
+pub few_named : (most : ℕ) (tree : Tree) (number : ℕ) → IsTrue (few_names most tree) → length (names_at tree number) ≤ most
+few_named most tree number few = by_node (at number tree) refl
+  where
+    by_node : (found : Option Node) → at number tree ≡ found → length (names_of_node found) ≤ most
+    by_node None is = omega arith
+    by_node (Some node) is = few-at most tree number node few is
+
+-- so for a greater limit
+pub few_more : (most more : ℕ) (tree : Tree) → most ≤ more → IsTrue (few_names most tree) → IsTrue (few_names more tree)
+few_more most more [] less few = refl
+few_more most more (entry ∷ rest) less few =
+    let parts = and_parts (nat_le (length (names_of entry.1.content)) most) (few_names most rest) few in
+    rw (le-leb (length (names_of entry.1.content)) more (omega (arith, less, leb-true (length (names_of entry.1.content)) most parts.0)), few_more most more rest less parts.1) refl
 
 -- The names of a directory's cached node
 

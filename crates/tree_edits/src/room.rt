@@ -1,6 +1,6 @@
 //! Whether there is room for the tree after edits.
 
-ghost use Rattle.std.specs.Prelude.{◌≡◌, ◌≤◌, ◌<◌, ◌+◌, ◌^◌, ℕ, length};
+ghost use Rattle.std.specs.Prelude.{◌≡◌, ◌≤◌, ◌<◌, ◌+◌, ◌^◌, ℕ, IsTrue, length};
 ghost use Rattle.tree_edits.specs.Edits.{edits_of};
 ghost use Rattle.tree_edits.specs.Measures.{AreMeasurable};
 ghost use Rattle.tree_edits.specs.Outlines.{tree_without_data};
@@ -12,7 +12,7 @@ ghost use Rattle.model_tree.specs.Trees.Edit.{edited};
 ghost use Rattle.model_tree.specs.Trees.Keyed.{total};
 
 use crate::edit::Edit;
-use directory::{Names, RECORDS};
+use directory::RECORDS;
 use disk::SECTOR;
 use extents::MAX_SECTOR_RUNS;
 use model_tree::limits::Limits;
@@ -188,12 +188,11 @@ fn taken_after(table: &Table, edits: &[Edit<'_>]) -> Taken
     Taken { charge, nodes }
 }
 
-/// Whether no directory has more than `most` names after edits. Those that no edit changes have at
-/// most `Names::MAX_NAMES`.
+/// Whether no directory has more than `most` names after edits, if none has before them.
 fn have_few_names(table: &Table, edits: &[Edit<'_>], most: usize) -> bool
     requires cached_nodes { (nodes : ℕ) × (mark : ℕ → ℕ) × AreCached nodes mark table.now }
     requires can { AreMeasurable (tree_without_data table.now) edits.now }
-    requires most { Names.MAX_NAMES ≤ most }
+    requires most { IsTrue (few_names most (tree_without_data table.now)) }
     ensures { result
         ≡ few_names most (edited (edits_of edits.now) (tree_without_data table.now)) }
 {
@@ -206,14 +205,14 @@ fn have_few_names(table: &Table, edits: &[Edit<'_>], most: usize) -> bool
 }
 
 /// Whether the tree after edits fits: its charges are at most the data region, its nodes at most
-/// their limit, and no directory has too many names. It must be possible to measure each edit in
+/// their limit, and no directory has too many names, as none has before them. It must be possible to measure each edit in
 /// the tree after those before it; there a new node may have the number 0, and a new name the stamp
 /// 0. This needs no memory, and a number of steps that is quadratic in the number of edits, of
 /// which there are few, with two searches by number for each of them.
 pub fn fits(table: &Table, limits: &Limits, edits: &[Edit<'_>]) -> bool
     requires cached_nodes { (nodes : ℕ) × (mark : ℕ → ℕ) × AreCached nodes mark table.now }
     requires can { AreMeasurable (tree_without_data table.now) edits.now }
-    requires names { Names.MAX_NAMES ≤ limits.now.names }
+    requires names { IsTrue (few_names limits.now.names (tree_without_data table.now)) }
     ensures { result ≡ fits limits.now (edited (edits_of edits.now) (tree_without_data table.now)) }
 {
     let taken = taken_after(table, edits);

@@ -7,12 +7,13 @@ use Rattle.disk.specs.Moments.{Image, History, AddsOnly, moment}
 use Rattle.disk.proofs.MomentLemmas.{AddsOnly-same}
 use Rattle.journal.specs.Log.{Log, applied_all, contents}
 use Rattle.layout.specs.CachedNodes.{CachedNode, tree_of, cached_nodes_in}
-use Rattle.layout.specs.Stands.{IsMark, Kept, StandsAs, StandsNow, mark_held, seats_at}
-use Rattle.layout.specs.Superblock.{is_size}
-use Rattle.layout.specs.declared.versions.VersionNumber.TheVariants.{Two}
-use Rattle.layout.proofs.KeptLaws.{now_told, same_kept, stands_by, stands_now}
+use Rattle.layout.specs.Stands.{IsMark, IsNumber, Kept, StandsNow, mark_held, seats_at, served, size_by, version_by}
+use Rattle.layout.specs.declared.versions.VersionNumber.{VersionNumber}
+use Rattle.layout.proofs.FirstLaws.{few_nodes}
+use Rattle.layout.proofs.KeptLaws.{now_told, same_kept, stands_by}
 use Rattle.layout.proofs.MarkOnce.{one_mark}
-use Rattle.model_tree.specs.Seats.Seats.{Seats}
+use Rattle.layout.proofs.SeatLaws.{version_region}
+use Rattle.model_tree.specs.Seats.Seats.{Seats, no_seats}
 use Rattle.model_tree.specs.declared.limits.Limits.{Limits}
 use Rattle.volume.specs.VolumeState.{Holds, LeavesCurrent}
 use Rattle.volume.specs.Known.{IsServing, kept_in_image}
@@ -25,11 +26,14 @@ use Rattle.volume.specs.declared.fault.MountFault.TheVariants as mounts
 use Rattle.volume.specs.declared.mount.Superblock.{Superblock}
 use Rattle.volume.proofs.OneTree.{Seats-set, Tree-set}
 use Rattle.volume.proofs.ServeLaws.{holds_base}
-use Rattle.volume.proofs.StandLaws.{settles_placed, sized}
+use Rattle.volume.proofs.StandLaws.{settles_placed}
 
 module _ (keeps_word : Type 0) (found : Superblock) (old mid new : Log) (mark : Option ℕ) (cached_nodes : List (Option CachedNode)) (seats : Seats) (places : List Bool)
     (loaded : IsLoaded keeps_word found old mark cached_nodes seats places) (started : HasStarted keeps_word found cached_nodes seats mid new)
-    (only : mid ≡ record old { is_down = mid.is_down }) (size : old.size ≡ found.sectors) (new_size : new.size ≡ mid.size) where
+    (only : mid ≡ record old { is_down = mid.is_down }) (size : old.size ≡ found.sectors) (number : IsNumber found.version) (new_size : new.size ≡ mid.size) where
+  abbrev version : VersionNumber
+  version = served found.version
+
   base : mid.base ≡ old.base
   base = ap (λ (log : Log). log.base) only
 
@@ -45,23 +49,23 @@ module _ (keeps_word : Type 0) (found : Superblock) (old mid new : Log) (mark : 
       ∙ (ap (tree_of new.base) serves.read ∙ (sym serves.stands.stands.tree_is ∙ ap (λ (image : Image). tree_of image cached_nodes) base)))
 
   -- the seats that were read are those of the sectors
-  pub same_seats : keeps_word → seats_at (contents new) ≡ seats
-  same_seats k = ∥∥₁_elim (started.serves k) (Seats-set (seats_at (contents new)) seats) (λ serves.
-      ap seats_at emptied ∙ now_told found.sectors found.nodes new.base (found.run + 1) (read_as mid.base cached_nodes seats) serves.stands)
+  pub same_seats : keeps_word → seats_at version (contents new) ≡ seats
+  same_seats k = ∥∥₁_elim (started.serves k) (Seats-set (seats_at version (contents new)) seats) (λ serves.
+      ap (seats_at version) emptied ∙ now_told version found.sectors found.nodes new.base (found.run + 1) (read_as mid.base cached_nodes seats) serves.stands)
 
-  pub kept_read : keeps_word → kept_in_image (contents new) cached_nodes ≡ read_as old.base cached_nodes seats
-  kept_read k = same_kept (kept_in_image (contents new) cached_nodes) (read_as old.base cached_nodes seats) (same_tree k) (same_seats k)
+  pub kept_read : keeps_word → kept_in_image version (contents new) cached_nodes ≡ read_as old.base cached_nodes seats
+  kept_read k = same_kept (kept_in_image version (contents new) cached_nodes) (read_as old.base cached_nodes seats) (same_tree k) (same_seats k)
 
-  stands_base : keeps_word → ∥ StandsNow new.size found.nodes new.base (found.run + 1) (kept_in_image (contents new) cached_nodes) ∥₁
+  stands_base : keeps_word → ∥ StandsNow version new.size found.nodes new.base (found.run + 1) (kept_in_image version (contents new) cached_nodes) ∥₁
   stands_base k = ∥∥₁_map (started.serves k) (λ serves.
-      subst (λ (s : ℕ). StandsNow s found.nodes new.base (found.run + 1) (kept_in_image (contents new) cached_nodes)) now_size
-      (subst (StandsNow found.sectors found.nodes new.base (found.run + 1))
+      subst (λ (s : ℕ). StandsNow version s found.nodes new.base (found.run + 1) (kept_in_image version (contents new) cached_nodes)) now_size
+      (subst (StandsNow version found.sectors found.nodes new.base (found.run + 1))
       (ap (λ (image : Image). read_as image cached_nodes seats) base ∙ sym (kept_read k)) serves.stands))
 
-  stands_there : keeps_word → ∥ StandsNow new.size found.nodes (contents new) (found.run + 1) (kept_in_image (contents new) cached_nodes) ∥₁
-  stands_there k = subst (λ (image : Image). ∥ StandsNow new.size found.nodes image (found.run + 1) (kept_in_image (contents new) cached_nodes) ∥₁) (sym emptied) (stands_base k)
+  stands_there : keeps_word → ∥ StandsNow version new.size found.nodes (contents new) (found.run + 1) (kept_in_image version (contents new) cached_nodes) ∥₁
+  stands_there k = subst (λ (image : Image). ∥ StandsNow version new.size found.nodes image (found.run + 1) (kept_in_image version (contents new) cached_nodes) ∥₁) (sym emptied) (stands_base k)
 
-  pub begun_serving : keeps_word → ∥ IsServing new found.nodes (found.run + 1) cached_nodes ∥₁
+  pub begun_serving : keeps_word → ∥ IsServing version new found.nodes (found.run + 1) cached_nodes ∥₁
   begun_serving k = ∥∥₁_map (started.serves k) (λ serves. record {
     read = serves.read ∙ ap (cached_nodes_in found.nodes) (sym emptied);
     stands = stands_there k;
@@ -70,21 +74,20 @@ module _ (keeps_word : Type 0) (found : Superblock) (old mid new : Log) (mark : 
 
   pub begun_stood : keeps_word → ∥ StandsOn found old.base (read_as old.base cached_nodes seats) ∥₁
   begun_stood k = ∥∥₁_map (loaded.stood k) (λ stands.
-      stands_by found.version mark found.sectors found.nodes old.base found.run (read_as old.base cached_nodes seats) loaded.marked stands.may stands.keeps stands.stands)
+      stands_by found.version mark found.sectors found.nodes old.base found.run (read_as old.base cached_nodes seats) number loaded.marked stands.may stands.keeps stands.stands)
 
   module _ (limits : Limits) (nodes : limits.nodes ≡ found.nodes) where
-    pub begun_holds : keeps_word → Holds (volume_state_by limits (found.run + 1) cached_nodes new)
-    begun_holds k = holds_base limits (found.run + 1) cached_nodes new started.rests.listed
-        (subst (λ (n : ℕ). ∥ StandsAs new.size n (contents new) (found.run + 1) (kept_in_image (contents new) cached_nodes) ∥₁) (sym nodes)
-        (∥∥₁_map (stands_there k) (stands_now new.size found.nodes (contents new) (found.run + 1) (kept_in_image (contents new) cached_nodes))))
+    pub begun_holds : keeps_word → Holds (volume_state_by version limits (found.run + 1) cached_nodes new)
+    begun_holds k = holds_base version limits (found.run + 1) cached_nodes new started.rests.listed
+        (subst (λ (n : ℕ). ∥ StandsNow version new.size n (contents new) (found.run + 1) (kept_in_image version (contents new) cached_nodes) ∥₁) (sym nodes) (stands_there k))
         started.rests.placed (started.settled k)
 
     pub begun_current : keeps_word
-        → LeavesCurrent (volume_state_by limits (found.run + 1) cached_nodes new)
+        → LeavesCurrent (volume_state_by version limits (found.run + 1) cached_nodes new)
     begun_current k image left = ∥∥₁_map (stands_base k) (λ stands. (
       new.base,
-      settles_placed new.area new.size image new.base started.rests.placed (started.settled k image left),
-      subst (λ (n : ℕ). StandsNow new.size n new.base (found.run + 1) (kept_in_image (contents new) cached_nodes)) (sym nodes) stands,
+      settles_placed version new.area new.size image new.base started.rests.placed (started.settled k image left),
+      subst (λ (n : ℕ). StandsNow version new.size n new.base (found.run + 1) (kept_in_image version (contents new) cached_nodes)) (sym nodes) stands,
     ))
 
 pub raised_from : (found : Superblock) (old mid : Log) (new : History) → mid ≡ record old { is_down = mid.is_down }
@@ -94,11 +97,11 @@ raised_from found old mid new only adds =
     (subst (λ (history : History). AddsRaised found mid.base history new) (ap (λ (log : Log). log.history) only) adds)
 
 -- if the base has no mark, none was read, so the run begins with few writes
-pub begun_brief : (found : Superblock) (base : Image) (mark : Option ℕ) (old mid new : History) → IsTrue (is_size found.sectors found.nodes) → IsMark found.version found.nodes mark
-    → base 147 ≡ mark_held mark → mid ≡ old → (found.version ≡ Two → mark ≡ None → moment new ≤ moment mid + 4) → BeginsBriefly found base old new
-begun_brief found base mark old mid new size is marked same few (two, unmarked) =
-    let parts = sized found.sectors found.nodes size in
-    let least = few two (one_mark found.version found.nodes mark None (omega (arith, parts.few)) is tt (sym marked ∙ unmarked)) in
+pub begun_brief : (found : Superblock) (base : Image) (mark : Option ℕ) (old mid new : History) → IsNumber found.version → IsTrue (size_by found.version found.sectors found.nodes)
+    → IsMark found.version found.nodes mark → base 147 ≡ mark_held mark → mid ≡ old → (found.version ≡ served found.version → mark ≡ None → moment new ≤ moment mid + 4) → BeginsBriefly found base old new
+begun_brief found base mark old mid new number size is marked same few (stays, unmarked) =
+    let region = version_region found.version None no_seats found.sectors found.nodes number size in
+    let least = few stays (one_mark found.version found.nodes mark None (few_nodes (version_by found.version None no_seats) found.sectors found.nodes region) is tt (sym marked ∙ unmarked)) in
     omega (arith, least, ap moment same)
 
 -- and no more than a run that begins

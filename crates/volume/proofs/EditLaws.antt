@@ -1,8 +1,10 @@
 -- What a change's edits make of a volume's cached nodes: they can be done there, there is room for each, and the table may become what they leave.
-use Rattle.std.proofs.Common.{◌≡◌, ◌+◌, ◌≤◌, ◌<◌, ◌&&◌, ℕ, zero, suc, List, [], ◌∷◌, Option, Some, length, take, get_or, sym, ap, ◌∙◌, arith, ⊎_elim, subst}
+use Rattle.std.proofs.Common.{◌≡◌, ◌+◌, ◌≤◌, ◌<◌, ◌&&◌, ℕ, zero, suc, List, [], ◌∷◌, Option, Some, length, take, get_or, sym, refl, ap, ◌∙◌, arith, ⊎_elim, subst}
+use Rattle.std.proofs.Math.Logic.{∥∥₁_elim}
+use Rattle.std.proofs.Props.{props}
 use Rattle.std.specs.Prelude.{is_some, nat_le, IsTrue}
 use Rattle.std.specs.List.{IsAmong}
-use Rattle.std.proofs.lemmas.Bool.{and_parts, leb-true}
+use Rattle.std.proofs.lemmas.Bool.{and_parts, le-leb, leb-true}
 use Rattle.node_table.specs.Overlays.{IsMade, CanBecome}
 use Rattle.node_table.specs.Tables.{node_number_at, HaveOwnPlaces}
 use Rattle.disk.specs.Moments.{Image}
@@ -19,16 +21,19 @@ use Rattle.tree_transaction.proofs.KnownLaws.{cached_at}
 use Rattle.layout.specs.CachedNodes.{CachedNode, tree_of}
 use Rattle.layout.specs.Known.{AreCached}
 use Rattle.layout.specs.Laid.{AreNumbered}
+use Rattle.layout.specs.Versions.{IsServed, data_end_by, limits_by, names_by}
+use Rattle.layout.specs.declared.versions.VersionNumber.{VersionNumber}
+use Rattle.layout.specs.declared.versions.VersionNumber.TheVariants as numbers
 use Rattle.layout.proofs.Answering.{tree-has}
 use Rattle.model_tree.specs.declared.limits.Limits.{Limits}
 use Rattle.model_tree.specs.Trees.Charge.{charge, few_names, fits}
 use Rattle.model_tree.specs.Trees.Edit.{done, edited}
 use Rattle.model_tree.specs.Trees.Edit as model
 use Rattle.model_tree.specs.Trees.Keyed.{at, total}
-use Rattle.model_tree.specs.Trees.Limits.{limits_of}
-use Rattle.model_tree.specs.Trees.Tree.{Tree}
+use Rattle.model_tree.specs.Trees.Tree.{Tree, names_of}
 use Rattle.directory.specs.declared.names.TheConstants.Names.{MAX_NAMES}
 use Rattle.volume.specs.Edits.{edited_by, prefix_of, named_by, IsChange}
+use Rattle.volume.specs.Formed.{IsFormed}
 use Rattle.volume.specs.VolumeState.{VolumeState}
 
 -- Trees that are blanked alike are edited alike and fit alike
@@ -67,11 +72,31 @@ fit_parts limits tree fit =
       few = both.1;
     }
 
-few_prefixes : (limits : Limits) → limits.names ≡ MAX_NAMES → (edits : List Edit) (tree : Tree)
+-- so no directory of a well-formed tree has more names than the limit
+pub few_formed : (limits : Limits) (at : ℕ) (cached_nodes : List (Option CachedNode)) → IsFormed limits at (tree_without_data cached_nodes) → IsTrue (few_names limits.names (tree_without_data cached_nodes))
+few_formed limits at cached_nodes formed = ∥∥₁_elim formed.well_formed (Prim.hlevel props) (λ well.
+    let fit = fit_parts limits (without_data (tree_without_data cached_nodes)) well.fitting in
+    subst (λ (tree : Tree). IsTrue (few_names limits.names tree)) (outline_fixed cached_nodes) fit.few)
+
+-- what stays within a lower number of names stays within a higher one
+few_more : (least most : ℕ) → least ≤ most → (tree : Tree) → IsTrue (few_names least tree) → IsTrue (few_names most tree)
+few_more least most low [] few = refl
+few_more least most low (entry ∷ rest) few =
+    let names = length (names_of entry.1.content) in
+    let both = and_parts (nat_le names least) (few_names least rest) few in
+    rw (le-leb names most (omega (arith, low, leb-true names least both.0)), few_more least most low rest both.1) refl
+
+-- no directory has more than 1,024
+names_most : (version : VersionNumber) → IsServed version → names_by version ≤ MAX_NAMES
+names_most numbers.One served = absurd served
+names_most numbers.Two served = omega arith
+names_most (numbers.Three s) served = served.fits.limits.max_names
+
+few_prefixes : (limits : Limits) → limits.names ≤ MAX_NAMES → (edits : List Edit) (tree : Tree)
     → ((count : ℕ) → IsTrue (fits limits (edited (take count (edits_of edits)) tree))) → StayFew tree edits
 few_prefixes limits names [] tree prefixes = tt
 few_prefixes limits names (edit ∷ edits) tree prefixes = (
-  subst (λ (most : ℕ). IsTrue (few_names most (done (edit_of edit) tree))) names (first (edits_of edits) (prefixes 1)),
+  few_more limits.names MAX_NAMES names (done (edit_of edit) tree) (first (edits_of edits) (prefixes 1)),
   few_prefixes limits names edits (done (edit_of edit) tree) (λ count. prefixes (suc count)),
 )
   where
@@ -88,16 +113,17 @@ module _ (held : VolumeState) (edits : List Edit) (change : IsChange held edits)
   pub outline_doable : AreDoable (tree_without_data cached_nodes) edits
   outline_doable = doable_alike held.tree (tree_without_data cached_nodes) edits outline_held change.doable
 
-  module _ (sectors nodes places : ℕ) (limits_are : held.limits ≡ limits_of sectors nodes) (whole : sectors ≡ 148 + nodes + places)
+  module _ (version : VersionNumber) (served : IsServed version) (sectors nodes places : ℕ) (limits_are : held.limits ≡ limits_by version sectors nodes)
+      (whole : data_end_by version sectors ≡ 148 + nodes + places)
       (fit : IsTrue (fits held.limits (edited_by held edits))) where
     -- with few names
     pub outline_few : StayFew (tree_without_data cached_nodes) edits
     outline_few = few_alike held.tree (tree_without_data cached_nodes) edits outline_held
-        (few_prefixes held.limits (ap (λ (limits : Limits). limits.names) limits_are) edits held.tree (λ count. change.prefixes count fit))
+        (few_prefixes held.limits (rw limits_are (names_most version served)) edits held.tree (λ count. change.prefixes count fit))
 
     -- and there is room after each of them
-    prefix_fits : (count : ℕ) → DoesFit (limits_of sectors nodes) (edited (take count (edits_of edits)) (tree_without_data cached_nodes))
-    prefix_fits count = fit_parts (limits_of sectors nodes) (edited (take count (edits_of edits)) (tree_without_data cached_nodes))
+    prefix_fits : (count : ℕ) → DoesFit (limits_by version sectors nodes) (edited (take count (edits_of edits)) (tree_without_data cached_nodes))
+    prefix_fits count = fit_parts (limits_by version sectors nodes) (edited (take count (edits_of edits)) (tree_without_data cached_nodes))
         (subst (λ (limits : Limits). IsTrue (fits limits (edited (take count (edits_of edits)) (tree_without_data cached_nodes)))) limits_are
         (fits_alike held.limits (prefix_of held edits count) (edited (take count (edits_of edits)) (tree_without_data cached_nodes))
         (edited_alike (take count (edits_of edits)) held.tree (tree_without_data cached_nodes) outline_held) ∙ change.prefixes count fit))

@@ -1,5 +1,5 @@
 -- The tree of a table is well formed on any device, with zeros for the bytes of files.
-use Rattle.std.proofs.Common.{◌≡◌, ◌<◌, ◌≤◌, ◌+◌, ℕ, Bool, List, Option, sym, ap, ◌∙◌, subst, arith}
+use Rattle.std.proofs.Common.{◌≡◌, ◌<◌, ◌+◌, ℕ, Bool, List, Option, sym, ◌∙◌, subst}
 use Rattle.std.proofs.Math.Logic.{∥∥₁_map, ∥∥₁_elim}
 use Rattle.std.proofs.Props.{props}
 use Rattle.disk.specs.Moments.{Image}
@@ -9,8 +9,8 @@ use Rattle.tree_edits.proofs.DoingLaws.{outline_fixed}
 use Rattle.journal.specs.Log.{Log}
 use Rattle.layout.specs.CachedNodes.{CachedNode, tree_of}
 use Rattle.layout.specs.Known.{AreCached}
+use Rattle.layout.specs.Versions.{limits_by}
 use Rattle.model_tree.specs.declared.limits.Limits.{Limits}
-use Rattle.model_tree.specs.Trees.Limits.{limits_of}
 use Rattle.model_tree.specs.Trees.Stamp.{stamp}
 use Rattle.model_tree.specs.Trees.Tree.{Tree}
 use Rattle.model_tree.specs.Trees.WellFormed.{IsWellFormed, IsBefore}
@@ -19,18 +19,17 @@ use Rattle.tree_check.specs.Trees.{IsOneTree}
 use Rattle.tree_check.proofs.WholeLaws.{each_known_tree}
 use Rattle.volume.specs.Formed.{IsFormed, ShowsTree}
 use Rattle.model_tree.specs.Seats.Seats.{Seats}
-use Rattle.directory.specs.declared.names.TheConstants.Names.{MAX_NAMES}
 use Rattle.volume.specs.Loads.{IsLoaded}
 use Rattle.volume.specs.declared.mount.Superblock.{Superblock}
 
 -- what was loaded is so, under the limits of the volume
 pub loaded_formed : (keeps_word : Type 0) (found : Superblock) (log : Log) (mark : Option ℕ) (cached_nodes : List (Option CachedNode)) (seats : Seats) (places : List Bool) → IsLoaded keeps_word found log mark cached_nodes seats places
-    → (limits : Limits) → limits ≡ limits_of found.sectors found.nodes → IsFormed limits (stamp (found.run + 1) 0) (tree_without_data cached_nodes)
+    → (limits : Limits) → limits ≡ limits_by found.version found.sectors found.nodes → IsFormed limits (stamp (found.run + 1) 0) (tree_without_data cached_nodes)
 loaded_formed keeps_word found log mark cached_nodes seats places loaded limits is =
-    let each = each_known_tree found.nodes _ cached_nodes loaded.known.are_cached_nodes (limits_of found.sectors found.nodes) (omega arith) (stamp (found.run + 1) 0) in
+    let each = each_known_tree found.nodes _ cached_nodes loaded.known.are_cached_nodes (limits_by found.version found.sectors found.nodes) (stamp (found.run + 1) 0) in
     let same = sym (outline_fixed cached_nodes) in
     subst (λ (l : Limits). IsFormed l (stamp (found.run + 1) 0) (tree_without_data cached_nodes)) (sym is) (record {
-      well_formed = ∥∥₁_map loaded.well_formed (λ are. subst (IsWellFormed (limits_of found.sectors found.nodes)) same (each.0 are).0);
+      well_formed = ∥∥₁_map loaded.well_formed (λ are. subst (IsWellFormed (limits_by found.version found.sectors found.nodes)) same (each.0 are).0);
       before = ∥∥₁_elim loaded.well_formed (Prim.hlevel props) (λ are. subst (IsBefore (stamp (found.run + 1) 0)) same (each.0 are).1);
     })
 
@@ -55,11 +54,7 @@ shows_same keeps_word old new cached_nodes kept = record {
 }
 
 -- cached nodes whose tree is well formed are one tree
-pub formed_tree : (limits : Limits) → MAX_NAMES ≤ limits.names → (at nodes : ℕ) (mark : ℕ → ℕ) (cached_nodes : List (Option CachedNode)) → AreCached nodes mark cached_nodes → IsFormed limits at (tree_without_data cached_nodes) → ∥ IsOneTree cached_nodes ∥₁
-formed_tree limits most at nodes mark cached_nodes known formed = ∥∥₁_map formed.well_formed (λ well. (let are =
-    (each_known_tree nodes mark cached_nodes known limits most at).1
+pub formed_tree : (limits : Limits) (at nodes : ℕ) (mark : ℕ → ℕ) (cached_nodes : List (Option CachedNode)) → AreCached nodes mark cached_nodes → IsFormed limits at (tree_without_data cached_nodes) → ∥ IsOneTree cached_nodes ∥₁
+formed_tree limits at nodes mark cached_nodes known formed = ∥∥₁_map formed.well_formed (λ well. (let are =
+    (each_known_tree nodes mark cached_nodes known limits at).1
     (subst (IsWellFormed limits) (outline_fixed cached_nodes) well, subst (IsBefore at) (outline_fixed cached_nodes) formed.before) in are.tree))
-
--- no volume has a lower limit of names
-pub names_most : (size nodes : ℕ) (limits : Limits) → limits ≡ limits_of size nodes → MAX_NAMES ≤ limits.names
-names_most size nodes limits is = (let names : limits.names ≡ MAX_NAMES = ap (λ (l : Limits). l.names) is in omega (arith, names))

@@ -1,5 +1,5 @@
 -- A change, and a flush after it.
-use Rattle.std.proofs.Common.{◌≡◌, ◌≤◌, ◌⊎◌, ◌↔◌, ◌+◌, ℕ, Bool, true, false, List, inl, inr, ⊎_elim, refl, sym, ap, ◌∙◌, subst, arith, true≢false}
+use Rattle.std.proofs.Common.{◌≡◌, ◌≤◌, ◌⊎◌, ◌↔◌, ◌+◌, ◌*◌, ℕ, Bool, true, false, List, inl, inr, ⊎_elim, refl, sym, ap, ap₂, ◌∙◌, subst, arith, true≢false}
 use Rattle.std.proofs.lemmas.Bool.{cases_lt}
 use Rattle.std.specs.List.{IsAmong}
 use Rattle.std.specs.Prelude.{Result, Ok, Err, IfErr, IsErrOf}
@@ -11,7 +11,7 @@ use Rattle.layout.specs.Stands.{Kept}
 use Rattle.layout.proofs.KeptLaws.{same_kept}
 use Rattle.volume.specs.Changes.{Given, Ending, Done, Nothing, Broken, IsTree, VolumeChanges, ending_of}
 use Rattle.volume.specs.Formed.{ShowsTree}
-use Rattle.volume.specs.VolumeState.{VolumeState, IsSameVolume, StandsForOne, MakesAtMost, MayAdd, AddsKept, kept_of}
+use Rattle.volume.specs.VolumeState.{VolumeState, IsSameVolume, StandsForOne, MakesAtMost, MayAdd, AddsKept, call_cost, flush_cost, kept_of}
 use Rattle.volume.specs.Alike.{ShowsAs}
 use Rattle.volume.specs.Stands.{StandsFor}
 use Rattle.volume.specs.declared.fault.VolumeFault.{VolumeFault}
@@ -27,15 +27,15 @@ counted_later before between after later counted = elim counted [
   ]
 ]
 
--- two parts of a call, of at most 198 writes and syncs each
-pub few_with_flush : (first middle last : ℕ) → middle ≤ first + 198 → last ≤ middle + 198 → last ≤ first + 396
-few_with_flush first middle last few then_few = omega (arith, few, then_few)
+-- two parts of a call, of at most as many writes and syncs each
+pub few_with_flush : (cost first middle last : ℕ) → middle ≤ first + cost → last ≤ middle + cost → last ≤ first + 2 * cost
+few_with_flush cost first middle last few then_few = omega (arith, few, then_few)
 
 module _ (keeps_word : Type 0) (was between now : VolumeState) (after : Kept)
     (first middle last : ℕ)
     (change : VolumeChanges keeps_word (λ kept lasts. (kept ≡ after) × (lasts ≡ false)) was between first middle Done)
     (shown : ShowsTree keeps_word after.tree between.tree)
-    (few : keeps_word → MakesAtMost 198 was between) (then_few : keeps_word → MakesAtMost 198 between now) where
+    (few : keeps_word → MakesAtMost (flush_cost was.version was.sectors) was between) (then_few : keeps_word → MakesAtMost (flush_cost between.version between.sectors) between now) where
   abbrev Flushes : Ending → Type 0
   Flushes ending = VolumeChanges keeps_word (IsTree between between.tree) between now middle last ending
 
@@ -71,11 +71,17 @@ module _ (keeps_word : Type 0) (was between now : VolumeState) (after : Kept)
       (one_before recent there.0 there.1.no_others (kept_between k))
       (flush.moments k (kept_of between) lasts refl there.0 there.1.ready)))
 
-  brief : keeps_word → MakesAtMost 396 was now
-  brief k = few_with_flush (moment was.history) (moment between.history) (moment now.history) (few k) (then_few k)
+  -- it costs the same in between
+  same_cost : flush_cost between.version between.sectors ≡ flush_cost was.version was.sectors
+  same_cost = ap₂ flush_cost change.same.version change.same.sectors
+
+  brief : keeps_word → MakesAtMost (call_cost was) was now
+  brief k = few_with_flush (flush_cost was.version was.sectors) (moment was.history) (moment between.history) (moment now.history) (few k)
+      (subst (λ (cost : ℕ). moment now.history ≤ moment between.history + cost) same_cost (then_few k))
 
   same_volume : (ending : Ending) → Flushes ending → IsSameVolume was now
   same_volume ending flush = record {
+    version = flush.same.version ∙ change.same.version;
     sectors = flush.same.sectors ∙ change.same.sectors;
     limits = flush.same.limits ∙ change.same.limits;
     run = flush.same.run ∙ change.same.run;
@@ -184,7 +190,7 @@ refused_unchanged keeps_word was now after first last faults.Down change = uncha
 -- a call that ends before its change leaves all as it was
 pub left : (keeps_word : Type 0) (given : Given) (held : VolumeState) (failed : ℕ) → VolumeChanges keeps_word given held held failed failed Nothing
 left keeps_word given held failed = record {
-  same = record { sectors = refl; limits = refl; run = refl };
+  same = record { version = refl; sectors = refl; limits = refl; run = refl };
   later = omega arith;
   none = λ other. refl;
   moments = λ keeps after lasts is recent ready. AddsOnly-same _ held.history;

@@ -12,6 +12,7 @@ pub mod FoundLaws
 pub mod PrefixLaws
 pub mod KeepLaws
 pub mod LeftLaws
+pub mod LimitLaws
 pub mod LoadLaws
 pub mod MountLaws
 pub mod MountedLaws

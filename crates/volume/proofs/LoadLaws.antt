@@ -3,45 +3,38 @@ use Rattle.std.proofs.Common.{◌≡◌, ◌↔◌, ◌≤◌, ◌<◌, ◌+◌,
 use Rattle.std.proofs.Math.Logic.{∥∥₁_elim}
 use Rattle.std.proofs.Props.{props}
 use Rattle.std.proofs.lemmas.Bool.{cases_lt}
-use Rattle.std.proofs.lemmas.List.{get_or_past}
 use Rattle.std.specs.Prelude.{IsTrue, IsErrOf, Result, Ok, Err}
 use Rattle.node_table.specs.Tables.{AreNumbered}
 use Rattle.node_table.specs.declared.fault.TableFault.{TableFault}
 use Rattle.node_table.specs.declared.fault.TableFault.TheVariants as tables
 use Rattle.disk.specs.Moments.{Image, IsSector}
+use Rattle.geometry.specs.declared.superblock.Superblock.{Superblock}
 use Rattle.tree_transaction.proofs.KnownLaws.{cached_at}
 use Rattle.tree_edits.proofs.PlaceLaws.{there_at}
 use Rattle.layout.specs.CachedNodes.{CachedNode, tree_of, cached_nodes_in}
-use Rattle.layout.specs.Laid.{AreLaid, HoldsPlace, HoldsCached, HoldsContent}
 use Rattle.layout.specs.Marks.{mark_in, mark_by}
 use Rattle.layout.specs.Stands as layout
 use Rattle.inode.specs.declared.node.Form.TheVariants.{Two}
 use Rattle.layout.specs.Known.{AreCached}
 use Rattle.layout.specs.Rewriting.{all_second, in_second, second_image, IsLaidSecond}
-use Rattle.layout.specs.Stands.{Kept, MayHaveSeats, Version, marked_by, IsVersion, By, IsLaid, IsMark, current_version, version_by, with_region}
-use Rattle.layout.specs.declared.versions.Marking.TheVariants.{InSectors}
-use Rattle.layout.specs.declared.versions.VersionNumber.TheVariants as numbers
-use Rattle.model_tree.specs.Seats.Seats.{Seats}
-use Rattle.volume_load.proofs.VolumeLaws.{laid_as, version_marking, version_end}
-use Rattle.layout.specs.Superblock.{is_size, no_rest}
+use Rattle.layout.specs.Stands.{Kept, MayHaveSeats, Version, marked_by, IsLaid, IsMark, IsNumber, current_version, limits_by, size_by, version_by}
+use Rattle.layout.specs.Versions.{file_bytes_by}
+use Rattle.layout.specs.declared.versions.Marking.TheVariants.{InSectors, AsNamed}
 use Rattle.layout.specs.declared.versions.VersionNumber.{VersionNumber}
-use Rattle.layout.proofs.FirstLaws.{sized_parts}
-use Rattle.layout.proofs.SeatLaws.{version_region, version_sized}
-use Rattle.layout.proofs.KeptLaws.{version_parts}
-use Rattle.layout.proofs.MarkOnce.{first_number, one_number}
-use Rattle.layout.proofs.Rewriting.{known_as_second, laid_as_second, second_at, then_second}
+use Rattle.layout.specs.declared.versions.VersionNumber.TheVariants as numbers
+use Rattle.layout.proofs.MarkOnce.{number_told}
+use Rattle.layout.proofs.OneKept.{in_its, its}
+use Rattle.layout.proofs.Rewriting.{current_second, known_as_second, laid_as_second, second_at, then_second}
+use Rattle.layout.proofs.SeatLaws.{version_region}
 use Rattle.model_tree.specs.declared.limits.Limits.{Limits}
-use Rattle.model_tree.specs.declared.node.NodeKind.{NodeKind}
-use Rattle.model_tree.specs.declared.node.NodeKind.TheVariants as kind
-use Rattle.model_tree.specs.Trees.Charge.{blocks_of}
-use Rattle.model_tree.specs.Trees.Limits.{limits_of}
 use Rattle.model_tree.specs.Seats.Seats.{Seats, no_seats}
 use Rattle.model_tree.specs.Trees.Stamp.{stamp}
+use Rattle.model_tree.specs.Trees.Tree.{Tree}
 use Rattle.model_tree.specs.Trees.WellFormed.{IsWellFormed, IsBefore}
 use Rattle.volume_load.specs.Volumes.{AreFew}
 use Rattle.volume_load.specs.declared.fault.ScanFault.{ScanFault}
 use Rattle.volume_load.specs.declared.fault.ScanFault.TheVariants as scans
-use Rattle.tree_check.specs.Nodes.{IsContentAllowed, IsNodeAllowed, AreNodesAllowed}
+use Rattle.volume_load.proofs.FewLaws.{stands_few}
 use Rattle.tree_check.specs.ShapeLaws.{HoldBytes}
 use Rattle.tree_check.specs.WellFormed.{AreWellFormed}
 use Rattle.tree_check.proofs.WholeLaws.{each_tree}
@@ -50,27 +43,6 @@ use Rattle.volume.specs.declared.fault.MountFault.TheVariants as mounts
 use Rattle.volume.specs.Known.{AreKnownNodes}
 use Rattle.volume.specs.Stands.{VolumeStands}
 use Rattle.volume.specs.Superblock.{superblock}
-
--- the limits of versions one and two are one
-pub version_limits : (number : VersionNumber) (mark : Option ℕ) (seats : Seats) → (version_by number mark seats).limits ≡ limits_of
-version_limits numbers.One mark seats = refl
-version_limits numbers.Two mark seats = refl
-
-pub any_sized : (size nodes : ℕ) (version : Version) (seats : Seats) → IsVersion nodes version seats → IsTrue (version.is_size size nodes) → IsTrue (is_size size nodes)
-any_sized size nodes _ _ (By number mark seats is may) sized = subst IsTrue (version_sized number mark seats size nodes) sized
-
-pub any_limits : (nodes : ℕ) (version : Version) (seats : Seats) → IsVersion nodes version seats → version.limits ≡ limits_of
-any_limits nodes _ _ (By number mark seats is may) = version_limits number mark seats
-
--- what is laid in versions one and two is so with their own marks, up to the end of the volume
-pub laid_own : (number : VersionNumber) (mark : Option ℕ) (seats : Seats) (size sectors nodes : ℕ) (image : Image) (cached_nodes : List (Option CachedNode)) → size ≡ sectors
-    → IsLaid (with_region InSectors sectors (version_by number mark seats)) size nodes image cached_nodes ↔ IsLaid (version_by number mark seats) sectors nodes image cached_nodes
-laid_own number mark seats size sectors nodes image cached_nodes same =
-    let own = version_by number mark seats in
-    let both = laid_as own InSectors sectors size nodes image cached_nodes (version_marking number mark seats) (version_end number mark seats size ∙ same) in (
-      λ laid. subst (λ (s : ℕ). IsLaid own s nodes image cached_nodes) same (both.0 laid),
-      λ laid. both.1 (subst (λ (s : ℕ). IsLaid own s nodes image cached_nodes) (sym same) laid),
-    )
 
 abbrev HoldsSectors : (size : ℕ) → Image → Type 0
 HoldsSectors size image = (n : ℕ) → n < size → IsSector (image n)
@@ -83,67 +55,118 @@ marked_bytes version size nodes image cached_nodes laid ends bytes n marked = el
   | inr past ↦ absurd (omega (arith, marked, laid.within n (omega (arith, ends, past))))
 ]
 
--- The cached nodes on the sectors, and as they are once each node has form two
-module _ (number : VersionNumber) (mark : Option ℕ) (seats : Seats) (size nodes run : ℕ) (image : Image) (cached_nodes : List (Option CachedNode))
-    (laid : IsLaid (version_by number mark seats) size nodes image cached_nodes) (read : cached_nodes ≡ cached_nodes_in nodes image) (sectors : HoldsSectors size image)
-    (sized : IsTrue (is_size size nodes)) where
-  below : 148 + nodes ≤ size
-  below = let parts = sized_parts size nodes sized in omega (arith, parts.room)
+-- The cached nodes as they are once each has form two show the same tree, and decide whether it is
+-- well formed
+record Decides (limits : Limits) (at : ℕ) (image : Image) (cached_nodes : List (Option CachedNode)) : Type 0 where
+  shown : tree_of image (all_second cached_nodes) ≡ tree_of image cached_nodes
+  each : AreWellFormed limits at (all_second cached_nodes)
+      ↔ (IsWellFormed limits (tree_of image (all_second cached_nodes)) × IsBefore at (tree_of image (all_second cached_nodes)))
 
+-- in versions 1 and 2 an image with its nodes in form two has them
+module _ (version : Version) (size nodes : ℕ) (image : Image) (cached_nodes : List (Option CachedNode)) (marking : version.marking ≡ InSectors) (ends : version.data_end size ≡ size)
+    (laid : IsLaid version size nodes image cached_nodes) (below : 148 + nodes ≤ size) (sectors : HoldsSectors size image) where
+  as_second : IsLaidSecond size nodes image cached_nodes
+  as_second = laid_as_second version size nodes image cached_nodes marking ends laid below
+
+  second_bytes : HoldBytes (second_image nodes image) (mark_in nodes (second_image nodes image))
+  second_bytes = marked_bytes (current_version no_seats) size nodes (second_image nodes image) (all_second cached_nodes) as_second.laid (omega arith)
+      (λ n behind within. subst IsSector (sym ((then_second version size nodes image cached_nodes laid below marking ends).region n behind (omega (arith, within, ends)))) (sectors n within))
+
+  same_tree : tree_of (second_image nodes image) (all_second cached_nodes) ≡ tree_of image (all_second cached_nodes)
+  same_tree = as_second.tree ∙ sym as_second.shown
+
+  early_decides : (limits : Limits) (at : ℕ) → Decides limits at image cached_nodes
+  early_decides limits at = record {
+    shown = as_second.shown;
+    each = subst (λ (tree : Tree). AreWellFormed limits at (all_second cached_nodes) ↔ (IsWellFormed limits tree × IsBefore at tree)) same_tree
+        (each_tree nodes (second_image nodes image) (mark_in nodes (second_image nodes image)) (all_second cached_nodes) as_second.laid.laid second_bytes limits at);
+  }
+
+-- and in version 3 each has form two on the device
+large_decides : (s : Superblock) (mark : Option ℕ) (seats : Seats) (size nodes : ℕ) (image : Image) (cached_nodes : List (Option CachedNode)) → IsLaid (version_by (numbers.Three s) mark seats) size nodes image cached_nodes
+    → HoldBytes image (marked_by AsNamed nodes image cached_nodes) → (limits : Limits) (at : ℕ) → Decides limits at image cached_nodes
+large_decides s mark seats size nodes image cached_nodes laid bytes limits at =
+    let same : all_second cached_nodes ≡ cached_nodes = current_second cached_nodes laid.forms in
+    record {
+      shown = ap (tree_of image) same;
+      each = subst (λ (l : List (Option CachedNode)). AreWellFormed limits at l ↔ (IsWellFormed limits (tree_of image l) × IsBefore at (tree_of image l))) (sym same)
+          (each_tree nodes image (marked_by AsNamed nodes image cached_nodes) cached_nodes laid.laid bytes limits at);
+    }
+
+decides : (number : VersionNumber) (mark : Option ℕ) (seats : Seats) (size nodes : ℕ) (image : Image) (cached_nodes : List (Option CachedNode)) → IsNumber number → IsTrue (size_by number size nodes)
+    → IsLaid (version_by number mark seats) size nodes image cached_nodes → HoldsSectors size image → (limits : Limits) (at : ℕ) → Decides limits at image cached_nodes
+decides numbers.One mark seats size nodes image cached_nodes is sized laid sectors =
+    early_decides (version_by numbers.One mark seats) size nodes image cached_nodes refl refl laid (version_region numbers.One mark seats size nodes is sized).behind sectors
+decides numbers.Two mark seats size nodes image cached_nodes is sized laid sectors =
+    early_decides (version_by numbers.Two mark seats) size nodes image cached_nodes refl refl laid (version_region numbers.Two mark seats size nodes is sized).behind sectors
+decides (numbers.Three s) mark seats size nodes image cached_nodes is sized laid sectors =
+    let region = version_region (numbers.Three s) mark seats size nodes is sized in
+    large_decides s mark seats size nodes image cached_nodes laid
+    (marked_bytes (version_by (numbers.Three s) mark seats) size nodes image cached_nodes laid (omega (arith, region.inside, region.within)) (λ n behind within. sectors n within))
+
+-- The cached nodes on the sectors
+module _ (number : VersionNumber) (mark : Option ℕ) (seats : Seats) (size nodes run : ℕ) (image : Image) (cached_nodes : List (Option CachedNode)) (is : IsNumber number) (sized : IsTrue (size_by number size nodes))
+    (laid : IsLaid (version_by number mark seats) size nodes image cached_nodes) (read : cached_nodes ≡ cached_nodes_in nodes image) (sectors : HoldsSectors size image) where
   abbrev second : List (Option CachedNode)
   second = all_second cached_nodes
 
-  as_second : IsLaidSecond size nodes image cached_nodes
-  as_second = laid_as_second (version_by number mark seats) size nodes image cached_nodes (version_marking number mark seats) (version_end number mark seats size) laid below
-
-  second_bytes : HoldBytes (second_image nodes image) (mark_in nodes (second_image nodes image))
-  second_bytes = marked_bytes (current_version no_seats) size nodes (second_image nodes image) second as_second.laid (omega arith)
-      (λ n behind within. subst IsSector (sym ((then_second (version_by number mark seats) size nodes image cached_nodes laid below (version_marking number mark seats) (version_end number mark seats size)).region n behind (omega (arith, within, version_end number mark seats size)))) (sectors n within))
-
-  same_tree : tree_of (second_image nodes image) second ≡ tree_of image second
-  same_tree = as_second.tree ∙ sym as_second.shown
-
-  each : AreWellFormed (limits_of size nodes) (stamp (run + 1) 0) second
-      ↔ (IsWellFormed (limits_of size nodes) (tree_of (second_image nodes image) second) × IsBefore (stamp (run + 1) 0) (tree_of (second_image nodes image) second))
-  each = each_tree nodes (second_image nodes image) (mark_in nodes (second_image nodes image)) second as_second.laid.laid second_bytes (limits_of size nodes) (omega arith) (stamp (run + 1) 0)
+  found : Decides (limits_by number size nodes) (stamp (run + 1) 0) image cached_nodes
+  found = decides number mark seats size nodes image cached_nodes is sized laid sectors (limits_by number size nodes) (stamp (run + 1) 0)
 
   -- if they are well formed, the volume holds their tree
-  pub found_stands : run < 2 ^ 32 → image 0 ≡ superblock number size nodes run → AreWellFormed (limits_of size nodes) (stamp (run + 1) 0) second
+  pub found_stands : run < 2 ^ 32 → image 0 ≡ superblock number size nodes run → AreWellFormed (limits_by number size nodes) (stamp (run + 1) 0) second
       → layout.TreeStands (version_by number mark seats) size nodes image run (tree_of image second)
   found_stands counted first well_formed =
-      let both = each.0 well_formed in
+      let both = found.each.0 well_formed in
       record {
-        sized = subst IsTrue (sym (version_sized number mark seats size nodes)) sized;
-        region = version_region number mark seats size nodes sized;
+        sized = sized;
+        region = version_region number mark seats size nodes is sized;
         counted = counted;
-        first = first ∙ sym (first_number number mark seats size nodes run);
+        first = first;
         laid = subst (IsLaid (version_by number mark seats) size nodes image) read laid;
-        tree_is = as_second.shown ∙ ap (tree_of image) read;
-        well_formed = ∣ subst (λ (f : ℕ → ℕ → Limits). IsWellFormed (f size nodes) (tree_of image second)) (sym (version_limits number mark seats)) (subst (IsWellFormed (limits_of size nodes)) same_tree both.0) ∣₁;
-        before = subst (IsBefore (stamp (run + 1) 0)) same_tree both.1;
+        tree_is = found.shown ∙ ap (tree_of image) read;
+        well_formed = ∣ both.0 ∣₁;
+        before = both.1;
       }
 
   -- and if they are not, it holds none
-  pub none_stands : (kept : Kept) → (AreWellFormed (limits_of size nodes) (stamp (run + 1) 0) second → ⊥) → VolumeStands size nodes image run kept → ⊥
-  none_stands kept never stands = ∥∥₁_elim stands.stands.well_formed (Prim.hlevel props) (λ well_formed.
-      let same : kept.tree ≡ tree_of (second_image nodes image) second = stands.stands.tree_is ∙ (ap (tree_of image) (sym read) ∙ sym as_second.tree) in
-      let well = subst (λ (f : ℕ → ℕ → Limits). IsWellFormed (f size nodes) kept.tree) (any_limits nodes stands.version kept.seats stands.is_version) well_formed in
-      never (each.1 (subst (IsWellFormed (limits_of size nodes)) same well, subst (IsBefore (stamp (run + 1) 0)) same stands.stands.before)))
+  pub none_stands : (other : Option ℕ) (others : Seats) (tree : Tree) → (AreWellFormed (limits_by number size nodes) (stamp (run + 1) 0) second → ⊥) → layout.TreeStands (version_by number other others) size nodes image run tree → ⊥
+  none_stands other others tree never stands = ∥∥₁_elim stands.well_formed (Prim.hlevel props) (λ well_formed.
+      let same : tree ≡ tree_of image second = stands.tree_is ∙ (ap (tree_of image) (sym read) ∙ sym found.shown) in
+      never (found.each.1 (subst (IsWellFormed (limits_by number size nodes)) same well_formed, subst (IsBefore (stamp (run + 1) 0)) same stands.before)))
 
--- what a volume holds is laid out in the version that the first sector gives
-pub laid_told : (number : VersionNumber) (size nodes run : ℕ) (image : Image) (kept : Kept) → image 0 ≡ superblock number size nodes run → VolumeStands size nodes image run kept
-    → (mark : Option ℕ) × IsMark number nodes mark × MayHaveSeats number mark kept.seats × IsLaid (version_by number mark kept.seats) size nodes image (cached_nodes_in nodes image)
-laid_told number size nodes run image kept first stands =
-    let parts = version_parts nodes stands.version kept.seats stands.is_version in
-    let seats = kept.seats in
-    let there : layout.TreeStands (version_by parts.0 parts.1 seats) size nodes image run kept.tree =
-    subst (λ (version : Version). layout.TreeStands version size nodes image run kept.tree) parts.4 stands.stands in
-    let same : parts.0 ≡ number = one_number parts.0 number size nodes run size nodes run no_rest no_rest (sym (first_number parts.0 parts.1 seats size nodes run) ∙ (sym there.first ∙ first)) in (
-      parts.1,
-      subst (λ (n : VersionNumber). IsMark n nodes parts.1) same parts.2,
-      subst (λ (n : VersionNumber). MayHaveSeats n parts.1 seats) same parts.3,
-      subst (λ (n : VersionNumber). IsLaid (version_by n parts.1 seats) size nodes image (cached_nodes_in nodes image)) same there.laid,
-    )
+-- What a volume holds, it holds in the version that the first sector gives
+
+pub record HeldAs (number : VersionNumber) (size nodes run : ℕ) (image : Image) (kept : Kept) : Type 0 where
+  pub mark : Option ℕ
+  pub marked : IsMark number nodes mark
+  pub may : MayHaveSeats number mark kept.seats
+  pub stands : layout.TreeStands (version_by number mark kept.seats) size nodes image run kept.tree
+
+pub held_as : (number : VersionNumber) (size nodes run : ℕ) (image : Image) (kept : Kept) → IsNumber number → IsTrue (size_by number size nodes) → image 0 ≡ superblock number size nodes run
+    → VolumeStands size nodes image run kept → HeldAs number size nodes run image kept
+held_as number size nodes run image kept is sized first stands =
+    let parts = its size nodes image run kept stands in
+    let same : parts.number ≡ number = number_told number size nodes image run kept size nodes run is sized first stands in
+    record {
+      mark = parts.mark;
+      marked = subst (λ (n : VersionNumber). IsMark n nodes parts.mark) same parts.is_mark;
+      may = subst (λ (n : VersionNumber). MayHaveSeats n parts.mark kept.seats) same parts.may;
+      stands = subst (λ (n : VersionNumber). layout.TreeStands (version_by n parts.mark kept.seats) size nodes image run kept.tree) same (in_its size nodes image run kept stands);
+    }
+
+-- then each node has few blocks
+
+short : (number : VersionNumber) → IsNumber number → file_bytes_by number ≤ 16777216
+short numbers.One is = omega arith
+short numbers.Two is = omega arith
+short (numbers.Three s) is = omega (arith, is.fits.limits.max_file_bytes)
+
+pub held_few : (number : VersionNumber) (mark : Option ℕ) (seats : Seats) (size nodes run : ℕ) (image : Image) (tree : Tree) → IsNumber number
+    → layout.TreeStands (version_by number mark seats) size nodes image run tree → AreFew (cached_nodes_in nodes image)
+held_few number mark seats size nodes run image tree is stands = stands_few (version_by number mark seats) size nodes image run tree (short number is) stands
+
+-- What is known on any device
 
 some_form : (cached_nodes : List (Option CachedNode)) (place : ℕ) (cached_node : CachedNode) → get_or (all_second cached_nodes) place None ≡ Some cached_node → cached_node.form ≡ Two
 some_form cached_nodes place cached_node there = form_at (get_or cached_nodes place None) cached_node (sym (second_at cached_nodes place) ∙ there)
@@ -153,10 +176,10 @@ some_form cached_nodes place cached_node there = form_at (get_or cached_nodes pl
     form_at None cached_node e = absurd (cc)
     form_at (Some one) cached_node e = cc
 
--- the cached nodes are known on any device, once each has form two
-pub known_second : (sectors nodes : ℕ) (cached_nodes : List (Option CachedNode)) (places : List Bool) → AreCached nodes (mark_by (148 + nodes) places) cached_nodes
-    → sectors ≡ 148 + nodes + length places → AreKnownNodes sectors nodes (all_second cached_nodes) places
-known_second sectors nodes cached_nodes places known whole = record {
+-- the cached nodes, once each has form two
+pub known_second : (data_end nodes : ℕ) (cached_nodes : List (Option CachedNode)) (places : List Bool) → AreCached nodes (mark_by (148 + nodes) places) cached_nodes
+    → data_end ≡ 148 + nodes + length places → AreKnownNodes data_end nodes (all_second cached_nodes) places
+known_second data_end nodes cached_nodes places known whole = record {
   are_cached_nodes = known_as_second nodes (mark_by (148 + nodes) places) cached_nodes known;
   forms = λ place cached_node there. some_form cached_nodes place cached_node there;
   whole = whole;
@@ -174,42 +197,6 @@ pub asked : (limits told : Limits) (at by : ℕ) (table cached_nodes : List (Opt
     → AreWellFormed limits at table → AreWellFormed told by cached_nodes
 asked limits told at by table cached_nodes a b c are =
     subst (λ (l : Limits). AreWellFormed l by cached_nodes) a (subst (λ (n : ℕ). AreWellFormed limits n cached_nodes) b (subst (AreWellFormed limits at) c are))
-
--- a node that the limits allow has few blocks
-
-few_blocks : (size nodes : ℕ) (image : Image) (kind : NodeKind) (cached_node : CachedNode) → HoldsContent image kind cached_node → IsContentAllowed (limits_of size nodes) kind cached_node
-    → blocks_of kind cached_node.fields.size ≤ 4096
-few_blocks size nodes image kind.File cached_node holds allowed = omega (arith, allowed)
-few_blocks size nodes image kind.Directory cached_node holds allowed = omega (arith, holds.count, holds.names.few)
-
-few_at : (size nodes place : ℕ) (image : Image) (there : Option CachedNode) (cached_node : CachedNode) → there ≡ Some cached_node → HoldsPlace image place there
-    → IsNodeAllowed (limits_of size nodes) cached_node → length cached_node.blocks ≤ 4096
-few_at size nodes place image None cached_node is holds allowed = absurd (cc)
-few_at size nodes place image (Some other) cached_node is holds allowed =
-    let same : other ≡ cached_node = cc in
-    let held : HoldsCached image place cached_node = subst (HoldsCached image place) same holds in
-    omega (arith, held.node.blocks, few_blocks size nodes image cached_node.fields.kind cached_node held.content allowed.content)
-
-allowed_few : (size nodes : ℕ) (image : Image) (mark : ℕ → ℕ) (cached_nodes : List (Option CachedNode)) → AreLaid nodes image mark cached_nodes
-    → AreNodesAllowed (limits_of size nodes) cached_nodes → AreFew cached_nodes
-allowed_few size nodes image mark cached_nodes laid allowed place cached_node there = elim (cases_lt place nodes) [
-  | inl within ↦ few_at size nodes place image (get_or cached_nodes place None) cached_node there (laid.held place within) (allowed.each place cached_node there)
-  | inr past ↦ absurd (none_some cached_node (sym (get_or_past cached_nodes place None (omega (arith, laid.count, past))) ∙ there))
-]
-  where
-    none_some : (x : CachedNode) → (let none : Option CachedNode = None in none ≡ Some x) → ⊥
-    none_some x e = cc
-
--- so in a volume that holds a tree, each node has few blocks
-pub stands_few : (size nodes run : ℕ) (image : Image) (kept : Kept) → HoldsSectors size image → VolumeStands size nodes image run kept
-    → (AreFew (cached_nodes_in nodes image) → ⊥) → ⊥
-stands_few size nodes run image kept sectors stands never = ∥∥₁_elim stands.stands.well_formed (Prim.hlevel props) (λ well_formed.
-    let cached_nodes = cached_nodes_in nodes image in
-    let bytes = marked_bytes stands.version size nodes image cached_nodes stands.stands.laid (omega (arith, stands.stands.region.inside, stands.stands.region.within)) (λ n behind within. sectors n within) in
-    let well = subst (λ (f : ℕ → ℕ → Limits). IsWellFormed (f size nodes) kept.tree) (any_limits nodes stands.version kept.seats stands.is_version) well_formed in
-    let are = (each_tree nodes image (marked_by stands.version.marking nodes image cached_nodes) cached_nodes stands.stands.laid.laid bytes (limits_of size nodes) (omega arith) (stamp (run + 1) 0)).1
-    (subst (IsWellFormed (limits_of size nodes)) stands.stands.tree_is well, subst (IsBefore (stamp (run + 1) 0)) stands.stands.tree_is stands.stands.before) in
-    never (allowed_few size nodes image (marked_by stands.version.marking nodes image cached_nodes) cached_nodes stands.stands.laid.laid are.nodes))
 
 -- which fault of the layer below a fault that is passed on comes from
 pub only_damaged : (fault : ScanFault) → mount_fault fault ≡ mounts.Damaged → fault ≡ scans.Damaged

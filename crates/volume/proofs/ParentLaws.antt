@@ -25,7 +25,6 @@ use Rattle.model_tree.specs.Trees.Keyed.{Keyed, at, with, without, total, here_o
 use Rattle.model_tree.specs.Trees.Tree.{Tree, Node, DirEntry, File, bytes_of, names_of, names_of_node, names_at}
 use Rattle.model_tree.specs.Trees.WellFormed.{links_in, links_from, one_if}
 use Rattle.model_tree.proofs.Trees.KeyedLaws.{at-with_same, at-with_other, at-without_same, at-without_other}
-use Rattle.directory.specs.declared.names.TheConstants.Names.{MAX_NAMES}
 use Rattle.volume.specs.ParentIndex.{HasChild, AreParents}
 use Rattle.volume.proofs.ParentMoves.{KeepsNames, MovesName, each_kept, each_move}
 use Rattle.volume.proofs.ParentLinks.{own-places, no_other}
@@ -268,10 +267,10 @@ module _ (held : VolumeState) (edits : List Edit) (change : IsChange held edits)
       names = λ of other off has. name_was of other (others_none (named_by edits) number other change.named put_is.among off) has;
     }
 
-  module _ (limits : Limits) (most : MAX_NAMES ≤ limits.names) (stamp : ℕ) (formed : IsFormed limits stamp (tree_without_data new)) (parents : List ℕ) (are : AreParents old parents) where
+  module _ (limits : Limits) (stamp : ℕ) (formed : IsFormed limits stamp (tree_without_data new)) (parents : List ℕ) (are : AreParents old parents) where
     -- the cached nodes after it are one tree
     one_tree : ∥ IsOneTree new ∥₁
-    one_tree = formed_tree limits most stamp nodes marked new new_known formed
+    one_tree = formed_tree limits stamp nodes marked new new_known formed
 
     parents_kept : put_by edits ≡ None → AreParents new parents
     parents_kept none = each_kept old new parents are (keeps_names none)

@@ -9,14 +9,14 @@ use Rattle.std.specs.Prelude.{get_or}
 use Rattle.disk.specs.declared.update.Update.{Update}
 use Rattle.disk.specs.Moments.{Image, History, AddsOnly, applied}
 use Rattle.disk.proofs.MomentLemmas.{AddsOnly-weaken}
-use Rattle.journal.specs.Layout.{log_at_start}
 use Rattle.journal.specs.Log.{Log, StandsForPrefix, applied_all}
 use Rattle.journal.specs.Settled.{Settles}
 use Rattle.journal.proofs.Prefixes.{applied_all-push}
-use Rattle.layout.specs.Stands.{Kept}
+use Rattle.layout.specs.Stands.{Kept, StandsNow, log_by}
+use Rattle.volume.specs.Prefixes.{StandsUpdated}
 use Rattle.volume.specs.VolumeState.{VolumeState, StandsForOne, IsRecent, MayAdd, AddsKept, prefixes_from}
-use Rattle.volume.specs.Stands.{VolumeStands}
-use Rattle.volume.proofs.StandLaws.{settles_placed}
+use Rattle.volume.specs.Stands.{IsBase}
+use Rattle.volume.proofs.StandLaws.{now_base, placed_on, settles_placed}
 
 pub among_rest : {A : Type 0} (first : A) (rest : List A) (one : A) → IsAmong rest one → IsAmong (first ∷ rest) one
 among_rest first rest one among = (suc among.0, (omega (arith, among.1.0), among.1.1))
@@ -56,9 +56,12 @@ prefix_more base (first ∷ list) updates prefix among = ⊎_elim
 
 module _ (held : VolumeState) (log : Log) (size : held.sectors ≡ log.size) (history : held.history ≡ log.history) (prefixes : held.prefixes ≡ prefixes_from log.base log.list)
     (updates : List Update) where
-  module _ (after : Kept) (behind : ∥ VolumeStands held.sectors held.limits.nodes (applied updates (applied_all log.list log.base)) held.run after ∥₁) (placed : log.area ≡ log_at_start log.size) where
-    here : (image base : Image) → Settles log.area image base → Settles (log_at_start held.sectors) image base
-    here image base settles = settles_placed log.area held.sectors image base (placed ∙ ap log_at_start (sym size)) settles
+  module _ (after : Kept) (behind : StandsUpdated held log updates after) (placed : log.area ≡ log_by held.version log.size) where
+    -- what the journal settles to is the base
+    settled_base : (image settled : Image) (kept : Kept) → Settles log.area image settled → StandsNow held.version held.sectors held.limits.nodes settled held.run kept
+        → IsBase held.sectors held.limits.nodes held.run kept image
+    settled_base image settled kept settles now = now_base held.version held.sectors held.limits.nodes held.run image settled kept
+        (settles_placed held.version log.area held.sectors image settled (placed_on held.version log.area log.area held.sectors log.size refl size placed) settles) now
 
     one_prefix : (recent : List Kept) → IsRecent held recent → (image : Image) → StandsForPrefix log.area log.base (log.list ++ updates ∷ []) image → StandsForOne held (MayAdd recent after) image
     one_prefix recent is image prefix = elim (cases_lt (length log.list) prefix.count) [
@@ -70,11 +73,7 @@ module _ (held : VolumeState) (log : Log) (size : held.sectors ≡ log.size) (hi
           = ap (λ (l : List (List Update)). applied_all l log.base) whole ∙ applied_all-push log.list updates log.base in (
             after,
             inr refl,
-            ∥∥₁_map behind (λ stands. record {
-              base = applied updates (applied_all log.list log.base);
-              settles = subst (λ (i : Image). Settles (log_at_start held.sectors) image i) base (here image (applied_all (take prefix.count (log.list ++ updates ∷ [])) log.base) prefix.settles);
-              stands = stands;
-            }),
+            ∥∥₁_map behind (settled_base image (applied updates (applied_all log.list log.base)) after (subst (λ (i : Image). Settles log.area image i) base prefix.settles)),
           )
       | inr earlier ↦
           let same : take prefix.count (log.list ++ updates ∷ []) ≡ take prefix.count log.list = take-append-le prefix.count log.list (updates ∷ []) earlier in
@@ -82,12 +81,8 @@ module _ (held : VolumeState) (log : Log) (size : held.sectors ≡ log.size) (hi
           (subst (λ (l : List Image). IsAmong l (applied_all (take prefix.count log.list) log.base)) (sym prefixes) (prefix_among log.base log.list prefix.count earlier)) in (
             covered.0,
             inl covered.1,
-            ∥∥₁_map covered.2 (λ stands. record {
-              base = applied_all (take prefix.count log.list) log.base;
-              settles = subst (λ (i : Image). Settles (log_at_start held.sectors) image i) (ap (λ (l : List (List Update)). applied_all l log.base) same)
-                  (here image (applied_all (take prefix.count (log.list ++ updates ∷ [])) log.base) prefix.settles);
-              stands = stands;
-            }),
+            ∥∥₁_map covered.2 (settled_base image (applied_all (take prefix.count log.list) log.base) covered.0
+                (subst (λ (i : Image). Settles log.area image i) (ap (λ (l : List (List Update)). applied_all l log.base) same) prefix.settles)),
           )
     ]
 
@@ -98,7 +93,7 @@ module _ (held : VolumeState) (log : Log) (size : held.sectors ≡ log.size) (hi
         (AddsOnly-weaken (StandsForPrefix log.area log.base (log.list ++ updates ∷ [])) (StandsForOne held (MayAdd recent after)) log.history new (one_prefix recent is) adds)
 
   -- a change that is not flushed: what a crash may leave from now on, and the device is as it was
-  pub applied_recent : (after : Kept) → ∥ VolumeStands held.sectors held.limits.nodes (applied updates (applied_all log.list log.base)) held.run after ∥₁
+  pub applied_recent : (after : Kept) → StandsUpdated held log updates after
       → (recent : List Kept) → IsRecent held recent
       → IsRecent (record held { tree = after.tree; seats = after.seats; prefixes = prefixes_from log.base (log.list ++ updates ∷ []) }) (after ∷ recent)
   applied_recent after behind recent is = record {
@@ -108,7 +103,7 @@ module _ (held : VolumeState) (log : Log) (size : held.sectors ≡ log.size) (hi
           let one = is.covers prefix (subst (λ (l : List Image). IsAmong l prefix) (sym prefixes) old) in
           (one.0, among_rest after recent one.0 one.1, one.2)
       | inr new ↦
-          (after, (0, (omega arith, refl)), subst (λ (i : Image). ∥ VolumeStands held.sectors held.limits.nodes i held.run after ∥₁) (sym new) behind)
+          (after, (0, (omega arith, refl)), subst (λ (i : Image). ∥ StandsNow held.version held.sectors held.limits.nodes i held.run after ∥₁) (sym new) behind)
     ];
     newest = (0, (omega arith, refl));
   }

@@ -1,5 +1,5 @@
 -- The file that is read.
-use Rattle.std.proofs.Common.{◌≡◌, ◌+◌, ℕ, Bool, List, Option, Some, None, get_or, inl, inr, refl, sym, ap, ◌∙◌, arith}
+use Rattle.std.proofs.Common.{◌≡◌, ◌≤◌, ◌+◌, ℕ, Bool, List, Option, Some, None, get_or, inl, inr, refl, sym, ap, ◌∙◌, arith}
 use Rattle.std.proofs.lemmas.Bool.{cases_lt}
 use Rattle.std.specs.Prelude.{IsSome, IfSome, IfNone}
 use Rattle.disk.specs.Moments.{Image}
@@ -21,14 +21,15 @@ use Rattle.volume.specs.Reading.{HasFile}
 use Rattle.volume.proofs.NodeLaws.{node_there, none_there}
 
 -- its blocks are the volume's
-pub blocks_within : (size nodes place : ℕ) (cached_nodes : List (Option CachedNode)) (places : List Bool) (cached : CachedNode) → AreKnownNodes size nodes cached_nodes places → get_or cached_nodes place None ≡ Some cached → FileWithin size cached.blocks
+pub blocks_within : (data_end size nodes place : ℕ) (cached_nodes : List (Option CachedNode)) (places : List Bool) (cached : CachedNode) → data_end ≤ size → AreKnownNodes data_end nodes cached_nodes places
+    → get_or cached_nodes place None ≡ Some cached → FileWithin size cached.blocks
 unfolding namings_of
-blocks_within size nodes place cached_nodes places cached known there block sector is =
+blocks_within data_end size nodes place cached_nodes places cached inside known there block sector is =
     let each = each_mark (148 + nodes) places 0 in
     let some = times_set-at cached.blocks block sector is in
     let here = ap (namings_of sector) there in
-    elim (cases_lt sector size) [
-      | inl low ↦ low
+    elim (cases_lt sector data_end) [
+      | inl low ↦ omega (arith, low, inside)
       | inr high ↦ absurd (let none = each.within sector (omega (arith, known.whole)) in omega (arith, named-at sector cached_nodes place, known.are_cached_nodes.marks sector))
     ]
 

@@ -6,7 +6,7 @@ use Rattle.std.proofs.Math.Logic.{∥∥₁_elim, ∥∥₁_map, ∥∥₁_prop}
 use Rattle.std.proofs.Math.Path.{fun_ext}
 use Rattle.journal.proofs.Moments.{seen-may_hold}
 use Rattle.disk.specs.Moments.{Image, Moment, History, Left, LeftSince, LeftWithin, at_rest, moment, seen}
-use Rattle.layout.specs.Stands.{Kept, served_version}
+use Rattle.layout.specs.Stands.{Kept, served_number}
 use Rattle.volume.specs.Stands.{StandsFor, StandsForIn}
 use Rattle.volume.specs.VolumeState.{VolumeState, kept_of}
 use Rattle.volume.specs.Remounts.{AddsMount, IsFound, IsMomentOf, Now, Before, Remounts, Stays, Mounts, Ends, Stops, StandsForGood, LeavesGood, ServesGood, EveryRemount, StillStands}
@@ -51,16 +51,16 @@ module _ (sectors nodes run : ℕ) (good : Kept → Type 0) where
         leaves = λ image left. ∥∥₁_elim now ∥∥₁_prop (λ stood. ∥∥₁_elim stood.3 ∥∥₁_prop (λ base. ⊎_elim
             (λ (before : LeftSince old from image). was.leaves image before)
             (λ (either : StandsForIn base.stands.version.number sectors nodes (run + stood.2) stood.0 image
-            ⊎ StandsForIn served_version sectors nodes (run + stood.2 + 1) stood.0 image). ⊎_elim
+            ⊎ StandsForIn (served_number base.stands.version.number) sectors nodes (run + stood.2 + 1) stood.0 image). ⊎_elim
             (λ (same : StandsForIn base.stands.version.number sectors nodes (run + stood.2) stood.0 image).
             ∣ (stood.0, stood.1, stood.2, in_version base.stands.version.number sectors nodes (run + stood.2) stood.0 image same) ∣₁)
-            (λ (more : StandsForIn served_version sectors nodes (run + stood.2 + 1) stood.0 image).
+            (λ (more : StandsForIn (served_number base.stands.version.number) sectors nodes (run + stood.2 + 1) stood.0 image).
             ∣ (
               stood.0,
               stood.1,
               stood.2 + 1,
               subst (λ (r : ℕ). StandsFor sectors nodes r stood.0 image) (omega arith)
-                  (in_version served_version sectors nodes (run + stood.2 + 1) stood.0 image more),
+                  (in_version (served_number base.stands.version.number) sectors nodes (run + stood.2 + 1) stood.0 image more),
             ) ∣₁)
             either)
             ((adds nodes (run + stood.2) stood.0 base).added from image was.within left)));

@@ -9,7 +9,7 @@ use Rattle.model_tree.specs.Trees.Tree.{Tree}
 use Rattle.volume.specs.declared.fault.VolumeFault.{VolumeFault}
 use Rattle.volume.specs.declared.fault.VolumeFault.TheVariants as fault
 use Rattle.volume.specs.VolumeState.{VolumeState, IsSameVolume, IsRecent, AddsKept, MakesAtMost}
-use Rattle.volume.specs.VolumeState.{kept_of, with_tree}
+use Rattle.volume.specs.VolumeState.{call_cost, kept_of, with_tree}
 use Rattle.volume.specs.Alike.{ShowsAs}
 
 -- how a call ends: it succeeded, it left all as it was, or the device failed in it
@@ -93,7 +93,6 @@ pub record VolumeChanges (keeps_word : Type 0) (given : Given) (old new : Volume
   -- at each moment of it a crash leaves something from before, or what is kept after it
   pub moments : keeps_word → (after : Kept) (lasts : Bool) → given after lasts
       → AddsKept old after new.history
-  -- It makes at most 396 writes and syncs, however it ends: a flush makes at most 198, since it may
-  -- copy the log home first, and a call flushes at most twice.
-  pub brief : keeps_word → MakesAtMost 396 old new
+  -- it makes at most these writes and syncs, however it ends
+  pub brief : keeps_word → MakesAtMost (call_cost old) old new
   pub ends : EndsAs keeps_word given old new failed_before failed_after ending

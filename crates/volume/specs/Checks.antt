@@ -2,7 +2,7 @@
 use Rattle.std.specs.Prelude.{ℕ, ⊤, List, Result, Ok, Err, ◌≡◌, ◌≢◌, ◌≤◌, IfOk, IfErr, IsErrOf}
 use Rattle.disk.specs.Cause.{IsCounted}
 use Rattle.disk.specs.Moments.{History, seen}
-use Rattle.layout.specs.Stands.{Kept}
+use Rattle.layout.specs.Stands.{Kept, number_of_version}
 use Rattle.volume.specs.MountAnswers.{first_verdict, NoTree}
 use Rattle.volume.specs.Stands.{StandsFor}
 use Rattle.volume.specs.Superblock.{superblock, mount_verdict, version_in, word}
@@ -30,6 +30,7 @@ IsSeen sectors sector (Err mounts.Device) = ⊤
 pub record HasChecked (sectors : ℕ) (old : History) (checked : Checked) : Type 0 where
   pub first : first_verdict sectors old ≢ verdicts.NotVolume
   pub sectors_are : checked.sectors ≡ sectors
+  pub version : checked.version ≡ number_of_version (version_in (seen old.now 0))
   pub kept : Kept
   pub stands : StandsFor sectors checked.nodes checked.count kept (seen old.now)
 

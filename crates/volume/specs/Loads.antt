@@ -5,9 +5,8 @@ use Rattle.journal.specs.Log.{Log}
 use Rattle.layout.specs.CachedNodes.{CachedNode, tree_of, cached_nodes_in}
 use Rattle.layout.specs.Health.{Health, FailsOrStays}
 use Rattle.layout.specs.Rewriting.{all_second}
-use Rattle.layout.specs.Stands.{AreKept, IsMark, Kept, MayHaveSeats, mark_held}
+use Rattle.layout.specs.Stands.{AreKept, IsMark, Kept, MayHaveSeats, data_end_by, limits_by, mark_held}
 use Rattle.model_tree.specs.Seats.Seats.{Seats}
-use Rattle.model_tree.specs.Trees.Limits.{limits_of}
 use Rattle.model_tree.specs.Trees.Stamp.{stamp}
 use Rattle.tree_check.specs.WellFormed.{AreWellFormed}
 use Rattle.volume.specs.Known.{AreKnownNodes}
@@ -32,8 +31,9 @@ read_as image cached_nodes seats = record { tree = tree_of image cached_nodes; s
 pub record AreLoaded (keeps_word : Type 0) (found : Superblock) (image : Image)
     (mark : Option ℕ) (cached_nodes : List (Option CachedNode)) (seats : Seats) (places : List Bool)
     : Type 0 where
-  pub known : AreKnownNodes found.sectors found.nodes cached_nodes places
-  pub well_formed : ∥ AreWellFormed (limits_of found.sectors found.nodes)
+  pub known : AreKnownNodes (data_end_by found.version found.sectors) found.nodes cached_nodes
+      places
+  pub well_formed : ∥ AreWellFormed (limits_by found.version found.sectors found.nodes)
       (stamp (found.run + 1) 0) cached_nodes ∥₁
   pub marked : IsMark found.version found.nodes mark
   pub may : MayHaveSeats found.version mark seats

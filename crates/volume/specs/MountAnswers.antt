@@ -3,16 +3,16 @@ use Rattle.std.specs.Prelude.{ℕ, ⊤, List, ◌≡◌, ◌≤◌, ◌+◌, ◌
 use Rattle.disk.specs.Calls.{zero_sector}
 use Rattle.disk.specs.Cause.{IsCounted}
 use Rattle.disk.specs.Moments.{Image, History, AddsOnly, moment, seen, synced}
-use Rattle.journal.specs.Layout.{log_at_start}
+use Rattle.journal.specs.declared.layout.LogArea.{LogArea}
 use Rattle.journal.specs.Settled.{Settles, SettlesAs}
 use Rattle.layout.specs.Stands.{Kept}
-use Rattle.layout.specs.declared.versions.VersionNumber.TheVariants as numbers
+use Rattle.layout.specs.Versions.{served}
 use Rattle.model_tree.specs.Seats.Seats.{Seats, AreOfRuns}
-use Rattle.volume.specs.VolumeState.{VolumeState, Holds, IsJustMounted, LeavesCurrent}
+use Rattle.volume.specs.VolumeState.{VolumeState, Holds, IsJustMounted, LeavesCurrent, flush_cost}
 use Rattle.volume.specs.Mounts.{moving_transactions}
 use Rattle.volume.specs.Remounts.{AddsMount, IsFound}
 use Rattle.volume.specs.Stands.{IsBase}
-use Rattle.volume.specs.Superblock.{mount_verdict, nodes_in, version_in}
+use Rattle.volume.specs.Superblock.{log_in, mount_verdict, nodes_in, version_in}
 use Rattle.volume.specs.declared.fault.MountFault.{MountFault}
 use Rattle.volume.specs.declared.fault.MountFault.TheVariants as mounts
 use Rattle.volume.specs.declared.volume.Unmounted.{Unmounted}
@@ -23,35 +23,48 @@ use Rattle.volume.specs.declared.superblock.Verdict.TheVariants as verdicts
 abbrev pub first_verdict : (sectors : ℕ) → History → Verdict
 first_verdict sectors old = mount_verdict sectors (seen old.now 0)
 
+-- and where it has the log
+abbrev pub first_log : (sectors : ℕ) → History → LogArea
+first_log sectors old = log_in sectors (seen old.now 0)
+
 abbrev pub NoTree : (sectors : ℕ) → History → Type 0
 NoTree sectors old =
     (nodes run : ℕ) (kept : Kept) → IsBase sectors nodes run kept (seen old.now) → ⊥
 
--- A volume of version 2 that has no mark of a migration once its commit record is replayed: a mount
--- of it moves no node
+-- A volume of version 2 or 3 that has no mark of a migration once its commit record is replayed: a
+-- mount of it moves no node
 pub record NeedsNoMigration (sectors : ℕ) (old : History) : Type 0 where
-  pub version : version_in (seen old.now 0) ≡ numbers.Two
-  pub unmarked : (base : Image) → Settles (log_at_start sectors) (seen old.now) base
+  pub version : version_in (seen old.now 0) ≡ served (version_in (seen old.now 0))
+  pub unmarked : (base : Image) → Settles (first_log sectors old) (seen old.now) base
       → base 147 ≡ zero_sector
 
--- A mount of such a volume makes at most 106 writes and syncs: at most 102 by the journal, which
--- copies home what its commit record names, up to 96 sectors; and the commit record and sector 0
--- are written, with a sync after each.
+-- The journal copies home what its commit record names, up to the sectors of its log, with at most
+-- six more writes and syncs; and the commit record and sector 0 are written, with a sync after each.
+-- In versions 1 and 2 these are 106.
+abbrev pub replay_cost : (sectors : ℕ) → (first : List ℕ) → ℕ
+replay_cost sectors first = let log = log_in sectors first in log.sectors + 10
+
+-- A mount of a volume that moves no node makes no more
 abbrev pub MountsBriefly : (sectors : ℕ) → (old new : History) → Type 0
-MountsBriefly sectors old new = NeedsNoMigration sectors old → moment new ≤ moment old + 106
+MountsBriefly sectors old new =
+    NeedsNoMigration sectors old
+    → moment new ≤ moment old + replay_cost sectors (seen old.now 0)
 
 -- A mount of any volume makes at most this many writes and syncs, by the version and the number of
--- nodes in its first sector: those 106, and for each transaction at most the 198 of one flush. Of
--- version 1 each of (nodes + 46) / 47 transactions moves 47 nodes, and one more removes the mark of
--- the migration; of version 2 there is at most this one.
-abbrev pub mount_cost : (first : List ℕ) → ℕ
-mount_cost first = 106 + 198 * (moving_transactions (version_in first) (nodes_in first) + 1)
+-- nodes in its first sector: those, and for each transaction at most a flush. Of version 1 each of
+-- (nodes + 46) / 47 transactions moves 47 nodes, and one more removes the mark of the migration; of
+-- version 2 there is at most this one.
+abbrev pub mount_cost : (sectors : ℕ) → (first : List ℕ) → ℕ
+mount_cost sectors first =
+    replay_cost sectors first
+    + flush_cost (version_in first) sectors
+    * (moving_transactions (version_in first) (nodes_in first) + 1)
 
-abbrev pub MountIsBounded : (old new : History) → Type 0
-MountIsBounded old new = moment new ≤ moment old + mount_cost (seen old.now 0)
+abbrev pub MountIsBounded : (sectors : ℕ) → (old new : History) → Type 0
+MountIsBounded sectors old new = moment new ≤ moment old + mount_cost sectors (seen old.now 0)
 
 -- A mount that serves: the first sector is sound, the tree that was there is served, and a crash
--- leaves it in the current version, under the new count
+-- leaves it in the version in which it is served, under the new count
 pub record HasMounted (sectors : ℕ) (old : History) (held : VolumeState) : Type 0 where
   pub first : first_verdict sectors old ≡ verdicts.Sound
   pub found : IsFound sectors old held
@@ -61,7 +74,7 @@ pub record HasMounted (sectors : ℕ) (old : History) (held : VolumeState) : Typ
   -- five steps at least: a sync, the commit record, a sync, sector 0, and a sync
   pub steps : moment old + 5 ≤ moment held.history
   pub brief : MountsBriefly sectors old held.history
-  pub bounded : MountIsBounded old held.history
+  pub bounded : MountIsBounded sectors old held.history
   pub current : LeavesCurrent held
   pub holds : Holds held
 
@@ -76,8 +89,8 @@ pub record FindsSeats (keeps_word : Type 0) (held : VolumeState) (seats : Seats)
 -- Nothing but the replay of a commit record that is set: what it names is copied home, so that each
 -- image left settles as the device did. If the record is not well formed, nothing is written.
 pub record OnlyReplays (sectors : ℕ) (old new : History) : Type 0 where
-  pub moments : AddsOnly (SettlesAs (log_at_start sectors) (seen old.now)) old new
-  pub formless : ((settled : Image) → Settles (log_at_start sectors) (seen old.now) settled → ⊥)
+  pub moments : AddsOnly (SettlesAs (first_log sectors old) (seen old.now)) old new
+  pub formless : ((settled : Image) → Settles (first_log sectors old) (seen old.now) settled → ⊥)
       → (new ≡ old) ⊎ (new ≡ synced old)
 
 -- NotVolume and Worn depend only on the first sector, and come before Damaged. If there is a tree,
@@ -110,7 +123,7 @@ HasReason sectors old new mounts.Device = ⊤
 pub record IsMountRefused (sectors : ℕ) (old new : History) (fault : MountFault) : Type 0 where
   pub moments : AddsMount sectors old new
   pub brief : MountsBriefly sectors old new
-  pub bounded : MountIsBounded old new
+  pub bounded : MountIsBounded sectors old new
   pub writes : (fault ≡ mounts.Device → ⊥) → OnlyReplays sectors old new
   pub reason : HasReason sectors old new fault
 

@@ -2,17 +2,15 @@
 use Rattle.std.specs.Prelude.{ℕ, ⊤, false, [], Option, Some, Result, Ok, Err, ◌≡◌, ◌≤◌, ◌<◌, ◌+◌, ◌*◌, ◌^◌, ◌⊎◌, List, IsTrue}
 use Rattle.disk.specs.Calls.{zero_sector}
 use Rattle.disk.specs.Moments.{Image, History, AddsOnly, moment}
-use Rattle.journal.specs.Layout.{log_at_start}
 use Rattle.journal.specs.Log.{Log, Costs, IsSettled}
 use Rattle.layout.specs.CachedNodes.{cached_nodes_in}
 use Rattle.layout.specs.Rewriting.{all_second}
 use Rattle.layout.specs.Stands as layout
-use Rattle.layout.specs.Stands.{AreKept, IsMark, Kept, MayHaveSeats, served_version, number_of_version, version_2, version_by}
-use Rattle.layout.specs.Superblock.{is_size}
+use Rattle.layout.specs.Stands.{AreKept, IsMark, IsNumber, Kept, MayHaveSeats, log_by, number_of_version, served, size_by, version_by}
 use Rattle.layout.specs.declared.versions.VersionNumber.{VersionNumber}
 use Rattle.layout.specs.declared.versions.VersionNumber.TheVariants as numbers
 use Rattle.migration.specs.Plans.{transactions_for}
-use Rattle.volume.specs.VolumeState.{VolumeState, Holds, LeavesCurrent, kept_of}
+use Rattle.volume.specs.VolumeState.{VolumeState, Holds, LeavesCurrent, flush_cost, kept_of}
 use Rattle.volume.specs.Stands.{VolumeStands, StandsForIn}
 use Rattle.volume.specs.Superblock.{superblock, mount_verdict}
 use Rattle.volume.specs.declared.fault.MountFault.{MountFault}
@@ -23,20 +21,22 @@ use Rattle.volume.specs.declared.superblock.Verdict.TheVariants as verdicts
 -- a volume as its first sector describes it; its count may be full
 pub record HasSize (sectors : ℕ) (found : Superblock) : Type 0 where
   pub size : found.sectors ≡ sectors
-  pub sized : IsTrue (is_size found.sectors found.nodes)
+  pub number : IsNumber found.version
+  pub sized : IsTrue (size_by found.version found.sectors found.nodes)
   pub counted : found.run < 2 ^ 32
 
 -- a volume as its first sector describes it, of which one more mount can be counted
 pub record IsVolumeOf (sectors : ℕ) (found : Superblock) : Type 0 where
   pub size : found.sectors ≡ sectors
-  pub sized : IsTrue (is_size found.sectors found.nodes)
+  pub number : IsNumber found.version
+  pub sized : IsTrue (size_by found.version found.sectors found.nodes)
   pub counted : found.run + 1 < 2 ^ 32
 
--- a journal with nothing left to flush, whose log is before the sectors that transactions write
-pub record IsAtRest (log : Log) : Type 0 where
+-- a journal with nothing left to flush, whose log is where the version has it
+pub record IsAtRest (version : VersionNumber) (log : Log) : Type 0 where
   pub up : log.is_down ≡ false
   pub listed : log.list ≡ []
-  pub placed : log.area ≡ log_at_start log.size
+  pub placed : log.area ≡ log_by version log.size
 
 -- what the first sector says, by the result of reading it
 abbrev pub IsTold : (sectors : ℕ) → (sector : List ℕ) → Result Superblock MountFault → Type 0
@@ -53,22 +53,24 @@ IsTold sectors sector (Err mounts.Device) = ⊤
 abbrev pub StandsOn : Superblock → (base : Image) → Kept → Type 0
 StandsOn found base kept = VolumeStands found.sectors found.nodes base found.run kept
 
--- an image represents them, in the version and under the count that were found, or in the current
--- version and under the next count
+-- an image represents them, in the version and under the count that were found, or in the version in
+-- which it is served and under the next count
 abbrev pub StandsForEither : Superblock → Kept → Image → Type 0
 StandsForEither found kept image =
     StandsForIn (number_of_version found.version) found.sectors found.nodes found.run kept image
-    ⊎ StandsForIn served_version found.sectors found.nodes (found.run + 1) kept image
+    ⊎ StandsForIn (number_of_version (served found.version)) found.sectors found.nodes
+    (found.run + 1) kept image
 
 -- what a run that begins adds to what a crash may leave: what the base holds, under either count
 abbrev pub AddsRaised : Superblock → (base : Image) → (old new : History) → Type 0
 AddsRaised found base old new =
     (kept : Kept) → StandsOn found base kept → AddsOnly (StandsForEither found kept) old new
 
--- The nodes have form two: the version is 2, or the mark counts all places
+-- The nodes have form two: the version is not 1, or the mark counts all places
 abbrev pub AllHaveMoved : VersionNumber → (nodes : ℕ) → (mark : Option ℕ) → Type 0
 AllHaveMoved numbers.One nodes mark = mark ≡ Some nodes
 AllHaveMoved numbers.Two nodes mark = IsMark numbers.Two nodes mark
+AllHaveMoved (numbers.Three s) nodes mark = IsMark (numbers.Three s) nodes mark
 
 -- this base holds the tree and the seats, in the version that was found, with this mark
 pub record StandsIn (found : Superblock) (mark : Option ℕ) (base : Image) (kept : Kept)
@@ -78,13 +80,13 @@ pub record StandsIn (found : Superblock) (mark : Option ℕ) (base : Image) (kep
   pub stands : layout.TreeStands (version_by found.version mark kept.seats)
       found.sectors found.nodes base found.run kept.tree
 
--- The new base holds them in version 2, under the next count, with the same cached nodes except for
--- their forms
+-- The new base holds them in the version in which it is served, under the next count, with the same
+-- cached nodes except for their forms
 pub record IsRaisedTo (mark : Option ℕ) (found : Superblock) (kept : Kept) (old new : Image)
     : Type 0 where
-  pub may : MayHaveSeats numbers.Two mark kept.seats
+  pub may : MayHaveSeats (served found.version) mark kept.seats
   pub keeps : AreKept (found.run + 1) kept.seats
-  pub stands : layout.TreeStands (version_2 mark kept.seats)
+  pub stands : layout.TreeStands (version_by (served found.version) mark kept.seats)
       found.sectors found.nodes new (found.run + 1) kept.tree
   pub cached_nodes : all_second (cached_nodes_in found.nodes new)
       ≡ all_second (cached_nodes_in found.nodes old)
@@ -104,9 +106,9 @@ pub record IsRaised (keeps_word : Type 0) (found : Superblock) (old new : Log) :
   pub settled : keeps_word → IsSettled new
   pub cost : keeps_word → Costs 2 old new
 
--- version 2, with no mark of a migration: no node has to move
+-- version 2 or 3, with no mark of a migration: no node has to move
 abbrev pub NeedsNoMove : Superblock → (base : Image) → Type 0
-NeedsNoMove found base = (found.version ≡ numbers.Two) × (base 147 ≡ zero_sector)
+NeedsNoMove found base = (found.version ≡ served found.version) × (base 147 ≡ zero_sector)
 
 -- then a run begins with at most two writes and two syncs
 abbrev pub BeginsBriefly : Superblock → (base : Image) → (old new : History) → Type 0
@@ -116,15 +118,19 @@ BeginsBriefly found base old new = NeedsNoMove found base → moment new ≤ mom
 abbrev pub moving_transactions : VersionNumber → (nodes : ℕ) → ℕ
 moving_transactions numbers.One nodes = transactions_for nodes
 moving_transactions numbers.Two nodes = 0
+moving_transactions (numbers.Three s) nodes = 0
 
--- A run begins with at most this many writes and syncs: those four, and 198 for each transaction
+-- A run begins with at most this many writes and syncs: those four, and a flush for each transaction
 -- that moves nodes, and for the one that removes the mark.
 abbrev pub begin_cost : Superblock → ℕ
-begin_cost found = 4 + 198 * (moving_transactions found.version found.nodes + 1)
+begin_cost found =
+    4 + flush_cost found.version found.sectors
+    * (moving_transactions found.version found.nodes + 1)
 
 -- a run that begins on a base
 pub record HasBegun (found : Superblock) (base : Image) (old : History) (held : VolumeState)
     : Type 0 where
+  pub version : held.version ≡ served found.version
   pub run : held.run ≡ found.run + 1
   pub nodes : held.limits.nodes ≡ found.nodes
   pub stood : ∥ StandsOn found base (kept_of held) ∥₁

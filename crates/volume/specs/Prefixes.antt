@@ -1,21 +1,19 @@
 use Rattle.std.specs.Prelude.{List, [], ◌∷◌, ◌++◌, ◌≡◌}
 use Rattle.disk.specs.declared.update.Update.{Update}
 use Rattle.disk.specs.Moments.{History, AddsOnly, applied}
-use Rattle.journal.specs.Layout.{log_at_start}
 use Rattle.journal.specs.Log.{Log, StandsForPrefix, applied_all}
-use Rattle.layout.specs.Stands.{Kept}
+use Rattle.layout.specs.Stands.{Kept, StandsNow, log_by}
 use Rattle.volume.specs.VolumeState.{VolumeState, IsRecent, AddsKept, prefixes_from}
-use Rattle.volume.specs.Stands.{VolumeStands}
 
 pub record IsOver (held : VolumeState) (log : Log) : Type 0 where
   pub size : held.sectors ≡ log.size
-  pub area : log.area ≡ log_at_start log.size
+  pub area : log.area ≡ log_by held.version log.size
   pub history : held.history ≡ log.history
   pub prefixes : held.prefixes ≡ prefixes_from log.base log.list
 
 -- with these updates after its list, the journal gives sectors that hold this
 abbrev pub StandsUpdated : VolumeState → Log → List Update → (after : Kept) → Type 0
-StandsUpdated held log updates after = ∥ VolumeStands held.sectors held.limits.nodes
+StandsUpdated held log updates after = ∥ StandsNow held.version held.sectors held.limits.nodes
     (applied updates (applied_all log.list log.base)) held.run after ∥₁
 
 abbrev pub KeepsPrefixes : Type 0

@@ -2,19 +2,20 @@
 use Rattle.std.specs.Prelude.{ℕ, ◌∷◌, List, ◌≡◌, ◌<◌, ◌≤◌, ◌+◌, ◌⊎◌}
 use Rattle.std.specs.List.{IsAmong}
 use Rattle.disk.specs.Moments.{Image, Moment, History, LeftSince, AddsOnly, at_rest, moment, seen}
-use Rattle.layout.specs.Stands.{Kept, served_version}
+use Rattle.layout.specs.Stands.{Kept, served_number}
 use Rattle.volume.specs.VolumeState.{VolumeState, kept_of}
 use Rattle.volume.specs.Stands.{IsBase, StandsFor, StandsForIn}
 
 -- What a mount adds to what a crash may leave, at each moment of it: the tree and the seats that
 -- the device held, in the version in which it held them and with their restart count, or in the
--- current version and with the next count.
+-- version in which it is served and with the next count.
 abbrev pub AddsMount : (sectors : ℕ) → (old new : History) → Type 0
 AddsMount sectors old new =
     (nodes run : ℕ) (kept : Kept) (stood : IsBase sectors nodes run kept (seen old.now))
     → AddsOnly (λ image.
     StandsForIn stood.stands.version.number sectors nodes run kept image
-    ⊎ StandsForIn served_version sectors nodes (run + 1) kept image) old new
+    ⊎ StandsForIn (served_number stood.stands.version.number) sectors nodes (run + 1) kept image)
+    old new
 
 -- A mount serves the tree and the seats that the device held, and has raised their restart count.
 pub record IsFound (sectors : ℕ) (old : History) (held : VolumeState) : Type 0 where

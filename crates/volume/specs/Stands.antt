@@ -1,7 +1,6 @@
 -- What an image that a crash leaves represents: what the journal makes of it is the volume.
 use Rattle.std.specs.Prelude.{ℕ, ◌≡◌}
 use Rattle.disk.specs.Moments.{Image}
-use Rattle.journal.specs.Layout.{log_at_start}
 use Rattle.journal.specs.Settled.{Settles}
 use Rattle.layout.specs.Stands.{Kept, StandsAs}
 
@@ -12,8 +11,9 @@ VolumeStands sectors nodes image run kept = StandsAs sectors nodes image run kep
 -- what an image settles to, and what that holds
 pub record IsBase (sectors nodes run : ℕ) (kept : Kept) (image : Image) : Type 0 where
   pub base : Image
-  pub settles : Settles (log_at_start sectors) image base
   pub stands : VolumeStands sectors nodes base run kept
+  -- the log is where the version has it
+  pub settles : Settles (stands.version.log sectors) image base
 
 -- An image that a crash left represents this tree and these seats.
 abbrev pub StandsFor : (sectors nodes run : ℕ) → Kept → Image → Type 0

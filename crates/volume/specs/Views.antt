@@ -5,6 +5,7 @@ use Rattle.journal.specs.Journal.{log_of, journal_failures}
 use Rattle.journal.specs.Log.{Log, contents}
 use Rattle.layout.specs.CachedNodes.{CachedNode, tree_of}
 use Rattle.layout.specs.Stands.{seats_at}
+use Rattle.layout.specs.declared.versions.VersionNumber.{VersionNumber}
 use Rattle.model_tree.specs.declared.limits.Limits.{Limits}
 use Rattle.volume.specs.Changes.{Given, Ending, VolumeChanges}
 use Rattle.volume.specs.MountAnswers.{MountServes}
@@ -12,12 +13,14 @@ use Rattle.volume.specs.VolumeState.{VolumeState, prefixes_from}
 use Rattle.volume.specs.declared.volume.Volume.{Volume}
 
 -- what is seen of these nodes over a journal
-abbrev pub volume_state_by : Limits → (run : ℕ) → List (Option CachedNode) → Log → VolumeState
-volume_state_by limits run cached_nodes log = record {
+abbrev pub volume_state_by : VersionNumber → Limits → (run : ℕ) → List (Option CachedNode) → Log
+    → VolumeState
+volume_state_by version limits run cached_nodes log = record {
+  version = version;
   limits = limits;
   run = run;
   tree = tree_of (contents log) cached_nodes;
-  seats = seats_at (contents log);
+  seats = seats_at version (contents log);
   is_down = log.is_down;
   sectors = log.size;
   history = log.history;
@@ -26,7 +29,7 @@ volume_state_by limits run cached_nodes log = record {
 
 unfoldable pub volume_state : {D : _} {g : _} → Volume D g → VolumeState
 volume_state volume =
-    volume_state_by volume.limits volume.run volume.table (log_of volume.store.journal)
+    volume_state_by volume.version volume.limits volume.run volume.table (log_of volume.store.journal)
 
 -- how often its device has failed
 unfoldable pub volume_failures : {D : _} {g : _} → Volume D g → ℕ

@@ -7,12 +7,8 @@ use crate::fault::VolumeFault;
 use crate::parent_calls::{put_by, put_parent};
 use crate::volume::Volume;
 use disk::Device;
-use layout::versions::Marking;
 use tree_edits::{Edit, fits, outcome_of};
 use tree_transaction::{PreparedTransaction, TransactionFault};
-
-/// What marks the used sectors of the volumes that are served.
-pub(crate) const MARKING: Marking = Marking::InSectors;
 
 impl From<TransactionFault> for VolumeFault {
     ghost from_gives = { λ refusal fault. fault ≡ transaction_fault refusal };
@@ -36,7 +32,7 @@ impl<D: Device> Volume<D> {
     ghost use Rattle.volume.specs.Formed.{ShowsTree};
     ghost use Rattle.volume.specs.Alike.{ShowsAs};
     ghost use Rattle.volume.specs.Views.{volume_state, AltersVolume};
-    ghost use Rattle.volume.specs.VolumeState.{MakesAtMost};
+    ghost use Rattle.volume.specs.VolumeState.{MakesAtMost, flush_cost};
 
     /// Whether the tree fits after edits, which [`Volume::change`] checks first. The room that each
     /// edit takes must be known from the tree that those before it give: the edit need not be
@@ -95,8 +91,8 @@ impl<D: Device> Volume<D> {
             (IsEdited (volume_state self.old) edits.now) (ending_of result) }
         ensures shows { OnOk result (ShowsTree D.keeps_word
             (edited_by (volume_state self.old) edits.now) (volume_state self.new).tree) }
-        ensures brief { D.keeps_word → MakesAtMost 198 (volume_state self.old)
-            (volume_state self.new) }
+        ensures brief { D.keeps_word → MakesAtMost (flush_cost (volume_state self.old).version (volume_state self.old).sectors)
+            (volume_state self.old) (volume_state self.new) }
         // If it fails
         ensures stays { OnErr result
             (ShowsAs (volume_state self.old).tree (volume_state self.new).tree) }
@@ -112,7 +108,7 @@ impl<D: Device> Volume<D> {
             &mut self.store,
             &self.table,
             &self.places,
-            MARKING,
+            self.version.marking(),
             edits,
         )?;
         let PreparedTransaction {

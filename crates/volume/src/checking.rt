@@ -13,6 +13,8 @@ use std::alloc::Global;
 /// A volume that holds a tree.
 #[derive(Clone, Copy, Debug, PartialEq, Eq)]
 pub struct Checked {
+    /// The version of its layout.
+    pub version: u32,
     /// How many sectors it has.
     pub sectors: u32,
     /// How many nodes it may have.
@@ -36,7 +38,7 @@ pub fn check<D: Device>(alloc: Global, device: &mut D) -> Result<Checked, MountF
         Ok(found) => found,
         Err(fault) => return Err(fault),
     };
-    let view = match Journal::view(alloc, device) {
+    let view = match Journal::view_in(alloc, device, found.version.log_area(found.sectors)) {
         Ok(view) => view,
         Err(refused) => return Err(refused.fault.into()),
     };
@@ -46,6 +48,7 @@ pub fn check<D: Device>(alloc: Global, device: &mut D) -> Result<Checked, MountF
         Err(fault) => return Err(fault),
     };
     Ok(Checked {
+        version: found.version.number(),
         sectors: found.sectors,
         nodes: found.nodes,
         count: found.run,

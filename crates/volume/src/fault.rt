@@ -19,7 +19,7 @@ pub enum FormatFault {
     /// No memory. Nothing was written.
     #[error("Memory")]
     Memory,
-    /// No volume has this many sectors and nodes. Nothing was written.
+    /// No volume has this many sectors and nodes, or this geometry. Nothing was written.
     #[error("Size")]
     Size,
 }
@@ -34,7 +34,7 @@ pub enum MountFault {
     /// A volume, but it holds no tree.
     #[error("Damaged")]
     Damaged,
-    /// No volume of version 1 or 2 and of the device's size.
+    /// No volume of version 1, 2 or 3 and of the device's size.
     #[error("NotVolume")]
     NotVolume,
     /// The restart count is full.

@@ -6,12 +6,13 @@ ghost use Rattle.volume.specs.Prefixes.{KeepsPrefixes, AppliedRecent};
 ghost use Rattle.volume.specs.Remounts.{EveryRemount, StillStands};
 ghost use Rattle.volume.specs.Alike.{AnswersByShown};
 ghost use Rattle.volume.specs.Stands.{OneStands};
-ghost use Rattle.volume.specs.Superblock.{superblock, version_in, word};
+ghost use Rattle.volume.specs.Superblock.{HasSizes, superblock, version_in, word};
 
 /// The first sector of a volume gives its version, its number of nodes and its restart count.
 #[tactic(auto, using(crate::proofs::FirstLaws::version_back, crate::proofs::FirstLaws::word_nodes, crate::proofs::FirstLaws::word_run))]
 pub fn superblock_tells()
     ensures version { (version : VersionNumber) (sectors nodes run : ℕ)
+        → HasSizes version sectors nodes
         → version_in (superblock version sectors nodes run) ≡ version }
     ensures nodes { (version : VersionNumber) (sectors nodes run : ℕ) → nodes < 2 ^ 32
         → word 16 (superblock version sectors nodes run) ≡ nodes }

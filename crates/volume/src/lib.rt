@@ -26,7 +26,7 @@ mod volume;
 
 pub use checking::{Checked, check};
 pub use fault::{FormatFault, MountFault, VolumeFault};
-pub use formatting::format;
+pub use formatting::{format, format_large};
 pub use laws::{answers_by_shown, every_remount, one_stands, superblock_tells, unflushed};
 pub use room::Room;
 pub use volume::{Mounted, Unmounted, Volume};

@@ -10,7 +10,6 @@ ghost use Rattle.layout.specs.Health.{FailsOrStays};
 ghost use Rattle.volume.specs.Loads.{AreLoaded, HoldsBase, HoldsVolume, IsLoaded, Loads};
 ghost use Rattle.volume.specs.Mounts.{HasSize, IsVolumeOf, IsAtRest, StandsOn};
 
-use crate::change::MARKING;
 use crate::fault::MountFault;
 use crate::mount::Superblock;
 use crate::parents::Parents;
@@ -19,7 +18,6 @@ use disk::Device;
 use freemap::SharedBitmap;
 use inode::Form;
 use layout::sectors::Sectors;
-use model_tree::limits::Limits;
 use model_tree::seats::Seats;
 use model_tree::stamps::stamp;
 use node_table::{CachedNode, Table};
@@ -87,13 +85,12 @@ pub(crate) fn read_nodes<S: Sectors>(
     ensures only { IfErr result (λ fault. (fault ≡ MountFault.Device)
         ⊎ ((fault ≡ MountFault.Damaged) ⊎ (fault ≡ MountFault.Memory))) }
 {
-    let limits = Limits::of_volume(found.sectors as usize, found.nodes as usize);
+    let limits = found.version.limits(found.sectors, found.nodes);
     let contents = read_volume(
         alloc,
         sectors,
-        found.nodes,
-        MARKING,
         found.sectors,
+        found.nodes,
         found.version,
         found.run,
     )?;
@@ -120,7 +117,7 @@ pub(crate) fn load<D: Device>(
     found: Superblock,
 ) -> Result<Loaded, MountFault>
     requires volume { IsVolumeOf (log_of store.old.journal).size found }
-    requires rests { IsAtRest (log_of store.old.journal) }
+    requires rests { IsAtRest found.version (log_of store.old.journal) }
     requires base { D.keeps_word → HoldsBase found (log_of store.old.journal) }
     ensures loaded { IfOk result (λ loaded. IsLoaded D.keeps_word found
         (log_of store.old.journal) loaded.mark loaded.table (seats_view loaded.seats)

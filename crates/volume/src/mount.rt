@@ -10,13 +10,13 @@ ghost use Rattle.volume.specs.Mounts.{RaisesSafely, HasSize, IsVolumeOf, IsAtRes
 ghost use Rattle.volume.specs.Superblock.{superblock};
 
 use crate::fault::MountFault;
-use crate::superblock::{Verdict, judge, nodes_of, run_of, superblock_of, version_of};
+use crate::superblock::{Verdict, judge, nodes_of, run_of, superblock_of, version_at};
 use disk::{Device, SECTOR};
 use journal::{Journal, JournalFault, MIN_SECTORS};
 use layout::versions::VersionNumber;
 
 /// A volume, by its first sector.
-#[derive(Clone, Copy, Debug)]
+#[derive(Clone, Copy)]
 pub(crate) struct Superblock {
     pub(crate) version: VersionNumber,
     pub(crate) sectors: u32,
@@ -53,7 +53,7 @@ fn read_first<D: Device>(device: &mut D) -> Result<[u8; SECTOR], MountFault>
 }
 
 /// Finds a volume that can be mounted, by the first sector of its device.
-#[tactic(auto, using(crate::proofs::FirstLaws::sound_size, crate::proofs::FirstLaws::sound_run, crate::proofs::FirstLaws::sound_first, crate::proofs::FirstLaws::not_volume_on_few))]
+#[tactic(auto, using(crate::proofs::FirstLaws::sound_run, crate::proofs::FirstLaws::sound_first, crate::proofs::FirstLaws::not_volume, crate::proofs::FirstLaws::not_volume_on_few))]
 pub(crate) fn read_mountable_superblock<D: Device>(device: &mut D) -> Result<Superblock, MountFault>
     ensures volume { IfOk result (IsVolumeOf (D.size device.old)) }
     ensures told { D.keeps_word
@@ -74,12 +74,15 @@ pub(crate) fn read_mountable_superblock<D: Device>(device: &mut D) -> Result<Sup
         Err(fault) => return Err(fault),
     };
     let sectors = device.sectors();
+    let Some(version) = version_at(sectors, &first) else {
+        return Err(MountFault::NotVolume);
+    };
     match judge(sectors, &first) {
         Verdict::NotVolume => Err(MountFault::NotVolume),
         Verdict::Worn => Err(MountFault::Worn),
         Verdict::Damaged => Err(MountFault::Damaged),
         Verdict::Sound => Ok(Superblock {
-            version: version_of(&first),
+            version,
             sectors,
             nodes: nodes_of(&first),
             run: run_of(&first),
@@ -88,7 +91,7 @@ pub(crate) fn read_mountable_superblock<D: Device>(device: &mut D) -> Result<Sup
 }
 
 /// Finds a volume by the first sector of its device, whether it can be mounted once more or not.
-#[tactic(auto, using(crate::proofs::FirstLaws::not_volume_on_few, crate::proofs::FirstLaws::seen_size))]
+#[tactic(auto, using(crate::proofs::FirstLaws::not_volume, crate::proofs::FirstLaws::not_volume_on_few, crate::proofs::FirstLaws::volume_there, crate::proofs::FirstLaws::has_sizes))]
 pub(crate) fn read_superblock<D: Device>(device: &mut D) -> Result<Superblock, MountFault>
     ensures volume { IfOk result (HasSize (D.size device.old)) }
     ensures seen { D.keeps_word
@@ -110,10 +113,9 @@ pub(crate) fn read_superblock<D: Device>(device: &mut D) -> Result<Superblock, M
         Err(fault) => return Err(fault),
     };
     let sectors = device.sectors();
-    if judge(sectors, &first) == Verdict::NotVolume {
+    let Some(version) = version_at(sectors, &first) else {
         return Err(MountFault::NotVolume);
-    }
-    let version = version_of(&first);
+    };
     let nodes = nodes_of(&first);
     let run = run_of(&first);
     if first != superblock_of(version, sectors, nodes, run) {
@@ -127,14 +129,14 @@ pub(crate) fn read_superblock<D: Device>(device: &mut D) -> Result<Superblock, M
     })
 }
 
-/// Raises the restart count of a volume whose nodes have form two, and sets its version to the
-/// current one: one write of its first sector.
+/// Raises the restart count of a volume whose nodes have form two, and sets its version to the one
+/// in which it is served: one write of its first sector.
 pub(crate) fn raise<D: Device>(
     journal: &mut Journal<D>,
     found: Superblock,
 ) -> Result<(), JournalFault>
     requires volume { IsVolumeOf (log_of journal.old).size found }
-    requires rests { IsAtRest (log_of journal.old) }
+    requires rests { IsAtRest found.version (log_of journal.old) }
     ensures moments { D.keeps_word → RaisesSafely found (log_of journal.old)
         (log_of journal.new).history }
     ensures raised { OnOk result (IsRaised D.keeps_word found
@@ -148,7 +150,7 @@ pub(crate) fn raise<D: Device>(
     ensures later { journal_failures journal.old ≤ journal_failures journal.new }
 {
     let sector = superblock_of(
-        VersionNumber::CURRENT,
+        found.version.served(),
         found.sectors,
         found.nodes,
         found.run + 1,

@@ -13,7 +13,7 @@ impl<D: Device> Volume<D> {
     ghost use Rattle.volume.specs.Changes.{IsReseated, IsSeats, ending_of};
     ghost use Rattle.volume.specs.Formed.{ShowsTree};
     ghost use Rattle.volume.specs.Views.{volume_state, AltersVolume};
-    ghost use Rattle.volume.specs.VolumeState.{MakesAtMost};
+    ghost use Rattle.volume.specs.VolumeState.{MakesAtMost, flush_cost};
 
     /// Edits the seats as one transaction: a crash leaves the old ones or the new. It may be lost
     /// until the next flush.
@@ -30,8 +30,9 @@ impl<D: Device> Volume<D> {
             (edited_all (edits_view edits.now) (volume_state self.old).seats)) (ending_of result) }
         ensures shows { OnOk result (ShowsTree D.keeps_word (volume_state self.old).tree
             (volume_state self.new).tree) }
-        ensures brief { D.keeps_word → MakesAtMost 198 (volume_state self.old)
-            (volume_state self.new) }
+        ensures brief { D.keeps_word → MakesAtMost
+            (flush_cost (volume_state self.old).version (volume_state self.old).sectors)
+            (volume_state self.old) (volume_state self.new) }
         // If it fails
         ensures down { IsErrOf result VolumeFault.Down ↔ ((volume_state self.old).is_down ≡ true) }
         ensures refuses { IfErr result (λ fault. (fault ≡ VolumeFault.Memory)
@@ -40,7 +41,7 @@ impl<D: Device> Volume<D> {
         if self.store.journal.is_down() {
             return Err(VolumeFault::Down);
         }
-        let updates = updates_of(self.alloc, edits)?;
+        let updates = updates_of(self.alloc, self.version, edits)?;
         self.store.journal.apply(updates)?;
         Ok(())
     }

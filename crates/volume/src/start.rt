@@ -1,10 +1,12 @@
-//! Beginning a run: the volume is brought to the current version, and its restart count is raised.
+//! Beginning a run: the volume is brought to the version in which it is served, and its restart count
+//! is raised.
 
-ghost use Rattle.std.specs.Prelude.{◌≡◌, ◌≤◌, ◌<◌, ◌⊎◌, IfErr, OnOk, OnErr, IsErrOf};
+ghost use Rattle.std.specs.Prelude.{◌≡◌, ◌≤◌, ◌<◌, ◌⊎◌, IfErr, OnOk, OnErr, IsErrOf, false};
 ghost use Rattle.disk.specs.Cause.{IsCounted};
 ghost use Rattle.journal.specs.Calls.{IsSafe};
 ghost use Rattle.journal.specs.Journal.{log_of, journal_failures};
 ghost use Rattle.journal.specs.Log.{MakesAtMost};
+ghost use Rattle.layout.specs.Versions.{served};
 ghost use Rattle.migration.specs.Plans.{clearing_updates};
 ghost use Rattle.model_tree.specs.Seats.SeatViews.{seats_view};
 ghost use Rattle.volume.specs.Loads.{HoldsBase, IsLoaded};
@@ -24,7 +26,7 @@ use std::alloc::Global;
 /// one, and the next flush writes over its log. A replay has just written it too, but that is rare,
 /// and one rule for all mounts is simpler.
 fn rewrite<D: Device>(journal: &mut Journal<D>) -> Result<(), MigrationFault>
-    requires rests { IsAtRest (log_of journal.old) }
+    requires up { (log_of journal.old).is_down ≡ false }
     ensures safe { IsSafe D.keeps_word (log_of journal.old) (log_of journal.new) }
     ensures brief { D.keeps_word → MakesAtMost 2 (log_of journal.old) (log_of journal.new) }
     ensures ok { OnOk result (HasRewritten D.keeps_word (log_of journal.old) (log_of journal.new)) }
@@ -45,7 +47,7 @@ fn move_nodes<D: Device>(
     loaded: &Loaded,
 ) -> Result<(), MigrationFault>
     requires volume { IsVolumeOf (log_of journal.old).size found }
-    requires rests { IsAtRest (log_of journal.old) }
+    requires rests { IsAtRest found.version (log_of journal.old) }
     requires loaded { IsLoaded D.keeps_word found (log_of journal.old)
         loaded.now.mark loaded.now.table (seats_view loaded.now.seats) loaded.now.places }
     ensures moves { MovesNodes D.keeps_word found loaded.now.mark
@@ -61,7 +63,7 @@ fn move_nodes<D: Device>(
 {
     match found.version {
         VersionNumber::One => migrate(alloc, journal, &loaded.table, loaded.mark.unwrap_or(0)),
-        VersionNumber::Two => rewrite(journal),
+        VersionNumber::Two | VersionNumber::Three(_) => rewrite(journal),
     }
 }
 
@@ -72,19 +74,21 @@ fn is_marked(version: VersionNumber, mark: Option<u32>) -> bool
     match version {
         VersionNumber::One => true,
         VersionNumber::Two => mark.is_some(),
+        VersionNumber::Three(_) => false,
     }
 }
 
-/// Removes the mark of a migration, if there is one.
+/// Removes the mark of a migration, if there is one by the version and the mark that were found.
 fn unmark<D: Device>(
     journal: &mut Journal<D>,
-    is_marked: bool,
+    version: VersionNumber,
+    mark: Option<u32>,
     updates: Vec<Update>,
 ) -> Result<(), JournalFault>
-    requires rests { IsAtRest (log_of journal.old) }
+    requires rests { IsAtRest (served version) (log_of journal.old) }
     requires room { 148 < (log_of journal.old).size }
     requires clearing { updates.items ≡ clearing_updates }
-    ensures clears { Clears D.keeps_word is_marked
+    ensures clears { Clears D.keeps_word (served version) (is_marked version mark)
         (log_of journal.old) (log_of journal.new) result }
     // If it fails
     ensures later { journal_failures journal.old ≤ journal_failures journal.new }
@@ -92,7 +96,7 @@ fn unmark<D: Device>(
         (IsCounted (journal_failures journal.old) (journal_failures journal.new)) }
     ensures none { OnOk result (journal_failures journal.new ≡ journal_failures journal.old) }
 {
-    if !is_marked {
+    if !is_marked(version, mark) {
         return Ok(());
     }
     clear(journal, updates)
@@ -112,7 +116,7 @@ pub(crate) fn start<D: Device>(
     loaded: &Loaded,
 ) -> Result<(), MountFault>
     requires volume { IsVolumeOf (log_of journal.old).size found }
-    requires rests { IsAtRest (log_of journal.old) }
+    requires rests { IsAtRest found.version (log_of journal.old) }
     requires base { D.keeps_word → HoldsBase found (log_of journal.old) }
     requires loaded { IsLoaded D.keeps_word found (log_of journal.old)
         loaded.now.mark loaded.now.table (seats_view loaded.now.seats) loaded.now.places }
@@ -133,7 +137,7 @@ pub(crate) fn start<D: Device>(
     if raise(journal, found).is_err() {
         return Err(MountFault::Device);
     }
-    if unmark(journal, is_marked(found.version, loaded.mark), updates).is_err() {
+    if unmark(journal, found.version, loaded.mark, updates).is_err() {
         return Err(MountFault::Device);
     }
     Ok(())

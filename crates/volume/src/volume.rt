@@ -2,16 +2,14 @@
 
 ghost use Rattle.std.specs.Prelude.{◌≡◌, ◌<◌, ◌+◌, ◌^◌, false, IsTrue};
 ghost use Rattle.journal.specs.Journal.{log_of};
-ghost use Rattle.journal.specs.Layout.{log_at_start};
-ghost use Rattle.layout.specs.Superblock.{is_size};
-ghost use Rattle.model_tree.specs.Trees.Limits.{limits_of};
+ghost use Rattle.layout.specs.Versions.{IsServed, data_end_by, limits_by, log_by, size_by};
 ghost use Rattle.model_tree.specs.Trees.Stamp.{stamp};
 ghost use Rattle.tree_edits.specs.Outlines.{tree_without_data};
 ghost use Rattle.volume.specs.ParentIndex.{AreParents};
 ghost use Rattle.volume.specs.ParentProps.{AreParents-prop};
 ghost use Rattle.volume.specs.Formed.{IsFormed};
 ghost use Rattle.volume.specs.Known.{AreKnownNodes, IsServing};
-ghost use Rattle.volume.specs.KnownProps.{AreKnownNodes-prop, IsFormed-prop};
+ghost use Rattle.volume.specs.KnownProps.{AreKnownNodes-prop, IsFormed-prop, IsServed-prop};
 
 use crate::fault::{MountFault, VolumeFault};
 use crate::load::load;
@@ -22,6 +20,7 @@ use crate::store::Store;
 use disk::Device;
 use freemap::SharedBitmap;
 use journal::{CACHED_SECTORS, Journal};
+use layout::versions::VersionNumber;
 use model_tree::limits::Limits;
 use model_tree::seats::Seats;
 use node_table::{CachedNode, Table};
@@ -37,20 +36,22 @@ use std::num::NonZeroUsize;
 pub struct Volume<D: Device> {
     pub(crate) alloc: Global,
     pub(crate) store: Store<D>,
+    pub(crate) version: VersionNumber,
     pub(crate) limits: Limits,
     run: u32,
     pub(crate) table: Table,
     pub(crate) places: SharedBitmap,
     pub(crate) parents: Parents,
     ghost bounded: { run < 2 ^ 32 },
-    ghost sized: { IsTrue (is_size (log_of store.journal).size limits.nodes) },
-    ghost placed: { (log_of store.journal).area ≡ log_at_start (log_of store.journal).size },
-    ghost limited: { limits ≡ limits_of (log_of store.journal).size limits.nodes },
+    ghost served: { IsServed version } by { IsServed-prop version },
+    ghost sized: { IsTrue (size_by version (log_of store.journal).size limits.nodes) },
+    ghost placed: { (log_of store.journal).area ≡ log_by version (log_of store.journal).size },
+    ghost limited: { limits ≡ limits_by version (log_of store.journal).size limits.nodes },
     ghost formed: { IsFormed limits (stamp (run + 1) 0) (tree_without_data table) } by { IsFormed-prop limits (stamp (run + 1) 0) (tree_without_data table) },
-    ghost known: { AreKnownNodes (log_of store.journal).size limits.nodes table places } by { AreKnownNodes-prop (log_of store.journal).size limits.nodes table places },
+    ghost known: { AreKnownNodes (data_end_by version (log_of store.journal).size) limits.nodes table places } by { AreKnownNodes-prop (data_end_by version (log_of store.journal).size) limits.nodes table places },
     ghost named: { AreParents table parents } by { AreParents-prop table parents },
     ghost serves: { D.keeps_word → (log_of store.journal).is_down ≡ false
-        → ∥ IsServing (log_of store.journal) limits.nodes run table ∥₁ },
+        → ∥ IsServing version (log_of store.journal) limits.nodes run table ∥₁ },
 }
 
 /// A volume that was mounted, and the seats that it keeps.
@@ -79,7 +80,7 @@ impl<D: Device> Volume<D> {
     ghost use Rattle.model_tree.specs.Seats.SeatViews.{seats_view};
     ghost use Rattle.volume.specs.Changes.{IsTree, Stays, ending_of};
     ghost use Rattle.volume.specs.Formed.{ShowsTree};
-    ghost use Rattle.volume.specs.VolumeState.{IsJustMounted, KeepsRecent, MakesAtMost};
+    ghost use Rattle.volume.specs.VolumeState.{IsJustMounted, KeepsRecent, MakesAtMost, checkpoint_cost, flush_cost};
     ghost use Rattle.volume.specs.Loads.{HoldsBase};
     ghost use Rattle.volume.specs.MountAnswers.{FindsSeats, MountGivesBack, ComesBack};
     ghost use Rattle.volume.specs.Mounts.{IsVolumeOf, IsAtRest, HasBegun, IsNotBegun};
@@ -146,7 +147,8 @@ impl<D: Device> Volume<D> {
             Ok(found) => found,
             Err(fault) => return Err(Unmounted { fault, device }),
         };
-        match Journal::mount_cached(alloc, device, cached.unwrap_or(own)) {
+        let area = found.version.log_area(found.sectors);
+        match Journal::mount_in(alloc, device, area, cached.unwrap_or(own)) {
             Ok(journal) => Volume::begin(alloc, journal, found),
             Err(refused) => Err(Unmounted {
                 fault: refused.fault.into(),
@@ -162,7 +164,7 @@ impl<D: Device> Volume<D> {
         found: Superblock,
     ) -> Result<Mounted<D>, Unmounted<D>>
         requires volume { IsVolumeOf (log_of journal).size found }
-        requires rests { IsAtRest (log_of journal) }
+        requires rests { IsAtRest found.version (log_of journal) }
         requires base { D.keeps_word → HoldsBase found (log_of journal) }
         ensures new { IfOk result (λ mounted.
             IsJustMounted (log_of journal).size (volume_state mounted.volume)) }
@@ -195,7 +197,8 @@ impl<D: Device> Volume<D> {
                 volume: Volume {
                     alloc,
                     store,
-                    limits: Limits::of_volume(found.sectors as usize, found.nodes as usize),
+                    version: found.version.served(),
+                    limits: found.version.limits(found.sectors, found.nodes),
                     run: found.run + 1,
                     table: loaded.table,
                     places: loaded.places,
@@ -235,11 +238,18 @@ impl<D: Device> Volume<D> {
         self.store.journal.device()
     }
 
+    /// The version in which the volume is served.
+    pub fn version(&self) -> VersionNumber
+        ensures { result ≡ (volume_state self.now).version }
+    {
+        self.version
+    }
+
     /// The limits of the volume. They never change, even if it is down.
     pub fn limits(&self) -> &Limits
         ensures limits { result.now ≡ (volume_state self.now).limits }
-        ensures sized { result.now
-            ≡ limits_of (volume_state self.now).sectors (volume_state self.now).limits.nodes }
+        ensures sized { result.now ≡ limits_by (volume_state self.now).version
+            (volume_state self.now).sectors (volume_state self.now).limits.nodes }
     {
         &self.limits
     }
@@ -274,8 +284,8 @@ impl<D: Device> Volume<D> {
             (IsTree (volume_state self.old) (volume_state self.old).tree) (ending_of result) }
         ensures shows { OnOk result (ShowsTree D.keeps_word (volume_state self.old).tree
             (volume_state self.new).tree) }
-        ensures brief { D.keeps_word → MakesAtMost 198 (volume_state self.old)
-            (volume_state self.new) }
+        ensures brief { D.keeps_word → MakesAtMost (flush_cost (volume_state self.old).version (volume_state self.old).sectors)
+            (volume_state self.old) (volume_state self.new) }
         // If it fails
         ensures down { IsErrOf result VolumeFault.Down ↔ ((volume_state self.old).is_down ≡ true) }
         ensures refuses { IfErr result (λ fault.
@@ -299,8 +309,8 @@ impl<D: Device> Volume<D> {
             (volume_state self.new).tree) }
         ensures recent { D.keeps_word → OnOk result
             (KeepsRecent (volume_state self.old) (volume_state self.new)) }
-        ensures brief { D.keeps_word → MakesAtMost 99 (volume_state self.old)
-            (volume_state self.new) }
+        ensures brief { D.keeps_word → MakesAtMost (checkpoint_cost (volume_state self.old).version (volume_state self.old).sectors)
+            (volume_state self.old) (volume_state self.new) }
         // If it fails
         ensures down { IsErrOf result VolumeFault.Down ↔ ((volume_state self.old).is_down ≡ true) }
         ensures refuses { IfErr result (λ fault.

@@ -7,6 +7,7 @@ pub mod NumberLaws
 pub mod RunLaws
 pub mod SeatingLaws
 pub mod SectorLaws
+pub mod SpareLaws
 pub mod StampLaws
 pub mod TableLaws
 pub mod TailLaws

@@ -1,6 +1,7 @@
 -- What the sectors of seats hold, and which seats a volume may keep.
-use Rattle.std.proofs.Common.{◌≡◌, ◌<◌, ◌+◌, ◌-◌, ◌*◌, ◌/◌, ◌%◌, ℕ, zero, suc, Bool, true, false, List, [], ◌∷◌, Option, Some, None, if◌then◌else◌, length, get_or, drop, take, map, is_some, refl, sym, ap, ap₂, subst, ◌∙◌, arith}
-use Rattle.std.proofs.lemmas.Bool.{false≢true}
+use Rattle.std.proofs.Common.{◌≡◌, ◌≤◌, ◌<◌, ◌+◌, ◌-◌, ◌*◌, ◌/◌, ◌%◌, ◌^◌, ℕ, zero, suc, Bool, true, false, List, [], ◌∷◌, Option, Some, None, if◌then◌else◌, length, get_or, drop, take, map, is_some, eqb, refl, sym, ap, ap₂, subst, ◌∙◌, arith}
+use Rattle.std.specs.Prelude.{IsTrue}
+use Rattle.std.proofs.lemmas.Bool.{and_parts, eqb-true, false≢true}
 use Rattle.std.proofs.lemmas.List.{ext_get_or, get_or-map, length-map, length-drop, take_all, drop-map}
 use Rattle.std.proofs.Math.Seq.{drop-cons}
 use Rattle.disk.specs.Moments.{Image}
@@ -8,12 +9,16 @@ use Rattle.model_tree.specs.declared.seats.Seat as seats
 use Rattle.model_tree.specs.Seats.SeatViews.{place_view}
 use Rattle.model_tree.specs.Seats.Seats.{Seat, Seats, SeatsApart, has_seat, is_seat_of, no_seats, seat_of}
 use Rattle.model_tree.proofs.Facts.BytesLaws.{bytes_same}
-use Rattle.seats.specs.Reading.{SeatsReadBack}
-use Rattle.seats.specs.Encoding.{ArePlaces, IsSeatPlace, seat_sector}
+use Rattle.seats.specs.Encoding.{ArePlaces, HoldPlace, IsSeatPlace, is_determined, seat_sector}
 use Rattle.directory.proofs.Places.{bytes_eq-true}
 use Rattle.sector.specs.Written.{each_at}
-use Rattle.layout.specs.Stands.{HoldSeats}
-use Rattle.volume_load.specs.Seating.{AreMade, HoldPlace, IsOfRuns}
+use Rattle.layout.specs.Stands.{HoldSeats, IsNumber, frees_whole, seats_from, size_by}
+use Rattle.layout.specs.declared.versions.VersionNumber.{VersionNumber}
+use Rattle.layout.specs.declared.versions.VersionNumber.TheVariants as numbers
+use Rattle.layout.proofs.FirstLaws.{sized_parts}
+use Rattle.layout.proofs.LargeParts.{seats_45}
+use Rattle.layout.proofs.SeatLaws.{is_seat, seats_held}
+use Rattle.volume_load.specs.Seating.{AreMade, IsOfRuns, at_place}
 
 -- The places that the code holds
 
@@ -28,18 +33,34 @@ count_viewed places = length-map places place_view
 
 -- The sectors of all places hold each place
 
-pub hold_one : (image : Image) (seats : Seats) (place : ℕ) → place < 5 → HoldSeats image seats → HoldPlace image place (get_or seats place None)
-hold_one image seats place few holds k h =
-    let at : (9 * place + k) % 9 ≡ k = omega arith in
-    let its : (9 * place + k) / 9 ≡ place = omega arith in
-    holds (9 * place + k) (omega arith) ∙ ap₂ (λ (n p : ℕ). seat_sector n (get_or seats p None)) at its
+module _ (number : VersionNumber) (image : Image) where
+  pub hold_one : (seats : Seats) (place : ℕ) → place < 5 → HoldSeats number image seats → HoldPlace (frees_whole number) (at_place (seats_from number) image place) (get_or seats place None)
+  hold_one seats place few holds k h is =
+      let at : (9 * place + k) % 9 ≡ k = omega arith in
+      let its : (9 * place + k) / 9 ≡ place = omega arith in
+      let whole = ap₂ (λ (n p : ℕ). is_determined (frees_whole number) n (get_or seats p None)) at its in
+      holds (9 * place + k) (is_seat number (9 * place + k) seats (omega arith) (whole ∙ is)) ∙ ap₂ (λ (n p : ℕ). seat_sector n (get_or seats p None)) at its
+
+  -- so they hold at most one list of seats
+  pub one_seats : (a b : Seats) → ArePlaces a → ArePlaces b → HoldSeats number image a → HoldSeats number image b → a ≡ b
+  one_seats a b first second holds other = sym (seats_held number a image first holds) ∙ seats_held number b image second other
 
 pub place_of : (seats : Seats) (place : ℕ) → place < 5 → ArePlaces seats → IsSeatPlace (get_or seats place None)
 place_of seats place few are = each_at IsSeatPlace seats place None are.each (omega (arith, are.five))
 
--- so they hold at most one list of seats
-pub one_seats : SeatsReadBack → (image : Image) (a b : Seats) → ArePlaces a → ArePlaces b → HoldSeats image a → HoldSeats image b → a ≡ b
-one_seats back image a b first second holds other = sym (back a (λ n. image (100 + n)) first holds) ∙ back b (λ n. image (100 + n)) second other
+-- they lie within the volume
+pub seats_within : (number : VersionNumber) (size nodes : ℕ) → IsNumber number → IsTrue (size_by number size nodes) → seats_from number + 45 ≤ size
+seats_within numbers.One size nodes is sized = omega (arith, (let parts = sized_parts size nodes sized in parts.room))
+seats_within numbers.Two size nodes is sized = omega (arith, (let parts = sized_parts size nodes sized in parts.room))
+seats_within (numbers.Three s) size nodes is sized =
+    let both = and_parts (eqb s.geometry.sectors size) (eqb s.geometry.nodes nodes) sized in
+    omega (arith, eqb-true s.geometry.sectors size both.0, is.fits.room, seats_45 s.geometry is.fits)
+
+-- and their sectors have numbers of four bytes
+pub seats_fit : (number : VersionNumber) → IsNumber number → seats_from number + 45 < 2 ^ 32
+seats_fit numbers.One is = omega arith
+seats_fit numbers.Two is = omega arith
+seats_fit (numbers.Three s) is = omega (arith, is.fits.room, is.fits.sectors, seats_45 s.geometry is.fits)
 
 -- Seats of distinct sessions
 

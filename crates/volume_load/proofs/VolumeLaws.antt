@@ -1,5 +1,5 @@
 -- A whole volume.
-use Rattle.std.proofs.Common.{◌≡◌, ◌↔◌, ◌≤◌, ◌<◌, ◌+◌, ◌-◌, ◌^◌, ℕ, Bool, List, Option, Some, None, get_or, refl, sym, ap, subst, ◌∙◌, arith, inl, inr, lt-ltb, le-ltb}
+use Rattle.std.proofs.Common.{◌≡◌, ◌≤◌, ◌<◌, ◌+◌, ◌-◌, ◌^◌, ℕ, Bool, List, Option, Some, None, get_or, refl, sym, ap, subst, ◌∙◌, arith, inl, inr, lt-ltb, le-ltb}
 use Rattle.std.proofs.lemmas.Bool.{cases_lt}
 use Rattle.std.proofs.lemmas.List.{ext_get_or, get_or_past}
 use Rattle.disk.specs.Moments.{Image}
@@ -11,59 +11,31 @@ use Rattle.layout.specs.Laid.{AreLaid, AreNumbered}
 use Rattle.layout.specs.Marks.{named, mark_in, mark_by}
 use Rattle.layout.specs.declared.versions.Marking.{Marking}
 use Rattle.layout.specs.declared.versions.Marking.TheVariants.{InSectors, AsNamed}
-use Rattle.layout.specs.declared.versions.VersionNumber.TheVariants.{One, Two}
-use Rattle.layout.specs.Stands.{marked_by, HoldSeats, Version, AreKept, HaveForms, IsLaid, IsMark, MayHaveSeats, mark_held, version_by, with_region}
+use Rattle.layout.specs.Stands.{marked_by, HoldSeats, AreKept, HaveForms, IsLaid, IsMark, IsNumber, MayHaveSeats, data_end_by, form_by, mark_held, marking_by, version_by}
 use Rattle.layout.specs.declared.versions.VersionNumber.{VersionNumber}
-use Rattle.model_tree.specs.Seats.Seats.{Seats, no_seats}
+use Rattle.model_tree.specs.Seats.Seats.{Seats}
 use Rattle.layout.proofs.CachedNodeLaws.{cached_nodes-back}
+use Rattle.layout.proofs.MarkOnce.{one_mark}
 use Rattle.layout.proofs.MarkProofs.{mark-back, each_mark, marks_laid}
 use Rattle.volume_load.specs.CachedNodes.{FindsPlace, IsFound, CanHold}
-use Rattle.volume_load.specs.Sectors.{AreBits, AreSpare, HaveBits, ShowMarks}
+use Rattle.volume_load.specs.Sectors.{AreBits, AreSpare, HaveBits, ShowMarks, zeros_from}
 use Rattle.volume_load.specs.Volumes.{AreFew, IsRead}
 use Rattle.volume_load.proofs.MarkingLaws.{most-in}
-use Rattle.volume_load.proofs.MigrationLaws.{mark_fits, one_mark, mark_there, same-form}
-use Rattle.volume_load.proofs.MigrationLaws.{spare_there}
+use Rattle.volume_load.proofs.SpareLaws.{mark_there, spare_there}
 use Rattle.volume_load.proofs.TableLaws.{place_held, place_known, place_found, one_place}
-
--- in versions one and two sectors hold the marks, and the data region ends with the volume
-pub version_marking : (number : VersionNumber) (mark : Option ℕ) (seats : Seats) → (version_by number mark seats).marking ≡ InSectors
-version_marking One mark seats = refl
-version_marking Two mark seats = refl
-
-pub version_end : (number : VersionNumber) (mark : Option ℕ) (seats : Seats) (size : ℕ) → (version_by number mark seats).data_end size ≡ size
-version_end One mark seats size = refl
-version_end Two mark seats size = refl
-
--- a version is the same with its own marking and its own end of the data region
-pub laid_as : (version : Version) (marking : Marking) (data_end size nodes : ℕ) (image : Image) (cached_nodes : List (Option CachedNode)) → version.marking ≡ marking → version.data_end size ≡ data_end
-    → IsLaid (with_region marking data_end version) size nodes image cached_nodes ↔ IsLaid version size nodes image cached_nodes
-laid_as version marking data_end size nodes image cached_nodes marks ends = (
-  λ laid. record {
-    laid = subst (λ (m : Marking). AreLaid nodes image (marked_by m nodes image cached_nodes) cached_nodes) (sym marks) laid.laid;
-    forms = laid.forms;
-    within = λ n past. ap (λ (m : Marking). marked_by m nodes image cached_nodes n) marks ∙ laid.within n (omega (arith, past, ends));
-    spare = laid.spare;
-  },
-  λ laid. record {
-    laid = subst (λ (m : Marking). AreLaid nodes image (marked_by m nodes image cached_nodes) cached_nodes) marks laid.laid;
-    forms = laid.forms;
-    within = λ n past. ap (λ (m : Marking). marked_by m nodes image cached_nodes n) (sym marks) ∙ laid.within n (omega (arith, past, ends));
-    spare = laid.spare;
-  },
-)
 
 -- Cached nodes that are laid can be held
 
-pub laid_can : (word : Type 0) (marking : Marking) (data_end : ℕ) (number : VersionNumber) (mark : Option ℕ) (seats : Seats) (image : Image) (size nodes count : ℕ) (cached_nodes : List (Option CachedNode)) → data_end ≡ 148 + nodes + count → IsLaid (with_region marking data_end (version_by number mark seats)) size nodes image cached_nodes → AreFew cached_nodes
-    → CanHold word (version_by number mark no_seats).form image nodes count cached_nodes
-laid_can word marking data_end number mark seats image size nodes count cached_nodes sized laid few = record {
+laid_can : (word : Type 0) (number : VersionNumber) (mark : Option ℕ) (seats : Seats) (image : Image) (size nodes count : ℕ) (cached_nodes : List (Option CachedNode)) → data_end_by number size ≡ 148 + nodes + count → IsLaid (version_by number mark seats) size nodes image cached_nodes → AreFew cached_nodes
+    → CanHold word (form_by number mark) image nodes count cached_nodes
+laid_can word number mark seats image size nodes count cached_nodes sized laid few = record {
   many = laid.laid.count;
-  each = λ place h. place_found word ((version_by number mark no_seats).form place) image place (get_or cached_nodes place None) (λ cached is. laid.forms place cached is ∙ ap (λ (f : ℕ → Form). f place) (same-form number mark seats no_seats)) (λ cached is. few place cached is)
+  each = λ place h. place_found word (form_by number mark place) image place (get_or cached_nodes place None) (λ cached is. laid.forms place cached is) (λ cached is. few place cached is)
       (laid.laid.held place h);
-  once = λ n. elim (cases_lt 0 (marked_by marking nodes image cached_nodes n)) [
+  once = λ n. elim (cases_lt 0 (marked_by (marking_by number) nodes image cached_nodes n)) [
     | inl some ↦
         let low = laid.laid.behind n some in
-        elim (cases_lt n data_end) [
+        elim (cases_lt n (data_end_by number size)) [
           | inl high ↦ omega (arith, laid.laid.marks n, laid.laid.once n, most-in (148 + nodes) count n low (omega arith))
           | inr past ↦ absurd (let none = laid.within n past in omega arith)
         ]
@@ -72,18 +44,22 @@ laid_can word marking data_end number mark seats image size nodes count cached_n
 }
 
 -- by the one mark that is there
-pub record LaidHere (marking : Marking) (data_end : ℕ) (number : VersionNumber) (mark : Option ℕ) (seats : Seats) (image : Image) (size nodes : ℕ) (cached_nodes : List (Option CachedNode)) : Type 0 where
+pub record LaidHere (number : VersionNumber) (mark : Option ℕ) (seats : Seats) (image : Image) (size nodes : ℕ) (cached_nodes : List (Option CachedNode)) : Type 0 where
   pub may : MayHaveSeats number mark seats
-  pub laid : IsLaid (with_region marking data_end (version_by number mark seats)) size nodes image cached_nodes
+  pub laid : IsLaid (version_by number mark seats) size nodes image cached_nodes
 
-pub laid_here : (marking : Marking) (data_end : ℕ) (number : VersionNumber) (mark other : Option ℕ) (seats : Seats) (image : Image) (size nodes : ℕ) (cached_nodes : List (Option CachedNode)) → nodes < 2 ^ 32 → IsMark number nodes mark → image 147 ≡ mark_held mark → IsMark number nodes other → MayHaveSeats number other seats
-    → IsLaid (with_region marking data_end (version_by number other seats)) size nodes image cached_nodes → LaidHere marking data_end number mark seats image size nodes cached_nodes
-laid_here marking data_end number mark other seats image size nodes cached_nodes small is there one may laid =
-    let same : other ≡ mark = one_mark other mark (mark_fits number nodes other small one) (mark_fits number nodes mark small is) (sym (mark_there number other seats image may laid.spare) ∙ there) in
-    record {
-      may = subst (λ (m : Option ℕ). MayHaveSeats number m seats) same may;
-      laid = subst (λ (m : Option ℕ). IsLaid (with_region marking data_end (version_by number m seats)) size nodes image cached_nodes) same laid;
-    }
+module _ (number : VersionNumber) (mark other : Option ℕ) (seats : Seats) (image : Image) (size nodes : ℕ) (cached_nodes : List (Option CachedNode)) (small : nodes < 2 ^ 32) (is : IsMark number nodes mark) (there : image 147 ≡ mark_held mark) (one : IsMark number nodes other) (may : MayHaveSeats number other seats)
+    (laid : IsLaid (version_by number other seats) size nodes image cached_nodes) where
+  pub laid_here : LaidHere number mark seats image size nodes cached_nodes
+  laid_here =
+      let same : other ≡ mark = one_mark number nodes other mark small one is (sym (mark_there number nodes other seats image one laid.spare) ∙ there) in
+      record {
+        may = subst (λ (m : Option ℕ). MayHaveSeats number m seats) same may;
+        laid = subst (λ (m : Option ℕ). IsLaid (version_by number m seats) size nodes image cached_nodes) same laid;
+      }
+
+  pub can_here : (word : Type 0) (count : ℕ) → data_end_by number size ≡ 148 + nodes + count → AreFew cached_nodes → CanHold word (form_by number mark) image nodes count cached_nodes
+  can_here word count sized few = laid_can word number mark seats image size nodes count cached_nodes sized laid_here.laid few
 
 -- and are those that were found
 pub one_table : (word : Type 0) (form : ℕ → Form) (image : Image) (nodes count : ℕ) (cached_nodes others : List (Option CachedNode)) (places : List Bool) → word → IsFound word form image nodes count cached_nodes places → CanHold word form image nodes count others → cached_nodes ≡ others
@@ -128,38 +104,38 @@ marks_are InSectors word form image nodes count cached_nodes places small found 
     marks_laid nodes count image places (small refl) (record { count_is = found.len; low_shows = shown.0; high_shows = shown.1 })
 marks_are AsNamed word form image nodes count cached_nodes places small found shown = λ n. sym (found.marks n)
 
-module _ (word : Type 0) (marking : Marking) (data_end : ℕ) (number : VersionNumber) (run : ℕ) (mark : Option ℕ) (seats : Seats) (image : Image) (size nodes count : ℕ) (cached_nodes : List (Option CachedNode)) (places : List Bool) (sized : data_end ≡ 148 + nodes + count) (small : marking ≡ InSectors → count ≤ 65536) (marked : IsMark number nodes mark) (may : MayHaveSeats number mark seats) (keeps : AreKept run seats)
-    (found : IsFound word (version_by number mark no_seats).form image nodes count cached_nodes places) (apart : AreNumbered cached_nodes) (shown : word → ShowMarks marking image places) (there : word → image 147 ≡ mark_held mark) (holds : word → HoldSeats image seats) (spare : word → AreSpare image) where
+module _ (word : Type 0) (number : VersionNumber) (run : ℕ) (mark : Option ℕ) (seats : Seats) (image : Image) (size nodes count : ℕ) (cached_nodes : List (Option CachedNode)) (places : List Bool) (is_number : IsNumber number) (sized : data_end_by number size ≡ 148 + nodes + count) (small : marking_by number ≡ InSectors → count ≤ 65536) (marked : IsMark number nodes mark) (may : MayHaveSeats number mark seats) (keeps : AreKept run seats)
+    (found : IsFound word (form_by number mark) image nodes count cached_nodes places) (apart : AreNumbered cached_nodes) (shown : word → ShowMarks (marking_by number) image places) (there : word → image 147 ≡ mark_held mark) (holds : word → HoldSeats number image seats) (spare : word → AreSpare (zeros_from number) image) where
   known : AreCached nodes (mark_by (148 + nodes) places) cached_nodes
   known =
       let each = each_mark (148 + nodes) places 0 in
       record {
         count = found.many;
-        each = λ place h. place_known word ((version_by number mark no_seats).form place) image place (get_or cached_nodes place None) (found.each place h);
+        each = λ place h. place_known word (form_by number mark place) image place (get_or cached_nodes place None) (found.each place h);
         apart = apart;
         marks = λ n. sym (found.marks n);
         behind = each.behind;
         once = each.once;
       }
 
-  same : word → (n : ℕ) → marked_by marking nodes image cached_nodes n ≡ mark_by (148 + nodes) places n
-  same w = marks_are marking word (version_by number mark no_seats).form image nodes count cached_nodes places small found (shown w)
+  same : word → (n : ℕ) → marked_by (marking_by number) nodes image cached_nodes n ≡ mark_by (148 + nodes) places n
+  same w = marks_are (marking_by number) word (form_by number mark) image nodes count cached_nodes places small found (shown w)
 
-  laid : word → AreLaid nodes image (marked_by marking nodes image cached_nodes) cached_nodes
+  laid : word → AreLaid nodes image (marked_by (marking_by number) nodes image cached_nodes) cached_nodes
   laid w =
       let each = each_mark (148 + nodes) places 0 in
       record {
         count = found.many;
-        held = λ place h. place_held word ((version_by number mark no_seats).form place) image place (get_or cached_nodes place None) w (found.each place h);
+        held = λ place h. place_held word (form_by number mark place) image place (get_or cached_nodes place None) w (found.each place h);
         apart = apart;
         marks = λ n. sym (found.marks n) ∙ sym (same w n);
         behind = λ n some. each.behind n (omega (arith, same w n));
         once = λ n. omega (arith, same w n, each.once n);
       }
 
-  found_at : (place : ℕ) (cached : CachedNode) → get_or cached_nodes place None ≡ Some cached → FindsPlace word ((version_by number mark no_seats).form place) image place (Some cached)
+  found_at : (place : ℕ) (cached : CachedNode) → get_or cached_nodes place None ≡ Some cached → FindsPlace word (form_by number mark place) image place (Some cached)
   found_at place cached is = elim (cases_lt place nodes) [
-    | inl h ↦ subst (FindsPlace word ((version_by number mark no_seats).form place) image place) is (found.each place h)
+    | inl h ↦ subst (FindsPlace word (form_by number mark place) image place) is (found.each place h)
     | inr past ↦ absurd (none_some cached (sym (get_or_past cached_nodes place None (omega (arith, found.many))) ∙ is))
   ]
     where
@@ -171,9 +147,9 @@ module _ (word : Type 0) (marking : Marking) (data_end : ℕ) (number : VersionN
   few place cached is = let at = found_at place cached is in let rest = at.rest in let blocks = rest.in_blocks in blocks.few
 
   forms : HaveForms (version_by number mark seats) cached_nodes
-  forms place cached is = let at = found_at place cached is in at.form ∙ ap (λ (f : ℕ → Form). f place) (same-form number mark no_seats seats)
+  forms place cached is = let at = found_at place cached is in at.form
 
-  pub is_read : IsRead word size nodes marking data_end number run mark seats image cached_nodes places
+  pub is_read : IsRead word size nodes number run mark seats image cached_nodes places
   is_read = record {
     marked = marked;
     may = may;
@@ -186,7 +162,7 @@ module _ (word : Type 0) (marking : Marking) (data_end : ℕ) (number : VersionN
       laid = laid w;
       forms = forms;
       within = λ n h. same w n ∙ (let each = each_mark (148 + nodes) places 0 in each.within n (omega (arith, found.len)));
-      spare = spare_there number mark seats image may keeps.places.five (there w) (holds w) (spare w);
+      spare = spare_there number nodes mark seats image is_number marked may keeps.places.five (there w) (holds w) (spare w);
     };
     read = λ w. let all = laid w in sym (cached_nodes-back image nodes cached_nodes found.many all.held);
   }

@@ -1,14 +1,13 @@
 -- What is read of the seats.
-use Rattle.std.specs.Prelude.{◌≡◌, ◌≤◌, ◌<◌, ◌+◌, ◌*◌, ◌⊎◌, ℕ, Bool, true, List, Option, None, Some}
+use Rattle.std.specs.Prelude.{◌≡◌, ◌≤◌, ◌+◌, ◌*◌, ◌⊎◌, ℕ, Bool, true, List, Option, None, Some}
 use Rattle.std.specs.List.{AllByRecursion}
 use Rattle.disk.specs.Moments.{Image}
 use Rattle.layout.specs.Stands.{AreKept}
 use Rattle.model_tree.specs.Seats.Seats.{Seat, Seats, no_seats, run_of}
-use Rattle.seats.specs.Encoding.{seat_sector}
 
--- the nine sectors of a place encode its seat, or that it is free
-abbrev pub HoldPlace : Image → (place : ℕ) → Option Seat → Type 0
-HoldPlace image place seat = (k : ℕ) → k < 9 → image (100 + (9 * place + k)) ≡ seat_sector k seat
+-- sector k of the nine of a place, if the seats begin at sector `first`
+abbrev pub at_place : (first : ℕ) → Image → (place k : ℕ) → List ℕ
+at_place first image place k = image (first + (9 * place + k))
 
 -- a session with this id was made in one of the runs up to `run`
 abbrev pub IsOfRuns : (run : ℕ) → (id : List ℕ) → Type 0

@@ -5,13 +5,22 @@ use Rattle.freemap.specs.Places.{ShowsPlaces, bit_of, mark_of}
 use Rattle.disk.specs.Calls.{zero_sector}
 use Rattle.layout.specs.declared.versions.Marking.{Marking}
 use Rattle.layout.specs.declared.versions.Marking.TheVariants.{InSectors, AsNamed}
+use Rattle.layout.specs.declared.versions.VersionNumber.{VersionNumber}
+use Rattle.layout.specs.declared.versions.VersionNumber.TheVariants.{One, Two, Three}
 
 abbrev pub AreZeroFrom : List ℕ → (from : ℕ) → Type 0
 AreZeroFrom content from = (at : ℕ) → from ≤ at → slice_index content at ≡ 0
 
--- the sectors between the seats and the mark of a migration are zero
-abbrev pub AreSpare : Image → Type 0
-AreSpare image = (n : ℕ) → 145 ≤ n → n < 147 → image n ≡ zero_sector
+-- the first of the zero sectors before the mark of a migration: behind the seats or, in version 3,
+-- which has them at its end, where the bitmap would be
+abbrev pub zeros_from : VersionNumber → ℕ
+zeros_from One = 145
+zeros_from Two = 145
+zeros_from (Three s) = 98
+
+-- the sectors from `first` up to the mark are zero
+abbrev pub AreSpare : (first : ℕ) → Image → Type 0
+AreSpare first image = (n : ℕ) → first ≤ n → n < 147 → image n ≡ zero_sector
 
 -- the bits of a sector are the places from `first` on
 abbrev pub AreBits : List ℕ → List Bool → (first : ℕ) → Type 0

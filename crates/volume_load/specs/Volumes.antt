@@ -2,7 +2,6 @@
 use Rattle.std.specs.Prelude.{◌≡◌, ◌≤◌, ◌+◌, ℕ, Bool, List, Option, Some, None, length}
 use Rattle.std.specs.Prelude.{slice_index_or}
 use Rattle.disk.specs.Moments.{Image}
-use Rattle.layout.specs.declared.versions.Marking.{Marking}
 use Rattle.layout.specs.declared.versions.VersionNumber.{VersionNumber}
 use Rattle.layout.specs.CachedNodes.{CachedNode, cached_nodes_in}
 use Rattle.model_tree.specs.Seats.Seats.{Seats}
@@ -10,7 +9,7 @@ use Rattle.model_tree.specs.Trees.Tree.{Tree}
 use Rattle.layout.specs.Known.{AreCached}
 use Rattle.layout.specs.Marks.{mark_by}
 use Rattle.layout.specs.Stands.{Version, AreKept, HaveForms, IsLaid, IsMark, MayHaveSeats, TreeStands}
-use Rattle.layout.specs.Stands.{version_by, with_region}
+use Rattle.layout.specs.Stands.{data_end_by, version_by}
 
 -- no node has more blocks than a file may have
 abbrev pub AreFew : List (Option CachedNode) → Type 0
@@ -21,20 +20,18 @@ AreFew cached_nodes = (place : ℕ) (cached : CachedNode) → slice_index_or cac
 -- A mark of a migration, seats that a volume with it may keep after `run` mounts, cached nodes in
 -- the forms that it gives, and marks of the whole data region that are what they name, whatever the
 -- sectors hold; and if the device keeps its word, the sectors hold this mark, these seats and these
--- cached nodes, which are those that are read from the image. The data region ends at `data_end`, and
--- `marking` says what marks its used sectors
-pub record IsRead (word : Type 0) (size nodes : ℕ) (marking : Marking) (data_end : ℕ)
-    (number : VersionNumber) (run : ℕ) (mark : Option ℕ) (seats : Seats) (image : Image)
-    (cached_nodes : List (Option CachedNode)) (places : List Bool) : Type 0 where
+-- cached nodes, which are those that are read from the image
+pub record IsRead (word : Type 0) (size nodes : ℕ) (number : VersionNumber) (run : ℕ)
+    (mark : Option ℕ) (seats : Seats) (image : Image) (cached_nodes : List (Option CachedNode))
+    (places : List Bool) : Type 0 where
   pub marked : IsMark number nodes mark
   pub may : MayHaveSeats number mark seats
   pub keeps : AreKept run seats
   pub known : AreCached nodes (mark_by (148 + nodes) places) cached_nodes
   pub forms : HaveForms (version_by number mark seats) cached_nodes
   pub few : AreFew cached_nodes
-  pub end_is : data_end ≡ 148 + nodes + length places
-  pub laid : word → IsLaid (with_region marking data_end (version_by number mark seats)) size nodes
-      image cached_nodes
+  pub end_is : data_end_by number size ≡ 148 + nodes + length places
+  pub laid : word → IsLaid (version_by number mark seats) size nodes image cached_nodes
   pub read : word → cached_nodes ≡ cached_nodes_in nodes image
 
 -- If a volume holds a tree, and its version's files have at most 16 MiB, the cached nodes that are

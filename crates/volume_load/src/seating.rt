@@ -1,38 +1,40 @@
 //! The seats of persistent sessions.
 
-ghost use Rattle.std.specs.Prelude.{◌≡◌, ◌≤◌, ◌<◌, ◌+◌, ◌*◌, ◌↔◌, ◌⊎◌, ℕ, Option, true};
+ghost use Rattle.std.specs.Prelude.{◌≡◌, ◌≤◌, ◌<◌, ◌+◌, ◌*◌, ◌^◌, ◌↔◌, ◌⊎◌, ℕ, Option, true};
 ghost use Rattle.std.specs.Prelude.{IfOk, IsErrOf, IsTrue, length, map, slice_index_or, []};
 ghost use Rattle.layout.specs.Health.{FailsOrStays};
-ghost use Rattle.layout.specs.Stands.{HoldSeats, MayHaveSeats};
+ghost use Rattle.layout.specs.Stands.{HoldSeats, IsNumber, MayHaveSeats, seats_from};
 ghost use Rattle.model_tree.specs.Seats.Seats as model;
 ghost use Rattle.model_tree.specs.Seats.Seats.{SeatsApart, AreOfRuns, has_seat, no_seats};
 ghost use Rattle.model_tree.specs.Seats.SeatViews.{place_view, seats_view};
-ghost use Rattle.volume_load.specs.Seating.{AreMade, HoldPlace, IsOfRuns, MayStand};
-ghost use Rattle.seats.specs.Encoding.{ArePlaces, IsSeatPlace};
+ghost use Rattle.volume_load.specs.Seating.{AreMade, IsOfRuns, MayStand, at_place};
+ghost use Rattle.seats.specs.Encoding.{ArePlaces, HoldPlace, IsSeatPlace};
 
 use crate::fault::ScanFault;
 use crate::sectors::fetch;
 use byteorder::{BigEndian, ByteOrder};
 use disk::SECTOR;
-use layout::places::{MARK, PLACE_SECTORS, SPARE};
+use layout::places::PLACE_SECTORS;
 use layout::sectors::Sectors;
 use layout::versions::VersionNumber;
 use model_tree::seats::{SEATS, Seat, Seats};
 use seats::read_seat;
 use std::alloc::Global;
 
-/// The sectors of a place.
+/// The sectors of a place. The seats begin at sector `first`.
 fn fetch_place<S: Sectors>(
     alloc: Global,
     sectors: &mut S,
+    first: u32,
     place: u32,
 ) -> Result<Vec<[u8; SECTOR]>, ScanFault>
     requires place { place < 5 }
-    requires within { MARK ≤ S.size (S.kept sectors.old) }
+    requires fits { first + 45 < 2 ^ 32 }
+    requires within { first + 45 ≤ S.size (S.kept sectors.old) }
     ensures count { IfOk result (λ content. length content.items ≡ 9) }
     ensures content { S.keeps_word → IfOk result (λ content. (k : ℕ) → k < 9
         → slice_index_or content.items k []
-        ≡ S.image (S.kept sectors.old) (100 + (9 * place + k))) }
+        ≡ at_place first (S.image (S.kept sectors.old)) place k) }
     ensures damaged { ¬ IsErrOf result ScanFault.Damaged }
     // It only reads
     ensures kept { S.kept sectors.new ≡ S.kept sectors.old }
@@ -41,54 +43,65 @@ fn fetch_place<S: Sectors>(
 {
     let mut content = Vec::with_capacity(alloc, PLACE_SECTORS as usize)?;
     for k in 0..PLACE_SECTORS {
-        let sector = fetch(sectors, SPARE + PLACE_SECTORS * place + k)?;
+        let sector = fetch(sectors, first + (PLACE_SECTORS * place + k))?;
         content.push(sector)?;
     }
     Ok(content)
 }
 
-/// The seat of a place, or none if it is free.
+/// The seat of a place, or none if it is free. The seats begin at sector `first`, and `whole` says
+/// whether each sector of a free place is zero.
 fn read_place<S: Sectors>(
     alloc: Global,
     sectors: &mut S,
+    first: u32,
+    whole: bool,
     place: u32,
 ) -> Result<Option<Seat>, ScanFault>
     requires place { place < 5 }
-    requires within { MARK ≤ S.size (S.kept sectors.old) }
+    requires fits { first + 45 < 2 ^ 32 }
+    requires within { first + 45 ≤ S.size (S.kept sectors.old) }
     ensures fits { IfOk result (λ seat. IsSeatPlace (place_view seat)) }
     ensures found { S.keeps_word → IfOk result (λ seat.
-        HoldPlace (S.image (S.kept sectors.old)) place (place_view seat)) }
+        HoldPlace whole (at_place first (S.image (S.kept sectors.old)) place) (place_view seat)) }
     // If it fails
     ensures damaged { S.keeps_word → IsErrOf result ScanFault.Damaged
         → (seat : Option model.Seat) → IsSeatPlace seat
-        → ¬ HoldPlace (S.image (S.kept sectors.old)) place seat }
+        → ¬ HoldPlace whole (at_place first (S.image (S.kept sectors.old)) place) seat }
     // It only reads
     ensures kept { S.kept sectors.new ≡ S.kept sectors.old }
     ensures health { FailsOrStays (S.health sectors.old) (S.health sectors.new)
         (IsErrOf result ScanFault.Device) }
 {
-    let content = fetch_place(alloc, sectors, place)?;
-    let seat = read_seat(alloc, &content)?;
+    let content = fetch_place(alloc, sectors, first, place)?;
+    let seat = read_seat(alloc, &content, whole)?;
     Ok(seat)
 }
 
 /// The seats of all places.
-fn read_places<S: Sectors>(alloc: Global, sectors: &mut S) -> Result<Seats, ScanFault>
-    requires within { MARK ≤ S.size (S.kept sectors.old) }
+fn read_places<S: Sectors>(
+    alloc: Global,
+    sectors: &mut S,
+    number: VersionNumber,
+) -> Result<Seats, ScanFault>
+    requires number { IsNumber number }
+    requires within { seats_from number + 45 ≤ S.size (S.kept sectors.old) }
     ensures fits { IfOk result (λ seats. ArePlaces (seats_view seats)) }
     ensures found { S.keeps_word → IfOk result (λ seats.
-        HoldSeats (S.image (S.kept sectors.old)) (seats_view seats)) }
+        HoldSeats number (S.image (S.kept sectors.old)) (seats_view seats)) }
     // If it fails
     ensures damaged { S.keeps_word → IsErrOf result ScanFault.Damaged → (seats : model.Seats)
-        → ArePlaces seats → ¬ HoldSeats (S.image (S.kept sectors.old)) seats }
+        → ArePlaces seats → ¬ HoldSeats number (S.image (S.kept sectors.old)) seats }
     // It only reads
     ensures kept { S.kept sectors.new ≡ S.kept sectors.old }
     ensures health { FailsOrStays (S.health sectors.old) (S.health sectors.new)
         (IsErrOf result ScanFault.Device) }
 {
+    let first = number.seats_from();
+    let whole = number.frees_whole();
     let mut places = Vec::with_capacity(alloc, SEATS)?;
     for place in 0..SEATS as u32 {
-        let seat = read_place(alloc, sectors, place)?;
+        let seat = read_place(alloc, sectors, first, whole, place)?;
         places.push(seat)?;
     }
     Ok(Seats { places })
@@ -169,29 +182,36 @@ pub(crate) fn may_keep(number: VersionNumber, mark: Option<u32>) -> bool
     ensures { (seats : model.Seats)
         → MayHaveSeats number mark seats ↔ ((result ≡ true) ⊎ (seats ≡ no_seats)) }
 {
-    matches!((number, mark), (VersionNumber::Two, None))
+    match number {
+        VersionNumber::One => false,
+        VersionNumber::Two => mark.is_none(),
+        VersionNumber::Three(_) => true,
+    }
 }
 
-/// Reads the seats of a volume that was mounted `run` times, and may keep some or none.
+/// Reads the seats of a volume of this version that was mounted `run` times, and may keep some or
+/// none.
 pub(crate) fn read_seats<S: Sectors>(
     alloc: Global,
     sectors: &mut S,
+    number: VersionNumber,
     run: u32,
     may_keep: bool,
 ) -> Result<Seats, ScanFault>
-    requires within { MARK ≤ S.size (S.kept sectors.old) }
+    requires number { IsNumber number }
+    requires within { seats_from number + 45 ≤ S.size (S.kept sectors.old) }
     ensures stands { IfOk result (λ seats. MayStand run may_keep (seats_view seats)) }
     ensures found { S.keeps_word → IfOk result (λ seats.
-        HoldSeats (S.image (S.kept sectors.old)) (seats_view seats)) }
+        HoldSeats number (S.image (S.kept sectors.old)) (seats_view seats)) }
     // If it fails
     ensures damaged { S.keeps_word → IsErrOf result ScanFault.Damaged → (seats : model.Seats)
-        → MayStand run may_keep seats → ¬ HoldSeats (S.image (S.kept sectors.old)) seats }
+        → MayStand run may_keep seats → ¬ HoldSeats number (S.image (S.kept sectors.old)) seats }
     // It only reads
     ensures kept { S.kept sectors.new ≡ S.kept sectors.old }
     ensures health { FailsOrStays (S.health sectors.old) (S.health sectors.new)
         (IsErrOf result ScanFault.Device) }
 {
-    let seats = read_places(alloc, sectors)?;
+    let seats = read_places(alloc, sectors, number)?;
     if !are_of_runs(&seats, run) || !(may_keep || is_free(&seats)) {
         return Err(ScanFault::Damaged);
     }

@@ -1,14 +1,14 @@
 //! A whole volume.
 
-ghost use Rattle.std.specs.Prelude.{◌≡◌, ◌≤◌, ◌<◌, ◌+◌, ◌*◌, ℕ, List, Option, IfOk, OnOk, IsErrOf};
+ghost use Rattle.std.specs.Prelude.{◌≡◌, ◌≤◌, ◌<◌, ◌+◌, ◌*◌, ℕ, List, Option, IfOk, OnOk, IsErrOf, IsTrue};
 ghost use Rattle.freemap.specs.Places.{ShowsPlaces};
 ghost use Rattle.layout.specs.CachedNodes as layout;
 ghost use Rattle.layout.specs.Health.{FailsOrStays};
-ghost use Rattle.layout.specs.Stands.{AreKept, IsLaid, IsMark, MayHaveSeats, version_by};
-ghost use Rattle.layout.specs.Stands.{with_region};
+ghost use Rattle.layout.specs.Stands.{AreKept, IsLaid, IsMark, IsNumber, MayHaveSeats};
+ghost use Rattle.layout.specs.Stands.{data_end_by, marking_by, size_by, version_by};
 ghost use Rattle.model_tree.specs.Seats.Seats as model;
 ghost use Rattle.model_tree.specs.Seats.SeatViews.{seats_view};
-ghost use Rattle.volume_load.specs.Sectors.{AreBits, AreSpare, HaveBits, ShowMarks};
+ghost use Rattle.volume_load.specs.Sectors.{AreBits, AreSpare, HaveBits, ShowMarks, zeros_from};
 ghost use Rattle.volume_load.specs.Volumes.{IsRead, AreFew};
 
 use crate::fault::ScanFault;
@@ -89,19 +89,30 @@ fn check_bitmap<S: Sectors>(
     Ok(())
 }
 
-/// Checks that the sectors between the seats and the mark are zero.
-fn check_spare<S: Sectors>(sectors: &mut S) -> Result<(), ScanFault>
+/// The first of the zero sectors before the mark: behind the seats or, in version 3, where the
+/// bitmap would be.
+fn zeros_from(number: VersionNumber) -> u32
+    ensures { result ≡ zeros_from number }
+{
+    match number {
+        VersionNumber::One | VersionNumber::Two => BEHIND_SEATS,
+        VersionNumber::Three(_) => BITMAP,
+    }
+}
+
+/// Checks that the sectors from this one up to the mark are zero.
+fn check_spare<S: Sectors>(sectors: &mut S, first: u32) -> Result<(), ScanFault>
     requires within { MARK ≤ S.size (S.kept sectors.old) }
-    ensures found { OnOk result (S.keeps_word → AreSpare (S.image (S.kept sectors.old))) }
+    ensures found { OnOk result (S.keeps_word → AreSpare first (S.image (S.kept sectors.old))) }
     // If it fails
     ensures damaged { S.keeps_word → IsErrOf result ScanFault.Damaged
-        → ¬ AreSpare (S.image (S.kept sectors.old)) }
+        → ¬ AreSpare first (S.image (S.kept sectors.old)) }
     // It only reads
     ensures kept { S.kept sectors.new ≡ S.kept sectors.old }
     ensures health { FailsOrStays (S.health sectors.old) (S.health sectors.new)
         (IsErrOf result ScanFault.Device) }
 {
-    for n in BEHIND_SEATS..MARK {
+    for n in first..MARK {
         let content = fetch(sectors, n)?;
         if !is_zero_from(&content, 0) {
             return Err(ScanFault::Damaged);
@@ -110,10 +121,21 @@ fn check_spare<S: Sectors>(sectors: &mut S) -> Result<(), ScanFault>
     Ok(())
 }
 
-/// Reads a volume of `nodes` nodes, of this version and mounted `run` times, as its superblock says:
-/// the mark of its migration, the seats that it keeps, the cached nodes that its sectors hold, each
-/// in the form of its place, and the places of the data region that these use. The data region ends
-/// at sector `data_end`, and `marking` says what marks its used sectors.
+/// How many sectors the data region has.
+fn data_sectors(number: VersionNumber, size: u32, nodes: u32) -> u32
+    requires number { IsNumber number }
+    requires sized { IsTrue (size_by number size nodes) }
+    ensures count { data_end_by number size ≡ NODES + nodes + result }
+    ensures within { NODES + nodes + result ≤ size }
+    ensures few { marking_by number ≡ Marking.InSectors → result ≤ 2 * SECTOR_PLACES }
+{
+    number.data_end(size) - (NODES + nodes)
+}
+
+/// Reads a volume of `size` sectors and `nodes` nodes, of this version and mounted `run` times, as
+/// its superblock says: the mark of its migration, the seats that it keeps, the cached nodes that
+/// its sectors hold, each in the form of its place, and the places of the data region that these
+/// use.
 ///
 /// # Errors
 ///
@@ -123,24 +145,23 @@ fn check_spare<S: Sectors>(sectors: &mut S) -> Result<(), ScanFault>
 pub fn read_volume<S: Sectors>(
     alloc: Global,
     sectors: &mut S,
+    size: u32,
     nodes: u32,
-    marking: Marking,
-    data_end: u32,
     number: VersionNumber,
     run: u32,
 ) -> Result<Contents, ScanFault>
-    requires region { NODES + nodes ≤ data_end }
-    requires within { data_end ≤ S.size (S.kept sectors.old) }
-    requires few { marking ≡ Marking.InSectors → data_end ≤ NODES + nodes + 2 * SECTOR_PLACES }
-    ensures found { IfOk result (λ contents. IsRead S.keeps_word (S.size (S.kept sectors.old)) nodes
-        marking data_end number run contents.mark (seats_view contents.seats)
-        (S.image (S.kept sectors.old)) contents.cached_nodes.items contents.places) }
+    requires number { IsNumber number }
+    requires size { size ≡ S.size (S.kept sectors.old) }
+    requires sized { IsTrue (size_by number size nodes) }
+    ensures found { IfOk result (λ contents. IsRead S.keeps_word size nodes number run contents.mark
+        (seats_view contents.seats) (S.image (S.kept sectors.old)) contents.cached_nodes.items
+        contents.places) }
     // If it fails
     ensures damaged { S.keeps_word → IsErrOf result ScanFault.Damaged
         → (mark : Option ℕ) (seats : model.Seats) (cached_nodes : List (Option layout.CachedNode))
         → IsMark number nodes mark → MayHaveSeats number mark seats → AreKept run seats
-        → IsLaid (with_region marking data_end (version_by number mark seats))
-        (S.size (S.kept sectors.old)) nodes (S.image (S.kept sectors.old)) cached_nodes
+        → IsLaid (version_by number mark seats) size nodes (S.image (S.kept sectors.old))
+        cached_nodes
         → ¬ AreFew cached_nodes }
     // It only reads
     ensures kept { S.kept sectors.new ≡ S.kept sectors.old }
@@ -148,14 +169,15 @@ pub fn read_volume<S: Sectors>(
         (IsErrOf result ScanFault.Device) }
 {
     let mark = read_mark(sectors, number, nodes)?;
-    let mut places = Bitmap::new(alloc, data_end - NODES - nodes)?;
+    let count = data_sectors(number, size, nodes);
+    let mut places = Bitmap::new(alloc, count)?;
     let cached_nodes = read_table(alloc, sectors, &mut places, nodes, number, mark)?;
     if !are_numbered(alloc, &cached_nodes)? {
         return Err(ScanFault::Damaged);
     }
-    check_bitmap(sectors, marking, &places)?;
-    check_spare(sectors)?;
-    let seats = read_seats(alloc, sectors, run, may_keep(number, mark))?;
+    check_bitmap(sectors, number.marking(), &places)?;
+    check_spare(sectors, zeros_from(number))?;
+    let seats = read_seats(alloc, sectors, number, run, may_keep(number, mark))?;
     Ok(Contents {
         cached_nodes,
         places,

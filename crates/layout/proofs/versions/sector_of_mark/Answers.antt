@@ -1,5 +1,5 @@
 use Rattle.std.proofs.Common.{refl}
-use Rattle.layout.specs.Stands.{mark_fields, mark_sector}
+use Rattle.layout.specs.Versions.{mark_fields, mark_sector}
 use Rattle.layout.proofs.PrefixBytes.{behind_prefix}
 use Rattle.layout.proofs.versions.sector_of_mark.Goals as goal
 

@@ -1,4 +1,5 @@
-use Rattle.layout.proofs.LargeLaws.{large_first, large_fresh, large_region}
+use Rattle.layout.proofs.LargeLaws.{large_fresh, large_region}
+use Rattle.layout.proofs.LargeParts.{large_first}
 use Rattle.layout.proofs.volumes.large.Goals as goal
 
 pub returns-clause-first : goal.returns-clause-first

@@ -1,6 +1,6 @@
 use Rattle.layout.specs.LaidProps.{TreeStands-prop}
 use Rattle.layout.proofs.FirstLaws.{one_tree}
-use Rattle.layout.proofs.KeptLaws.{one_kept}
+use Rattle.layout.proofs.OneKept.{one_kept}
 use Rattle.layout.proofs.volumes.one_tree.Goals as goal
 
 pub returns-clause-tree : goal.returns-clause-tree

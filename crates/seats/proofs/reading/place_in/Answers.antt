@@ -9,10 +9,10 @@ pub returns-then-sectors-ne83-clause-value : goal.returns-then-sectors-ne83-clau
 returns-then-sectors-ne83-clause-value c = sym (place_none (sector_of c.args.sectors.now) c.if-sectors-ne83.true)
 
 pub returns-in_err-seat-clause-err : goal.returns-in_err-seat-clause-err
-returns-in_err-seat-clause-err c = λ is place fits encoded.
+returns-in_err-seat-clause-err c = λ is whole place fits encoded.
     let p = err_from_is_err_and c.from_residual.result c.from_residual.ensures.1 in
     let fault = err_is _ _ (rw (p.1, p.2) at is) in
-    no_place (sector_of c.args.sectors.now) c.if-sectors-ne83.false (c.in_err-seat.ensures.err (ap (λ x. Err x) fault)) place fits encoded
+    no_place (sector_of c.args.sectors.now) c.if-sectors-ne83.false (c.in_err-seat.ensures.err (ap (λ x. Err x) fault)) whole place fits encoded
 
 pub returns-clause-value : goal.returns-clause-value
 returns-clause-value c =

@@ -3,7 +3,8 @@ use Rattle.tree_edits.specs.Edits.{edits_of}
 use Rattle.tree_edits.specs.Outlines.{tree_without_data}
 use Rattle.tree_edits.specs.Sizes.{names_in}
 use Rattle.tree_edits.proofs.ChangeLaws.{few_over, few_each}
-use Rattle.tree_edits.proofs.PrefixLaws.{rising_outline, few_outline, rising_behind, few_numbers}
+use Rattle.tree_edits.proofs.NamedLaws.{few_named}
+use Rattle.tree_edits.proofs.PrefixLaws.{rising_outline, rising_behind, few_numbers}
 use Rattle.tree_edits.proofs.SizeLaws.{names_there}
 use Rattle.tree_edits.proofs.room.have_few_names.Goals as goal
 use Rattle.model_tree.specs.Trees.Edit.{edited}
@@ -24,5 +25,5 @@ returns c =
     let last = rising_behind (tree_without_data cached_nodes) edits c.requires.can rising in
     sym (few_each c.args.most (edited (edits_of edits) (tree_without_data cached_nodes)) last.rises
     (few_numbers (tree_without_data cached_nodes) edits c.args.most c.requires.can rising
-    (λ number. omega (arith, c.requires.most, few_outline known.0 known.1 cached_nodes known.2 number))
+    (λ number. few_named c.args.most (tree_without_data cached_nodes) number c.requires.most)
     (λ place edit within. c.loop-edit.invariant place edit (omega (arith, within, c.loop-edit-test.false)))))

@@ -9,7 +9,8 @@ use Rattle.volume.proofs.seat_updates.updates_of.Goals as goal
 
 pub returns : goal.returns
 returns c =
+    let version = c.args.version in
     let edits = edits_view c.args.edits.now in
-    IfOk-weaker c.all_updates.result (λ (updates : Vec Update Global). updates.items ≡ updates_from 0 edits) (λ (updates : Vec Update Global). AreUpdates edits updates.items)
-    (λ updates is. subst (AreUpdates edits) (sym is) (every_transaction c.args.edits.now))
+    IfOk-weaker c.all_updates.result (λ (updates : Vec Update Global). updates.items ≡ updates_from version 0 edits) (λ (updates : Vec Update Global). AreUpdates version edits updates.items)
+    (λ updates is. subst (AreUpdates version edits) (sym is) (every_transaction version c.requires c.args.edits.now))
     c.all_updates.ensures

@@ -7,7 +7,7 @@ use Rattle.volume_load.proofs.volume.check_spare.Goals as goal
 pub returns-then-not-is_zero_from-clause-damaged : goal.returns-then-not-is_zero_from-clause-damaged
 returns-then-not-is_zero_from-clause-damaged g c = λ word is spare.
     let inv = c.loop-n.invariant in
-    let low : 145 ≤ c.loop-n.n = c.loop-n.auto.n in
+    let low : c.args.first ≤ c.loop-n.n = c.loop-n.auto.n in
     let there = subst (λ kept. g.S.Sectors.image kept c.loop-n.n ≡ zero_sector) (sym inv.kept) (spare c.loop-n.n low c.loop-n-test.true) in
     false≢true (sym c.if-not-is_zero_from.true ∙ c.is_zero_from.ensures.zero.1 (zero-all c.in_ok-content.content 0 (c.in_ok-content.ensures.content word ∙ there)))
 

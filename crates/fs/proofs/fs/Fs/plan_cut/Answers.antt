@@ -11,6 +11,7 @@ use Rattle.fs.proofs.SizePlans as plans
 use Rattle.volume.specs.Views.{volume_state}
 use Rattle.model.specs.declared.not_done.NotDone.TheVariants as refusal
 use Rattle.volume.proofs.ServeLaws.{is_err_of}
+use Rattle.volume.proofs.LimitLaws.{limited_of}
 use Rattle.fs.proofs.fs.Fs.plan_cut.Goals as goal
 
 pub returns-in_err-metadata-clause-tests : goal.returns-in_err-metadata-clause-tests
@@ -69,7 +70,7 @@ returns-clause-planned g c =
     let fs = fs_of c.args.self.now in
     let room = passed_room fs (tree_cut fs c.args.number c.args.now) (c.in_ok-stamp.ensures.tests (tree_cut fs c.args.number c.args.now)
     (resized_room fs (c.args.self.now.ready c.requires.up) c.args.number (Some 0) (touched (at c.args.number fs.volume.tree) (next_stamp fs.volume.run fs.changes) c.args.now))) in
-    plans.planned_where fs (c.args.self.now.ready c.requires.up) c.args.self.now.counted c.args.self.now.volume.limited c.args.now c.args.number c.args.cached.now
+    plans.planned_where fs (c.args.self.now.ready c.requires.up) c.args.self.now.counted (limited_of c.args.self.now.volume) c.args.now c.args.number c.args.cached.now
     c.requires.node c.requires.file c.requires.fit 0 (omega arith) c.in_ok-stamp.stamp c.in_ok-metadata.metadata c.in_ok-edits.edits.items
     c.in_ok-stamp.ensures.stamp c.in_ok-metadata.ensures c.in_ok-edits.ensures room.fit c.in_ok-stamp.ensures.left
 
@@ -77,6 +78,6 @@ pub returns-clause-after : goal.returns-clause-after
 unfolding fs_of volume_state
 returns-clause-after g c =
     let fs = fs_of c.args.self.now in
-    plans.after fs (c.args.self.now.ready c.requires.up) c.args.self.now.counted c.args.self.now.volume.limited c.args.now c.args.number c.args.cached.now
+    plans.after fs (c.args.self.now.ready c.requires.up) c.args.self.now.counted (limited_of c.args.self.now.volume) c.args.now c.args.number c.args.cached.now
     c.requires.node c.requires.file c.requires.fit 0 (omega arith) c.in_ok-stamp.stamp c.in_ok-metadata.metadata c.in_ok-edits.edits.items
     c.in_ok-stamp.ensures.stamp c.in_ok-metadata.ensures c.in_ok-edits.ensures

@@ -18,6 +18,7 @@ use Rattle.fs.specs.Making.{first_node}
 use Rattle.fs.specs.Planned.{child_metadata, list_by}
 use Rattle.volume.specs.Views.{volume_state}
 use Rattle.volume.proofs.ServeLaws.{is_err_of}
+use Rattle.volume.proofs.LimitLaws.{limited_of}
 use Rattle.fs.proofs.fs.Fs.plan_dir.Goals as goal
 
 pub returns-in_err-parent-clause-planned : goal.returns-in_err-parent-clause-planned
@@ -70,14 +71,14 @@ unfolding fs_of volume_state
 new_node-requires-clause-listed g c =
     let fs = fs_of c.args.self.now in
     laws.listed fs (c.args.self.now.ready c.requires.up) c.args.asked.parent c.in_ok-parent.parent.now
-    (laws.parent fs (c.args.self.now.ready c.requires.up) c.args.self.now.volume.limited c.args.cred.now c.args.now c.args.asked.parent c.args.asked.name.now (given_of c.args.asked.attributes)
+    (laws.parent fs (c.args.self.now.ready c.requires.up) (limited_of c.args.self.now.volume) c.args.cred.now c.args.now c.args.asked.parent c.args.asked.name.now (given_of c.args.asked.attributes)
     c.in_ok-parent.parent.now c.in_ok-parent.ensures.parent c.in_ok-parent.ensures.fit c.in_ok-parent.ensures.tests)
 
 pub plan_node-requires-clause-made : goal.plan_node-requires-clause-made
 unfolding fs_of volume_state
 plan_node-requires-clause-made g c =
     let fs = fs_of c.args.self.now in
-    laws.may fs (c.args.self.now.ready c.requires.up) c.args.self.now.volume.limited c.args.cred.now c.args.now c.args.asked.parent c.args.asked.name.now (given_of c.args.asked.attributes)
+    laws.may fs (c.args.self.now.ready c.requires.up) (limited_of c.args.self.now.volume) c.args.cred.now c.args.now c.args.asked.parent c.args.asked.name.now (given_of c.args.asked.attributes)
     c.in_ok-parent.parent.now c.in_ok-parent.ensures.parent c.in_ok-parent.ensures.fit c.in_ok-parent.ensures.tests
     c.in_ok-stamp.stamp c.in_ok-parent.settings (metadata_of c.in_ok-metadata.metadata) c.in_ok-parent.ensures.settings c.in_ok-parent.ensures.within c.in_ok-stamp.ensures.stamp c.in_ok-metadata.ensures.metadata
 
@@ -88,11 +89,11 @@ returns-in_err-stamp-clause-refused g c state on =
     let own = next_stamp fs.volume.run fs.changes in
     let settings = c.in_ok-parent.settings in
     let child = child_metadata c.args.cred.now (list_by kind.Directory c.in_ok-parent.parent.now.fields.acl settings) own c.args.now in
-    let may = laws.may fs (c.args.self.now.ready c.requires.up) c.args.self.now.volume.limited c.args.cred.now c.args.now c.args.asked.parent c.args.asked.name.now (given_of c.args.asked.attributes)
+    let may = laws.may fs (c.args.self.now.ready c.requires.up) (limited_of c.args.self.now.volume) c.args.cred.now c.args.now c.args.asked.parent c.args.asked.name.now (given_of c.args.asked.attributes)
     c.in_ok-parent.parent.now c.in_ok-parent.ensures.parent c.in_ok-parent.ensures.fit c.in_ok-parent.ensures.tests own settings child c.in_ok-parent.ensures.settings c.in_ok-parent.ensures.within refl refl in
     let told = c.in_err-stamp.ensures.tests (first_node kind.Directory 0 child) c.args.now may refl in
     let p = err_from_is_err_and c.from_residual-in_err-stamp.result c.from_residual-in_err-stamp.ensures.1 in
-    rw (p.1, p.2) (laws.late_refusal fs (c.args.self.now.ready c.requires.up) c.args.self.now.volume.limited c.args.cred.now c.args.now c.args.asked.parent c.args.asked.name.now (given_of c.args.asked.attributes)
+    rw (p.1, p.2) (laws.late_refusal fs (c.args.self.now.ready c.requires.up) (limited_of c.args.self.now.volume) c.args.cred.now c.args.now c.args.asked.parent c.args.asked.name.now (given_of c.args.asked.attributes)
     c.in_ok-parent.parent.now c.in_ok-parent.ensures.parent c.in_ok-parent.ensures.fit c.in_ok-parent.ensures.tests
     own settings child c.in_ok-parent.ensures.settings c.in_ok-parent.ensures.within refl refl state on c.in_err-stamp.field-0.0 told)
 
@@ -101,7 +102,7 @@ unfolding fs_of volume_state
 plan_node-requires-clause-room g c =
     let fs = fs_of c.args.self.now in
     c.in_ok-stamp.ensures.tests (first_node kind.Directory 0 (metadata_of c.in_ok-metadata.metadata)) c.args.now
-    (laws.may fs (c.args.self.now.ready c.requires.up) c.args.self.now.volume.limited c.args.cred.now c.args.now c.args.asked.parent c.args.asked.name.now (given_of c.args.asked.attributes)
+    (laws.may fs (c.args.self.now.ready c.requires.up) (limited_of c.args.self.now.volume) c.args.cred.now c.args.now c.args.asked.parent c.args.asked.name.now (given_of c.args.asked.attributes)
     c.in_ok-parent.parent.now c.in_ok-parent.ensures.parent c.in_ok-parent.ensures.fit c.in_ok-parent.ensures.tests
     c.in_ok-stamp.stamp c.in_ok-parent.settings (metadata_of c.in_ok-metadata.metadata) c.in_ok-parent.ensures.settings c.in_ok-parent.ensures.within c.in_ok-stamp.ensures.stamp c.in_ok-metadata.ensures.metadata) refl
 
@@ -110,10 +111,10 @@ unfolding fs_of volume_state
 returns-clause-step g c state on =
     let fs = fs_of c.args.self.now in
     let room = c.in_ok-stamp.ensures.tests (first_node kind.Directory 0 (metadata_of c.in_ok-metadata.metadata)) c.args.now
-    (laws.may fs (c.args.self.now.ready c.requires.up) c.args.self.now.volume.limited c.args.cred.now c.args.now c.args.asked.parent c.args.asked.name.now (given_of c.args.asked.attributes)
+    (laws.may fs (c.args.self.now.ready c.requires.up) (limited_of c.args.self.now.volume) c.args.cred.now c.args.now c.args.asked.parent c.args.asked.name.now (given_of c.args.asked.attributes)
     c.in_ok-parent.parent.now c.in_ok-parent.ensures.parent c.in_ok-parent.ensures.fit c.in_ok-parent.ensures.tests
     c.in_ok-stamp.stamp c.in_ok-parent.settings (metadata_of c.in_ok-metadata.metadata) c.in_ok-parent.ensures.settings c.in_ok-parent.ensures.within c.in_ok-stamp.ensures.stamp c.in_ok-metadata.ensures.metadata) refl in
-    laws.goes_on fs (c.args.self.now.ready c.requires.up) c.args.self.now.volume.limited c.args.cred.now c.args.now c.args.asked.parent c.args.asked.name.now (given_of c.args.asked.attributes)
+    laws.goes_on fs (c.args.self.now.ready c.requires.up) (limited_of c.args.self.now.volume) c.args.cred.now c.args.now c.args.asked.parent c.args.asked.name.now (given_of c.args.asked.attributes)
     c.in_ok-parent.parent.now c.in_ok-parent.ensures.parent c.in_ok-parent.ensures.fit c.in_ok-parent.ensures.tests
     c.in_ok-stamp.stamp c.in_ok-parent.settings (metadata_of c.in_ok-metadata.metadata) c.in_ok-parent.ensures.settings c.in_ok-parent.ensures.within c.in_ok-stamp.ensures.stamp c.in_ok-metadata.ensures.metadata state on
     room c.parent.inside.inode.change (ap (λ (it : CachedNode). it.fields.change) c.parent.view_is)

@@ -15,6 +15,7 @@ use Rattle.volume.specs.Edits.{edited_by}
 use Rattle.volume.specs.Views.{volume_state}
 use Rattle.model.specs.declared.not_done.NotDone.TheVariants as refusal
 use Rattle.volume.proofs.ServeLaws.{is_err_of}
+use Rattle.volume.proofs.LimitLaws.{limited_of}
 use Rattle.fs.proofs.fs.Fs.plan_move.Goals as goal
 
 pub returns-in_err-permit_rename-clause-planned : goal.returns-in_err-permit_rename-clause-planned
@@ -71,7 +72,7 @@ stamp_for-requires g c =
     let is : c.unwrap_or-stamp.result ≡ unwrap_or c.stamp_left.result 0 = search rules in
     let stamp_in = subst (λ (s : ℕ). (s ≡ next_stamp fs.volume.run fs.changes) ⊎ (s ≡ 0)) (sym is) (plans.stamp_of fs c.stamp_left.result c.stamp_left.ensures) in
     subst (AreMeasurable fs.volume.tree) (sym c.deref.ensures.value)
-    (plans.measured_edits fs (c.args.self.now.ready c.requires.up) c.args.self.now.counted c.args.self.now.volume.limited c.args.cred.now c.args.now c.args.asked c.args.moving c.get-target.result
+    (plans.measured_edits fs (c.args.self.now.ready c.requires.up) c.args.self.now.counted (limited_of c.args.self.now.volume) c.args.cred.now c.args.now c.args.asked c.args.moving c.get-target.result
     c.requires.moved c.requires.passed c.in_ok-permit_rename.ensures c.requires.other c.to.inside.names (ap (λ (it : CachedNode). it.names) c.to.view_is) c.get-target.ensures.by_stamp
     c.unwrap_or-stamp.result c.in_ok-from_metadata.from_metadata c.in_ok-to_metadata.to_metadata c.in_ok-from_metadata.ensures c.in_ok-to_metadata.ensures c.in_ok-edits.edits.items c.in_ok-edits.ensures stamp_in)
 
@@ -91,10 +92,10 @@ returns-in_err-stamp_for-clause-refused g c state on =
     let is : c.unwrap_or-stamp.result ≡ unwrap_or c.stamp_left.result 0 = search rules in
     let stamp_in = subst (λ (s : ℕ). (s ≡ next_stamp fs.volume.run fs.changes) ⊎ (s ≡ 0)) (sym is) (plans.stamp_of fs c.stamp_left.result c.stamp_left.ensures) in
     let p = err_from_is_err_and c.from_residual-in_err-stamp_for.result c.from_residual-in_err-stamp_for.ensures.1 in
-    let same = plans.room_asked fs (c.args.self.now.ready c.requires.up) c.args.self.now.counted c.args.self.now.volume.limited c.args.cred.now c.args.now c.args.asked c.args.moving c.get-target.result
+    let same = plans.room_asked fs (c.args.self.now.ready c.requires.up) c.args.self.now.counted (limited_of c.args.self.now.volume) c.args.cred.now c.args.now c.args.asked c.args.moving c.get-target.result
     c.requires.moved c.requires.passed c.in_ok-permit_rename.ensures c.requires.other c.to.inside.names (ap (λ (it : CachedNode). it.names) c.to.view_is) c.get-target.ensures.by_stamp
     c.unwrap_or-stamp.result c.in_ok-from_metadata.from_metadata c.in_ok-to_metadata.to_metadata c.in_ok-from_metadata.ensures c.in_ok-to_metadata.ensures c.in_ok-edits.edits.items c.in_ok-edits.ensures stamp_in in
-    rw (p.1, p.2) (plans.late fs (c.args.self.now.ready c.requires.up) c.args.self.now.counted c.args.self.now.volume.limited c.args.cred.now c.args.now c.args.asked c.args.moving c.get-target.result
+    rw (p.1, p.2) (plans.late fs (c.args.self.now.ready c.requires.up) c.args.self.now.counted (limited_of c.args.self.now.volume) c.args.cred.now c.args.now c.args.asked c.args.moving c.get-target.result
     c.requires.moved c.requires.passed c.in_ok-permit_rename.ensures c.requires.other c.to.inside.names (ap (λ (it : CachedNode). it.names) c.to.view_is) c.get-target.ensures.by_stamp
     c.unwrap_or-stamp.result c.in_ok-from_metadata.from_metadata c.in_ok-to_metadata.to_metadata c.in_ok-from_metadata.ensures c.in_ok-to_metadata.ensures c.in_ok-edits.edits.items c.in_ok-edits.ensures
     c.in_err-stamp_for.field-0.0 (c.in_err-stamp_for.ensures.tests _ (same ∙ ap (λ (l : List Edit). fits fs.volume.limits (edited_by fs.volume l)) (sym c.deref.ensures.value))) state on)
@@ -105,10 +106,10 @@ returns-clause-planned g c =
     let fs = fs_of c.args.self.now in
     let is : c.unwrap_or-stamp.result ≡ unwrap_or c.stamp_left.result 0 = search rules in
     let stamp_in = subst (λ (s : ℕ). (s ≡ next_stamp fs.volume.run fs.changes) ⊎ (s ≡ 0)) (sym is) (plans.stamp_of fs c.stamp_left.result c.stamp_left.ensures) in
-    let same = plans.room_asked fs (c.args.self.now.ready c.requires.up) c.args.self.now.counted c.args.self.now.volume.limited c.args.cred.now c.args.now c.args.asked c.args.moving c.get-target.result
+    let same = plans.room_asked fs (c.args.self.now.ready c.requires.up) c.args.self.now.counted (limited_of c.args.self.now.volume) c.args.cred.now c.args.now c.args.asked c.args.moving c.get-target.result
     c.requires.moved c.requires.passed c.in_ok-permit_rename.ensures c.requires.other c.to.inside.names (ap (λ (it : CachedNode). it.names) c.to.view_is) c.get-target.ensures.by_stamp
     c.unwrap_or-stamp.result c.in_ok-from_metadata.from_metadata c.in_ok-to_metadata.to_metadata c.in_ok-from_metadata.ensures c.in_ok-to_metadata.ensures c.in_ok-edits.edits.items c.in_ok-edits.ensures stamp_in in
-    plans.planned_where fs (c.args.self.now.ready c.requires.up) c.args.self.now.counted c.args.self.now.volume.limited c.args.cred.now c.args.now c.args.asked c.args.moving c.get-target.result
+    plans.planned_where fs (c.args.self.now.ready c.requires.up) c.args.self.now.counted (limited_of c.args.self.now.volume) c.args.cred.now c.args.now c.args.asked c.args.moving c.get-target.result
     c.requires.moved c.requires.passed c.in_ok-permit_rename.ensures c.requires.other c.to.inside.names (ap (λ (it : CachedNode). it.names) c.to.view_is) c.get-target.ensures.by_stamp
     c.unwrap_or-stamp.result c.in_ok-from_metadata.from_metadata c.in_ok-to_metadata.to_metadata c.in_ok-from_metadata.ensures c.in_ok-to_metadata.ensures c.in_ok-edits.edits.items c.in_ok-edits.ensures
     (is ∙ plans.own_stamp fs c.stamp_left.result c.stamp_left.ensures c.in_ok-stamp_for.ensures.left)
@@ -120,10 +121,10 @@ returns-clause-step g c state on =
     let fs = fs_of c.args.self.now in
     let is : c.unwrap_or-stamp.result ≡ unwrap_or c.stamp_left.result 0 = search rules in
     let stamp_in = subst (λ (s : ℕ). (s ≡ next_stamp fs.volume.run fs.changes) ⊎ (s ≡ 0)) (sym is) (plans.stamp_of fs c.stamp_left.result c.stamp_left.ensures) in
-    let same = plans.room_asked fs (c.args.self.now.ready c.requires.up) c.args.self.now.counted c.args.self.now.volume.limited c.args.cred.now c.args.now c.args.asked c.args.moving c.get-target.result
+    let same = plans.room_asked fs (c.args.self.now.ready c.requires.up) c.args.self.now.counted (limited_of c.args.self.now.volume) c.args.cred.now c.args.now c.args.asked c.args.moving c.get-target.result
     c.requires.moved c.requires.passed c.in_ok-permit_rename.ensures c.requires.other c.to.inside.names (ap (λ (it : CachedNode). it.names) c.to.view_is) c.get-target.ensures.by_stamp
     c.unwrap_or-stamp.result c.in_ok-from_metadata.from_metadata c.in_ok-to_metadata.to_metadata c.in_ok-from_metadata.ensures c.in_ok-to_metadata.ensures c.in_ok-edits.edits.items c.in_ok-edits.ensures stamp_in in
-    plans.goes_on fs (c.args.self.now.ready c.requires.up) c.args.self.now.counted c.args.self.now.volume.limited c.args.cred.now c.args.now c.args.asked c.args.moving c.get-target.result
+    plans.goes_on fs (c.args.self.now.ready c.requires.up) c.args.self.now.counted (limited_of c.args.self.now.volume) c.args.cred.now c.args.now c.args.asked c.args.moving c.get-target.result
     c.requires.moved c.requires.passed c.in_ok-permit_rename.ensures c.requires.other c.to.inside.names (ap (λ (it : CachedNode). it.names) c.to.view_is) c.get-target.ensures.by_stamp
     c.unwrap_or-stamp.result c.in_ok-from_metadata.from_metadata c.in_ok-to_metadata.to_metadata c.in_ok-from_metadata.ensures c.in_ok-to_metadata.ensures c.in_ok-edits.edits.items c.in_ok-edits.ensures
     (is ∙ plans.own_stamp fs c.stamp_left.result c.stamp_left.ensures c.in_ok-stamp_for.ensures.left)

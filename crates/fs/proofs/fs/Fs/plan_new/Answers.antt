@@ -24,6 +24,7 @@ use Rattle.fs.proofs.NamedOpens as laws
 use Rattle.fs.proofs.RemovalPlans.{change_metadata}
 use Rattle.volume.specs.Views.{volume_state}
 use Rattle.volume.proofs.ServeLaws.{is_err_of}
+use Rattle.volume.proofs.LimitLaws.{limited_of}
 use Rattle.fs.proofs.fs.Fs.plan_new.Goals as goal
 
 pub returns-in_err-settings-clause-planned : goal.returns-in_err-settings-clause-planned
@@ -94,7 +95,7 @@ unfolding fs_of volume_state
 plan_node-requires-clause-size g c =
     let fs = fs_of c.args.self.now in
     let size : c.unwrap_or.result ≡ unwrap_or c.in_ok-settings.settings.size 0 = search rules in
-    files.has_size fs (c.args.self.now.ready c.requires.up) c.args.self.now.volume.limited c.args.cred.now c.args.now c.args.asked.directory c.args.asked.name.now (given_by (type_of c.args.asked.how))
+    files.has_size fs (c.args.self.now.ready c.requires.up) (limited_of c.args.self.now.volume) c.args.cred.now c.args.now c.args.asked.directory c.args.asked.name.now (given_by (type_of c.args.asked.how))
     c.args.directory.now c.requires.directory c.requires.allowed c.requires.lacks c.in_ok-settings.settings c.in_ok-settings.ensures.settings c.in_ok-settings.ensures.within c.unwrap_or.result size
 
 pub plan_node-requires-clause-made : goal.plan_node-requires-clause-made
@@ -102,7 +103,7 @@ unfolding fs_of volume_state
 plan_node-requires-clause-made g c =
     let fs = fs_of c.args.self.now in
     let size : c.unwrap_or.result ≡ unwrap_or c.in_ok-settings.settings.size 0 = search rules in
-    files.may fs (c.args.self.now.ready c.requires.up) c.args.self.now.volume.limited c.args.cred.now c.args.now c.args.asked.directory c.args.asked.name.now (given_by (type_of c.args.asked.how))
+    files.may fs (c.args.self.now.ready c.requires.up) (limited_of c.args.self.now.volume) c.args.cred.now c.args.now c.args.asked.directory c.args.asked.name.now (given_by (type_of c.args.asked.how))
     c.args.directory.now c.requires.directory c.requires.allowed c.requires.lacks c.in_ok-settings.settings c.in_ok-settings.ensures.settings c.in_ok-settings.ensures.within c.unwrap_or.result size
     c.in_ok-stamp.stamp (metadata_of c.in_ok-metadata.metadata) c.in_ok-stamp.ensures.stamp c.in_ok-metadata.ensures.metadata
 
@@ -113,10 +114,10 @@ returns-in_err-stamp-clause-refused g c state arguments placed =
     let own = next_stamp fs.volume.run fs.changes in
     let size : c.unwrap_or.result ≡ unwrap_or c.in_ok-settings.settings.size 0 = search rules in
     let child = child_metadata c.args.cred.now (list_by kind.File c.args.directory.now.fields.acl c.in_ok-settings.settings) own c.args.now in
-    let may = files.may fs (c.args.self.now.ready c.requires.up) c.args.self.now.volume.limited c.args.cred.now c.args.now c.args.asked.directory c.args.asked.name.now (given_by (type_of c.args.asked.how))
+    let may = files.may fs (c.args.self.now.ready c.requires.up) (limited_of c.args.self.now.volume) c.args.cred.now c.args.now c.args.asked.directory c.args.asked.name.now (given_by (type_of c.args.asked.how))
     c.args.directory.now c.requires.directory c.requires.allowed c.requires.lacks c.in_ok-settings.settings c.in_ok-settings.ensures.settings c.in_ok-settings.ensures.within c.unwrap_or.result size
     own child refl refl in
-    let made = files.made_is fs (c.args.self.now.ready c.requires.up) c.args.self.now.volume.limited c.args.cred.now c.args.now c.args.asked.directory c.args.asked.name.now (given_by (type_of c.args.asked.how))
+    let made = files.made_is fs (c.args.self.now.ready c.requires.up) (limited_of c.args.self.now.volume) c.args.cred.now c.args.now c.args.asked.directory c.args.asked.name.now (given_by (type_of c.args.asked.how))
     c.args.directory.now c.requires.directory c.requires.allowed c.requires.lacks c.in_ok-settings.settings c.in_ok-settings.ensures.settings c.in_ok-settings.ensures.within c.unwrap_or.result size
     own child refl refl in
     let before = change_metadata fs.volume.tree c.args.asked.directory c.args.directory.now c.requires.directory.node in
@@ -131,7 +132,7 @@ unfolding fs_of volume_state
 plan_node-requires-clause-room g c =
     let fs = fs_of c.args.self.now in
     let size : c.unwrap_or.result ≡ unwrap_or c.in_ok-settings.settings.size 0 = search rules in
-    c.in_ok-stamp.ensures.tests (first_node kind.File c.unwrap_or.result (metadata_of c.in_ok-metadata.metadata)) c.args.now (files.may fs (c.args.self.now.ready c.requires.up) c.args.self.now.volume.limited c.args.cred.now c.args.now c.args.asked.directory c.args.asked.name.now (given_by (type_of c.args.asked.how))
+    c.in_ok-stamp.ensures.tests (first_node kind.File c.unwrap_or.result (metadata_of c.in_ok-metadata.metadata)) c.args.now (files.may fs (c.args.self.now.ready c.requires.up) (limited_of c.args.self.now.volume) c.args.cred.now c.args.now c.args.asked.directory c.args.asked.name.now (given_by (type_of c.args.asked.how))
     c.args.directory.now c.requires.directory c.requires.allowed c.requires.lacks c.in_ok-settings.settings c.in_ok-settings.ensures.settings c.in_ok-settings.ensures.within c.unwrap_or.result size
     c.in_ok-stamp.stamp (metadata_of c.in_ok-metadata.metadata) c.in_ok-stamp.ensures.stamp c.in_ok-metadata.ensures.metadata) refl
 
@@ -140,10 +141,10 @@ unfolding fs_of volume_state
 returns-clause-step g c state arguments placed =
     let fs = fs_of c.args.self.now in
     let size : c.unwrap_or.result ≡ unwrap_or c.in_ok-settings.settings.size 0 = search rules in
-    let made = files.made_is fs (c.args.self.now.ready c.requires.up) c.args.self.now.volume.limited c.args.cred.now c.args.now c.args.asked.directory c.args.asked.name.now (given_by (type_of c.args.asked.how))
+    let made = files.made_is fs (c.args.self.now.ready c.requires.up) (limited_of c.args.self.now.volume) c.args.cred.now c.args.now c.args.asked.directory c.args.asked.name.now (given_by (type_of c.args.asked.how))
     c.args.directory.now c.requires.directory c.requires.allowed c.requires.lacks c.in_ok-settings.settings c.in_ok-settings.ensures.settings c.in_ok-settings.ensures.within c.unwrap_or.result size
     c.in_ok-stamp.stamp (metadata_of c.in_ok-metadata.metadata) c.in_ok-stamp.ensures.stamp c.in_ok-metadata.ensures.metadata in
-    let room = c.in_ok-stamp.ensures.tests (first_node kind.File c.unwrap_or.result (metadata_of c.in_ok-metadata.metadata)) c.args.now (files.may fs (c.args.self.now.ready c.requires.up) c.args.self.now.volume.limited c.args.cred.now c.args.now c.args.asked.directory c.args.asked.name.now (given_by (type_of c.args.asked.how))
+    let room = c.in_ok-stamp.ensures.tests (first_node kind.File c.unwrap_or.result (metadata_of c.in_ok-metadata.metadata)) c.args.now (files.may fs (c.args.self.now.ready c.requires.up) (limited_of c.args.self.now.volume) c.args.cred.now c.args.now c.args.asked.directory c.args.asked.name.now (given_by (type_of c.args.asked.how))
     c.args.directory.now c.requires.directory c.requires.allowed c.requires.lacks c.in_ok-settings.settings c.in_ok-settings.ensures.settings c.in_ok-settings.ensures.within c.unwrap_or.result size
     c.in_ok-stamp.stamp (metadata_of c.in_ok-metadata.metadata) c.in_ok-stamp.ensures.stamp c.in_ok-metadata.ensures.metadata) refl in
     let before = change_metadata fs.volume.tree c.args.asked.directory c.args.directory.now c.requires.directory.node ∙ sym (ap (λ (it : CachedNode). it.fields.change) c.directory.view_is) in

@@ -9,6 +9,7 @@ use Rattle.fs.proofs.RemovedLaws as laws
 use Rattle.volume.specs.Views.{volume_state}
 use Rattle.volume.proofs.ServeLaws.{is_err_of}
 use Rattle.model.specs.declared.not_done.NotDone.TheVariants as refusal
+use Rattle.volume.proofs.LimitLaws.{limited_of}
 use Rattle.fs.proofs.fs.Fs.plan_removal.Goals as goal
 
 pub returns-in_err-removal-clause-planned : goal.returns-in_err-removal-clause-planned
@@ -55,7 +56,7 @@ unfolding fs_of volume_state
 returns-in_default-clause-refused g c state on =
     let fs = fs_of c.args.self.now in
     let removal = c.in_ok-removal.removal in
-    laws.used_up fs (c.args.self.now.ready c.requires.up) c.args.self.now.counted c.args.self.now.volume.limited c.args.cred.now c.args.now c.args.directory c.args.name.now
+    laws.used_up fs (c.args.self.now.ready c.requires.up) c.args.self.now.counted (limited_of c.args.self.now.volume) c.args.cred.now c.args.now c.args.directory c.args.name.now
     (record_from removal.stamp c.args.name.now removal.number) c.in_ok-removal.ensures.entry c.in_ok-removal.ensures.tests
     state on c.in_default.ensures
 
@@ -64,7 +65,7 @@ unfolding fs_of volume_state
 returns-clause-planned g c =
     let fs = fs_of c.args.self.now in
     let removal = c.in_ok-removal.removal in
-    plans.planned fs (c.args.self.now.ready c.requires.up) c.args.self.now.counted c.args.self.now.volume.limited c.args.cred.now c.args.now c.args.directory
+    plans.planned fs (c.args.self.now.ready c.requires.up) c.args.self.now.counted (limited_of c.args.self.now.volume) c.args.cred.now c.args.now c.args.directory
     removal.directory.now c.args.name removal.stamp removal.number c.in_ok-removal.ensures.directory c.in_ok-removal.ensures.fit
     c.in_ok-removal.ensures.entry c.in_ok-removal.ensures.tests
     c.in-Some.stamp c.in_ok-metadata.metadata c.in_ok-edits.edits.items c.in-Some.ensures.0 c.in_ok-metadata.ensures c.in_ok-edits.ensures
@@ -75,7 +76,7 @@ unfolding fs_of volume_state
 returns-clause-step g c state on =
     let fs = fs_of c.args.self.now in
     let removal = c.in_ok-removal.removal in
-    plans.goes_on fs (c.args.self.now.ready c.requires.up) c.args.self.now.counted c.args.self.now.volume.limited c.args.cred.now c.args.now c.args.directory
+    plans.goes_on fs (c.args.self.now.ready c.requires.up) c.args.self.now.counted (limited_of c.args.self.now.volume) c.args.cred.now c.args.now c.args.directory
     removal.directory.now c.args.name removal.stamp removal.number c.in_ok-removal.ensures.directory c.in_ok-removal.ensures.fit
     c.in_ok-removal.ensures.entry c.in_ok-removal.ensures.tests
     c.in-Some.stamp c.in_ok-metadata.metadata c.in_ok-edits.edits.items c.in-Some.ensures.0 c.in_ok-metadata.ensures c.in_ok-edits.ensures

@@ -7,6 +7,7 @@ use Rattle.fs.proofs.SettingPlans as plans
 use Rattle.volume.specs.Views.{volume_state}
 use Rattle.model.specs.declared.not_done.NotDone.TheVariants as refusal
 use Rattle.volume.proofs.ServeLaws.{is_err_of}
+use Rattle.volume.proofs.LimitLaws.{limited_of}
 use Rattle.fs.proofs.fs.Fs.plan_setting.Goals as goal
 
 pub returns-in_err-metadata : goal.returns-in_err-metadata
@@ -64,7 +65,7 @@ unfolding fs_of volume_state
 returns-clause-planned g c =
     let fs = fs_of c.args.self.now in
     let node = c.in_ok-cached.ensures.node in
-    plans.planned_where fs (c.args.self.now.ready c.requires.up) c.args.self.now.counted c.args.self.now.volume.limited c.args.cred.now c.args.now c.args.asked c.in_ok-cached.cached.now
+    plans.planned_where fs (c.args.self.now.ready c.requires.up) c.args.self.now.counted (limited_of c.args.self.now.volume) c.args.cred.now c.args.now c.args.asked c.in_ok-cached.cached.now
     node c.in_ok-cached.ensures.tests c.in_ok-cached.settings c.in_ok-cached.ensures.settings c.in_ok-cached.ensures.within c.if-settings.false
     c.in_ok-stamp.stamp c.in_ok-metadata.metadata c.in_ok-edits.edits.items c.in_ok-stamp.ensures.stamp c.in_ok-metadata.ensures.metadata c.in_ok-metadata.ensures.entries c.in_ok-edits.ensures
     (passed_room fs (laws.tree_set fs c.args.now c.args.asked node.node) (c.in_ok-stamp.ensures.tests (laws.tree_set fs c.args.now c.args.asked node.node)
@@ -75,7 +76,7 @@ unfolding fs_of volume_state
 returns-clause-step g c state arguments on is =
     let fs = fs_of c.args.self.now in
     let node = c.in_ok-cached.ensures.node in
-    plans.plan_goes_on fs (c.args.self.now.ready c.requires.up) c.args.self.now.counted c.args.self.now.volume.limited c.args.cred.now c.args.now c.args.asked c.in_ok-cached.cached.now
+    plans.plan_goes_on fs (c.args.self.now.ready c.requires.up) c.args.self.now.counted (limited_of c.args.self.now.volume) c.args.cred.now c.args.now c.args.asked c.in_ok-cached.cached.now
     node c.in_ok-cached.ensures.tests c.in_ok-cached.settings c.in_ok-cached.ensures.settings c.in_ok-cached.ensures.within c.if-settings.false
     c.in_ok-stamp.stamp c.in_ok-metadata.metadata c.in_ok-edits.edits.items c.in_ok-stamp.ensures.stamp c.in_ok-metadata.ensures.metadata c.in_ok-metadata.ensures.entries c.in_ok-edits.ensures
     (passed_room fs (laws.tree_set fs c.args.now c.args.asked node.node) (c.in_ok-stamp.ensures.tests (laws.tree_set fs c.args.now c.args.asked node.node)

@@ -8,6 +8,7 @@ use Rattle.fs.proofs.WrittenLaws.{early, late, too_big, planned_where, plan_goes
 use Rattle.volume.specs.Views.{volume_state}
 use Rattle.model.specs.declared.not_done.NotDone.TheVariants as refusal
 use Rattle.volume.proofs.ServeLaws.{is_err_of}
+use Rattle.volume.proofs.LimitLaws.{limited_of}
 use Rattle.fs.proofs.fs.Fs.plan_write.Goals as goal
 
 pub returns-in_err-metadata-clause-planned : goal.returns-in_err-metadata-clause-planned
@@ -72,7 +73,7 @@ returns-clause-planned g c =
     let fs = fs_of c.args.self.now in
     let node = c.in_ok-cached.ensures.node in
     let low : c.args.asked.offset + length (bytes_taken fs c.args.asked) ≤ fs.volume.limits.file_bytes = rw (← c.taken-part.ensures.taken) c.in-Some.ensures.some.1 in
-    planned_where fs (c.args.self.now.ready c.requires.up) c.args.self.now.counted c.args.self.now.volume.limited c.args.cred.now c.args.now c.args.number c.args.verdict c.args.asked c.in_ok-cached.cached.now
+    planned_where fs (c.args.self.now.ready c.requires.up) c.args.self.now.counted (limited_of c.args.self.now.volume) c.args.cred.now c.args.now c.args.number c.args.verdict c.args.asked c.in_ok-cached.cached.now
     node c.in_ok-cached.ensures.file c.in_ok-cached.ensures.fit c.in_ok-cached.ensures.tests c.requires.some low
     c.in_ok-stamp.stamp c.in-Some.offset c.taken-part.result c.in_ok-metadata.metadata c.written_edits.result
     c.in_ok-stamp.ensures.stamp c.in-Some.ensures.some.0 c.taken-part.ensures.taken c.in_ok-metadata.ensures c.written_edits.ensures
@@ -85,7 +86,7 @@ returns-clause-step g c state arguments on is =
     let fs = fs_of c.args.self.now in
     let node = c.in_ok-cached.ensures.node in
     let low : c.args.asked.offset + length (bytes_taken fs c.args.asked) ≤ fs.volume.limits.file_bytes = rw (← c.taken-part.ensures.taken) c.in-Some.ensures.some.1 in
-    plan_goes_on fs (c.args.self.now.ready c.requires.up) c.args.self.now.counted c.args.self.now.volume.limited c.args.cred.now c.args.now c.args.number c.args.verdict c.args.asked c.in_ok-cached.cached.now
+    plan_goes_on fs (c.args.self.now.ready c.requires.up) c.args.self.now.counted (limited_of c.args.self.now.volume) c.args.cred.now c.args.now c.args.number c.args.verdict c.args.asked c.in_ok-cached.cached.now
     node c.in_ok-cached.ensures.file c.in_ok-cached.ensures.fit c.in_ok-cached.ensures.tests c.requires.some low
     c.in_ok-stamp.stamp c.in-Some.offset c.taken-part.result c.in_ok-metadata.metadata c.written_edits.result
     c.in_ok-stamp.ensures.stamp c.in-Some.ensures.some.0 c.taken-part.ensures.taken c.in_ok-metadata.ensures c.written_edits.ensures

@@ -21,8 +21,8 @@ returns-clause-begins g c =
     (loaded c.restart_count.result fs.volume.run (settings_of c.args.settings) (seats_view c.in_ok-fs.field-0.seats) c.restart_count.ensures (table_of c.load-table.result) c.load-table.ensures)
     c.new-opens.ensures (rw c.in-Ok.ensures.empty refl) found.no_change keeps found.none_waits found.seats
     (few_runs c.restart_count.result fs.volume.run c.restart_count.ensures c.restart_count.type_inv) found.serves.new.is_up (found.serves.mounted keeps).holds
-    (found_start size (g.D.Device.history c.args.device) fs.volume (found.serves.mounted keeps).found found.serves.new.limits)
-    (limits_room size fs.volume found.serves.new.limits)
+    (found_start size (g.D.Device.history c.args.device) fs.volume (found.serves.mounted keeps).found found.serves.new (found.serves.mounted keeps).current)
+    (limits_room size fs.volume found.serves.new)
 
 pub returns-clause-world : goal.returns-clause-world
 unfolding world_of volume_of connections_of

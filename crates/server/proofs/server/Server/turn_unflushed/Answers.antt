@@ -2,6 +2,7 @@ use Rattle.std.proofs.Common.{◌≡◌, Bool, true, OnOk, OnErr, IfErr, ap, sym
 use Rattle.model.specs.Server.Runs as runs
 use Rattle.server.specs.Connections.{turn_view}
 use Rattle.server.specs.declared.turn.Turn.{Turn}
+use Rattle.volume.specs.VolumeState.{call_cost}
 use Rattle.server.specs.Refused.{View, view, connection_at, IsUntouched, HasTurned, RefusesTurn, UsesDevice}
 use Rattle.volume.specs.VolumeState.{VolumeState}
 use Rattle.server.specs.Seen.{Turned}
@@ -44,7 +45,7 @@ returns-clause-is_closed g c up closed =
 
 pub returns-clause-device : goal.returns-clause-device
 returns-clause-device g c =
-    subst (λ (v : View). UsesDevice g.D.Device.keeps_word 396 v (view c.take_turn.new.self)) (same_view c.args.self.now c.defer.new.self c.defer.ensures.world c.defer.ensures.volume c.defer.ensures.waits c.defer.ensures.failures) c.take_turn.ensures.device
+    subst (λ (v : View). UsesDevice g.D.Device.keeps_word (call_cost v.volume) v (view c.take_turn.new.self)) (same_view c.args.self.now c.defer.new.self c.defer.ensures.world c.defer.ensures.volume c.defer.ensures.waits c.defer.ensures.failures) c.take_turn.ensures.device
 
 pub returns-clause-waits : goal.returns-clause-waits
 returns-clause-waits g c =

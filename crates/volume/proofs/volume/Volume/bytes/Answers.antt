@@ -2,6 +2,8 @@ use Rattle.std.proofs.Common.{◌++◌, ◌∙◌, ℕ, List, take, drop, sym, a
 use Rattle.journal.specs.Journal.{log_of}
 use Rattle.journal.specs.Log.{Log, contents}
 use Rattle.volume.specs.Views.{volume_state, volume_failures}
+use Rattle.layout.specs.Versions.{data_end_by}
+use Rattle.volume.proofs.ChangeLaws.{ends_on_device}
 use Rattle.volume.proofs.ReadLaws.{blocks_within, file_bytes, place_there, some_at}
 use Rattle.volume.proofs.KeepLaws.{left}
 use Rattle.volume.proofs.volume.Volume.bytes.Goals as goal
@@ -22,7 +24,8 @@ read_bytes-requires g c =
     let old : Log = log_of volume.store.journal in
     let cached_node = c.unwrap-cached.result.now in
     record {
-      within = blocks_within old.size volume.limits.nodes c.unwrap-place.result volume.table volume.places cached_node volume.known
+      within = blocks_within (data_end_by volume.version old.size) old.size volume.limits.nodes c.unwrap-place.result volume.table volume.places cached_node
+          (ends_on_device volume.version old.size volume.limits.nodes volume.served volume.sized) volume.known
           (some_at c.cached.result _ c.unwrap-cached.result c.unwrap-cached.ensures c.cached.ensures.some);
     }
 

@@ -2,8 +2,7 @@ use Rattle.std.proofs.Common.{◌∙◌, ℕ, sym, ap, subst, arith}
 use Rattle.std.specs.Prelude.{IsTrue}
 use Rattle.journal.specs.Journal.{log_of}
 use Rattle.journal.specs.Log.{Log, contents}
-use Rattle.layout.specs.Superblock.{is_size}
-use Rattle.model_tree.specs.Trees.Limits.{limits_of}
+use Rattle.layout.specs.Versions.{data_end_by, limits_by, size_by}
 use Rattle.volume.specs.Changes.{Stays}
 use Rattle.volume.specs.Known.{AreKnownNodes}
 use Rattle.volume.specs.Refusals.{fault_of}
@@ -29,15 +28,16 @@ invariant_of-self g c =
     let size = sym c.checkpoint.ensures.safe.size in
     record {
       bounded = volume.bounded;
-      sized = subst (λ (n : ℕ). IsTrue (is_size n nodes)) size volume.sized;
-      limited = volume.limited ∙ ap (λ (n : ℕ). limits_of n nodes) size;
+      served = volume.served;
+      sized = subst (λ (n : ℕ). IsTrue (size_by volume.version n nodes)) size volume.sized;
+      limited = volume.limited ∙ ap (λ (n : ℕ). limits_by volume.version n nodes) size;
       formed = volume.formed;
-      known = subst (λ (n : ℕ). AreKnownNodes n nodes volume.table volume.places) size volume.known;
+      known = subst (λ (n : ℕ). AreKnownNodes (data_end_by volume.version n) nodes volume.table volume.places) size volume.known;
       named = c.args.self.now.named;
-      placed = placed_on new.area old.area new.size old.size c.checkpoint.ensures.safe.area c.checkpoint.ensures.safe.size volume.placed;
+      placed = placed_on volume.version new.area old.area new.size old.size c.checkpoint.ensures.safe.area c.checkpoint.ensures.safe.size volume.placed;
       serves = λ k up.
           let answered = up_answered g.D.Device.keeps_word old new _ _ _ c.checkpoint.result c.checkpoint.ensures.ok c.checkpoint.ensures.answers c.checkpoint.ensures.refuses up in
-          flush_serves g.D.Device.keeps_word volume.limits volume.run volume.table old new 0 0 c.checkpoint.ensures.safe volume.placed (omega arith) k up (answered.0.contents k)
+          flush_serves g.D.Device.keeps_word volume.version volume.limits volume.run volume.table old new 0 0 c.checkpoint.ensures.safe volume.placed (omega arith) k up (answered.0.contents k)
           (λ word. volume.serves word answered.1);
     }
 
@@ -49,7 +49,7 @@ returns-in_err-checkpoint-clause-volume g c =
     let new : Log = log_of c.checkpoint.new.self in
     let fault = c.in_err-checkpoint.field-0.0 in
     let told = is_err_of c.from_residual.result (fault_of fault) c.from_residual.ensures.1 in
-    rw told (flush_refused g.D.Device.keeps_word (Stays (volume_state_by volume.limits volume.run volume.table old)) volume.limits volume.run volume.table old new _ _ fault c.in_err-checkpoint.ensures.safe volume.placed
+    rw told (flush_refused g.D.Device.keeps_word (Stays (volume_state_by volume.version volume.limits volume.run volume.table old)) volume.version volume.limits volume.run volume.table old new _ _ fault c.in_err-checkpoint.ensures.safe volume.placed
     c.in_err-checkpoint.ensures.answers c.in_err-checkpoint.ensures.refuses)
 
 pub returns-clause-volume : goal.returns-clause-volume
@@ -60,7 +60,7 @@ returns-clause-volume g c =
     let new : Log = log_of c.checkpoint.new.self in
     let did = c.in_ok-checkpoint.ensures in
     let up = found_up old new _ _ c.in_ok-checkpoint.field-0 did.answers in
-    checkpoint_done g.D.Device.keeps_word volume.limits volume.run volume.table _ old new did.safe volume.placed did.list up.1 did.ok (λ word. volume.serves word up.0)
+    checkpoint_done g.D.Device.keeps_word volume.version volume.limits volume.run volume.table _ old new did.safe volume.placed did.list up.1 did.ok (λ word. volume.serves word up.0)
     _ _ did.answers.later (did.answers.none (λ fault. cc))
 
 pub returns-clause-shows : goal.returns-clause-shows
@@ -72,7 +72,7 @@ returns-clause-shows g c =
     let did = c.in_ok-checkpoint.ensures in
     let up = found_up old new _ _ c.in_ok-checkpoint.field-0 did.answers in
     shows_same g.D.Device.keeps_word (contents old) (contents new) volume.table
-    (checkpoint_keeps g.D.Device.keeps_word volume.limits volume.run volume.table _ old new did.safe volume.placed did.list up.1 did.ok (λ word. volume.serves word up.0))
+    (checkpoint_keeps g.D.Device.keeps_word volume.version volume.limits volume.run volume.table _ old new did.safe volume.placed did.list up.1 did.ok (λ word. volume.serves word up.0))
 
 pub returns-clause-recent : goal.returns-clause-recent
 unfolding volume_state
@@ -82,4 +82,4 @@ returns-clause-recent g c =
     let new : Log = log_of c.checkpoint.new.self in
     let did = c.in_ok-checkpoint.ensures in
     let up = found_up old new _ _ c.in_ok-checkpoint.field-0 did.answers in
-    checkpoint_recent g.D.Device.keeps_word volume.limits volume.run volume.table _ old new did.safe volume.placed did.list up.1 did.ok (λ word. volume.serves word up.0)
+    checkpoint_recent g.D.Device.keeps_word volume.version volume.limits volume.run volume.table _ old new did.safe volume.placed did.list up.1 did.ok (λ word. volume.serves word up.0)

@@ -1,13 +1,11 @@
 use Rattle.std.proofs.Common.{◌+◌}
-use Rattle.journal.specs.Journal.{log_of}
 use Rattle.layout.specs.Marks.{mark_by}
 use Rattle.model_tree.specs.Trees.Stamp.{stamp}
-use Rattle.volume.proofs.FormedLaws.{formed_tree, names_most}
+use Rattle.volume.proofs.FormedLaws.{formed_tree}
 use Rattle.volume.proofs.volume.Volume.is_below.Goals as goal
 
 pub is_below-requires-clause-tree : goal.is_below-requires-clause-tree
 is_below-requires-clause-tree g c =
     let volume = c.args.self.now in
     let nodes = volume.limits.nodes in
-    formed_tree volume.limits (names_most (log_of volume.store.journal).size nodes volume.limits volume.limited) (stamp (volume.run + 1) 0)
-    nodes (mark_by (148 + nodes) volume.places) volume.table volume.known.are_cached_nodes volume.formed
+    formed_tree volume.limits (stamp (volume.run + 1) 0) nodes (mark_by (148 + nodes) volume.places) volume.table volume.known.are_cached_nodes volume.formed

@@ -1,4 +1,0 @@
-pub mod Every
-pub mod Heads
-pub mod ReadBack
-pub mod Slots

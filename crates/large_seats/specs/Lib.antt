@@ -1,3 +1,0 @@
-pub mod Encoding
-pub mod Reading
-pub mod Views
