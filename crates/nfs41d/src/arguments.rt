@@ -26,11 +26,15 @@ pub const ARCHIVE: &str = "TAR";
 
 pub const ADDRESS: &str = "ADDRESS:PORT";
 
-pub const SECTORS: &str = "SECTORS";
+pub const SIZE: &str = "SIZE";
 
 pub const NODES: &str = "NODES";
 
 pub const FORCE: &str = "force";
+
+pub const WITH_NODES: &str = "nodes";
+
+pub const LOG: &str = "log";
 
 pub const FORGET_AFTER: &str = "forget-after";
 
@@ -81,11 +85,31 @@ fn serve<'a>(alloc: Global) -> Result<Command<'a>, AllocError> {
 
 fn format<'a>(alloc: Global) -> Result<Command<'a>, AllocError> {
     Command::new(alloc, FORMAT)
-        .about("Make a file a new volume, which only its owner may read")
+        .about("Make a file, which only its owner may read, or a block device a new volume")
         .arg(flag(alloc, FORCE, "Overwrite a file that is a volume already"))?
+        .arg(option(
+            alloc,
+            WITH_NODES,
+            "N",
+            "How many files and directories it can hold; by default one for each 64 KiB, at most \
+             1048576",
+        ))?
+        .arg(option(
+            alloc,
+            LOG,
+            "SECTORS",
+            "How many sectors of 4096 bytes its log gets, from 288 to 1022, as by default",
+        ))?
         .arg(word(alloc, FILE, "The file, which is made if it is absent"))?
-        .arg(word(alloc, SECTORS, "How many sectors of 4096 bytes it gets"))?
-        .arg(word(alloc, NODES, "How many files and directories it can hold"))
+        .arg(word(
+            alloc,
+            SIZE,
+            "How large it is, as 512M, 64G or 2T; or how many sectors it gets, if NODES follows",
+        ))?
+        .arg(Arg::new(alloc, NODES).help(
+            "Make a volume of layout 2, of at most 65536 sectors and 16384 nodes, with this many \
+             nodes",
+        ))
 }
 
 fn check<'a>(alloc: Global) -> Result<Command<'a>, AllocError> {

@@ -1,9 +1,9 @@
 //! What the words of the command line ask for.
 
 use crate::arguments::{
-    ADDRESS, ALLOW, ARCHIVE, CHECK, FILE, FORCE, FORGET_AFTER, FORMAT, FREE_SEATS, GET, HOLD, LS,
-    METRICS, NAME, NO_PERSISTENT_SESSIONS, NODES, PATH, PRIVILEGED_PORTS, PUT, QUIET, SECTORS,
-    SERVE, TAR, command,
+    ADDRESS, ALLOW, ARCHIVE, CHECK, FILE, FORCE, FORGET_AFTER, FORMAT, FREE_SEATS, GET, HOLD, LOG,
+    LS, METRICS, NAME, NO_PERSISTENT_SESSIONS, NODES, PATH, PRIVILEGED_PORTS, PUT, QUIET, SERVE,
+    SIZE, TAR, WITH_NODES, command,
 };
 use crate::fault::{Fault, Usage};
 use crate::name::is_name;
@@ -14,7 +14,7 @@ use server::Holding;
 use std::alloc::Global;
 use std::net::SocketAddr;
 use std::time::Duration;
-use system::{Refused, VolumeSize, decimal};
+use system::{LargeSize, Refused, VolumeSize, decimal, sectors_in};
 
 /// What the program is asked for.
 #[derive(Drop)]
@@ -26,7 +26,7 @@ pub enum Request<'a> {
     /// Make a file a volume, one that is a volume already only by force.
     Format {
         file: &'a str,
-        size: VolumeSize,
+        size: Size,
         force: bool,
     },
     /// Print what a mount would find in a file.
@@ -52,6 +52,15 @@ pub enum Request<'a> {
         file: &'a str,
         archive: &'a str,
     },
+}
+
+/// How large a volume is to be made.
+#[derive(Clone, Copy)]
+pub enum Size {
+    /// Of layout 2.
+    Small(VolumeSize),
+    /// Of layout 3.
+    Large(LargeSize),
 }
 
 /// How a volume is to be served.
@@ -124,12 +133,34 @@ fn archive_request_in<'a>(matches: &ArgMatches<'a>) -> Result<Option<Request<'a>
 }
 
 fn format_in<'a>(words: &ArgMatches<'a>) -> Result<Request<'a>, Fault> {
-    let size = VolumeSize::parse(word_in(words, SECTORS)?, word_in(words, NODES)?);
+    let size = match words.get_str(NODES) {
+        Some(nodes) => small_size(words, nodes),
+        None => large_size(words),
+    };
     Ok(Request::Format {
         file: word_in(words, FILE)?,
         size: size.ok_or(Fault::Usage(Usage::Form))?,
         force: words.get_flag(FORCE),
     })
+}
+
+/// The size of a volume of layout 2, whose log is always the same.
+fn small_size(words: &ArgMatches<'_>, nodes: &str) -> Option<Size> {
+    if words.get_str(WITH_NODES).is_some() || words.get_str(LOG).is_some() {
+        return None;
+    }
+    Some(Size::Small(VolumeSize::parse(words.get_str(SIZE)?, nodes)?))
+}
+
+fn large_size(words: &ArgMatches<'_>) -> Option<Size> {
+    let mut size = LargeSize::of_sectors(sectors_in(words.get_str(SIZE)?)?);
+    if let Some(nodes) = words.get_str(WITH_NODES) {
+        size.nodes = decimal(nodes)?;
+    }
+    if let Some(log) = words.get_str(LOG) {
+        size.log = decimal(log)?;
+    }
+    Some(Size::Large(size))
 }
 
 fn serving_in<'a>(alloc: Global, words: &ArgMatches<'a>) -> Result<Serving<'a>, Fault> {

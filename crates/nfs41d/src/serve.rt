@@ -6,9 +6,8 @@ use crate::request::Serving;
 use crate::version::RELEASE;
 use disk::{Device, FileDevice};
 use event_loop::{Admission, Door, Keeping, Settings, serve};
-use layout::versions::VersionNumber;
 use std::net::SocketAddr;
-use system::{Refused, open_volume};
+use system::{Refused, open_volume, served_layout};
 
 /// Serves the volume in a file. It is locked, and the socket there, before the mount raises the
 /// restart count.
@@ -16,7 +15,8 @@ pub fn serve_volume(rt: &HostRuntime, serving: Serving<'_>) -> Result<(), Fault>
     let name = name_of(rt, serving.name, serving.file)?;
     let mut device = open_volume(rt, serving.file)?;
     let door = door_of(rt, serving.address)?;
-    let title = title_of(rt, serving.file, device.sectors())?;
+    let layout = served_layout(&mut device)?;
+    let title = title_of(rt, serving.file, layout, device.sectors())?;
     let settings = settings_of(serving, name);
     let mut out = rt.stdout();
     match serve(
@@ -56,9 +56,7 @@ fn door_of(rt: &HostRuntime, address: Option<SocketAddr>) -> Result<Door, Refuse
 }
 
 /// What is served, and by which release.
-fn title_of(rt: &HostRuntime, file: &str, sectors: u32) -> Result<String, Refused> {
-    // A mount brings a volume of an older layout to this one.
-    let layout = VersionNumber::CURRENT.number();
+fn title_of(rt: &HostRuntime, file: &str, layout: u32, sectors: u32) -> Result<String, Refused> {
     Ok(format!(in rt.alloc(); "nfs41d {RELEASE}, {file}, layout {layout}, {sectors} sectors")?)
 }
 

@@ -2,6 +2,7 @@
 #![tactic(auto)]
 
 mod beginning;
+mod large;
 mod machine;
 mod number;
 mod outcome;
@@ -12,6 +13,7 @@ mod time;
 mod volume_file;
 
 pub use beginning::{Begun, Unbegun, begin};
+pub use large::{LargeSize, format_large_file, sectors_in};
 pub use machine::Machine;
 pub use number::decimal;
 pub use outcome::{tell_outcome, tell_usage};
@@ -21,4 +23,5 @@ pub use size::VolumeSize;
 pub use time::{WallClock, moment};
 pub use volume_file::{
     begins_as_volume, check_file, format_file, open_refusal, open_volume, open_volume_to_read,
+    served_layout,
 };

@@ -2,14 +2,15 @@
 
 use crate::refused::Refused;
 use crate::size::VolumeSize;
-use disk::FileDevice;
+use disk::{Device, FileDevice, SECTOR};
 use fs::{Checked, Fs};
+use layout::versions::VersionNumber;
 use server::{Server, is_volume_size};
 use std::fs::{File, metadata};
 use std::io::{ErrorKind, Write};
 use std::os::unix::fs::{FileExt, FileTypeExt};
 use std::rt::Files;
-use volume::superblock::MAGIC;
+use volume::superblock::{MAGIC, version_at};
 
 /// Makes a file a new volume, and prints that it has.
 ///
@@ -46,11 +47,29 @@ where
     O: Write,
 {
     let found = check_volume(rt, file)?;
-    Ok(writeln!(
+    write!(
         out,
         "volume {} {} run {}",
         found.sectors, found.nodes, found.count
-    )?)
+    )?;
+    if found.version > VersionNumber::CURRENT.number() {
+        write!(out, " layout {}", found.version)?;
+    }
+    Ok(writeln!(out)?)
+}
+
+/// The version in which the volume on a device is served, as far as its first sector says.
+///
+/// # Errors
+/// Device: sector 0 could not be read.
+pub fn served_layout(device: &mut FileDevice) -> Result<u32, Refused> {
+    let sectors = device.sectors();
+    let mut first = [0; SECTOR];
+    if sectors > 0 {
+        device.read(0, &mut first)?;
+    }
+    let version = version_at(sectors, &first).unwrap_or(VersionNumber::CURRENT);
+    Ok(version.served().number())
 }
 
 /// What a mount of the volume in a file would find.

@@ -1,0 +1,123 @@
+//! Volumes of version 3: their size, as a command line gives it, and making one.
+
+use crate::number::decimal;
+use crate::refused::Refused;
+use crate::volume_file::open_refusal;
+use disk::{FileDevice, SECTOR};
+use geometry::{Geometry, MAX_FILE_BYTES, MAX_LOG, MAX_NAMES, SEATS, SLOTS, Superblock};
+use std::fs::File;
+use std::io::{Read, Write};
+use std::rt::Files;
+use volume::format_large;
+
+/// What the identity of a volume is read from.
+const RANDOM: &str = "/dev/urandom";
+
+/// By default a volume has a node for each 64 KiB, but not more than this, nor fewer than that.
+const SECTORS_PER_NODE: u32 = 16;
+
+const MOST_BY_DEFAULT: u32 = 1_048_576;
+
+const FEWEST_BY_DEFAULT: u32 = 16;
+
+/// At most what a node takes in memory, when a mount reads it.
+const BYTES_PER_NODE: u64 = 1_024;
+
+/// What the units of a size are.
+const UNITS: [(&str, u64); 4] = [
+    ("K", 1 << 10),
+    ("M", 1 << 20),
+    ("G", 1 << 30),
+    ("T", 1 << 40),
+];
+
+/// How large a volume of version 3 is to be.
+#[derive(Clone, Copy)]
+pub struct LargeSize {
+    pub sectors: u32,
+    pub nodes: u32,
+    /// The sectors of the log.
+    pub log: u32,
+}
+
+impl LargeSize {
+    /// A volume of this many sectors with nodes and a log as they are by default.
+    pub fn of_sectors(sectors: u32) -> LargeSize {
+        let nodes = (sectors / SECTORS_PER_NODE).clamp(FEWEST_BY_DEFAULT, MOST_BY_DEFAULT);
+        LargeSize {
+            sectors,
+            nodes,
+            log: MAX_LOG,
+        }
+    }
+
+    fn geometry(self) -> Geometry {
+        Geometry {
+            sectors: self.sectors,
+            nodes: self.nodes,
+            log: self.log,
+            seats: SEATS,
+            slots: SLOTS,
+            names: MAX_NAMES,
+            file_bytes: MAX_FILE_BYTES,
+        }
+    }
+
+    /// At most how many MiB a server takes for a volume with all its nodes: for the nodes, and a bit
+    /// for each sector.
+    fn memory(self) -> u64 {
+        let bytes = u64::from(self.nodes) * BYTES_PER_NODE + u64::from(self.sectors) / 8;
+        bytes.div_ceil(1 << 20)
+    }
+}
+
+/// The sectors of a size in bytes, as `64G`: a number and K, M, G or T, each 1024 times the one
+/// before it. None if it has no such form, or too many sectors for a volume.
+pub fn sectors_in(size: &str) -> Option<u32> {
+    for (suffix, unit) in UNITS {
+        if let Some(number) = size.strip_suffix(suffix) {
+            let bytes = u64::from(decimal(number)?).checked_mul(unit)?;
+            return u32::try_from(bytes / SECTOR as u64).ok();
+        }
+    }
+    None
+}
+
+/// Makes a file, or a block device of this size, a new volume of version 3, and prints what it has.
+///
+/// # Errors
+/// Size if no volume has this size, before the file is touched; Open; Device; Memory; Io.
+pub fn format_large_file<R, O>(
+    rt: &R,
+    file: &str,
+    size: LargeSize,
+    out: &mut O,
+) -> Result<(), Refused>
+where
+    R: Files<File = File> + AllocGlobal,
+    O: Write,
+{
+    let geometry = size.geometry();
+    if !geometry.fits() {
+        return Err(Refused::Size);
+    }
+    let identity = identity(rt)?;
+    let mut device = FileDevice::create(rt, rt.alloc(), file, geometry.sectors)?;
+    format_large(rt.alloc(), &mut device, &Superblock { geometry, identity })?;
+    Ok(writeln!(
+        out,
+        "formatted: layout 3, {} sectors, {} nodes, a log of {} sectors; at most {} MiB of memory",
+        size.sectors,
+        size.nodes,
+        size.log,
+        size.memory()
+    )?)
+}
+
+/// Random bytes.
+fn identity<R: Files<File = File>>(rt: &R) -> Result<[u8; 16], Refused> {
+    let mut identity = [0; 16];
+    let mut random = File::open(rt, RANDOM).map_err(|error| open_refusal(error.kind()))?;
+    random.read_exact(&mut identity)?;
+    Ok(identity)
+}
