@@ -5,6 +5,7 @@ mod caches;
 mod drivers;
 mod filling;
 mod images;
+mod large;
 mod migrations;
 mod sectors;
 mod version_1;

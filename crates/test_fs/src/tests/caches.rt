@@ -27,7 +27,7 @@ const MODE: [u32; 2] = [0, 2];
 
 const MODE_644: [u8; 4] = [0, 0, 1, 0xA4];
 
-fn caller() -> Cred {
+pub(super) fn caller() -> Cred {
     Cred {
         uid: 7,
         gid: 7,
@@ -49,7 +49,7 @@ fn new_file<'a>() -> How<'a>
 }
 
 /// The number of a file that is made.
-fn make(fs: &mut Fs<&mut Disk>, name: &[u8]) -> Result<u64, FsFault> {
+pub(super) fn make(fs: &mut Fs<&mut Disk>, name: &[u8]) -> Result<u64, FsFault> {
     let asked = Opening {
         directory: ROOT,
         name,
@@ -65,7 +65,7 @@ fn make(fs: &mut Fs<&mut Disk>, name: &[u8]) -> Result<u64, FsFault> {
     Ok(opened.number)
 }
 
-fn write(
+pub(super) fn write(
     fs: &mut Fs<&mut Disk>,
     number: u64,
     offset: u64,
@@ -89,7 +89,7 @@ fn read(fs: &mut Fs<&mut Disk>, number: u64, out: &mut Vec<u8>) -> Result<(), Fa
 }
 
 /// The change value of the root after a file is removed.
-fn remove(fs: &mut Fs<&mut Disk>, name: &[u8]) -> Result<u64, FsFault> {
+pub(super) fn remove(fs: &mut Fs<&mut Disk>, name: &[u8]) -> Result<u64, FsFault> {
     let removed = fs.remove(&caller(), NOW, ROOT, name, true)?;
     Ok(removed.after)
 }

@@ -122,7 +122,7 @@ the number of ACEs in form two: @163 0*84 01
 its other byte: @163 0*85 03";
 
 /// The volume with the change of a line.
-fn changed(alloc: Global, good: &Image, line: &str) -> Result<Disk, Fail> {
+pub(super) fn changed(alloc: Global, good: &Image, line: &str) -> Result<Disk, Fail> {
     let mut image = copy_image(alloc, good)?;
     put_line(&mut image, line);
     disk_of(alloc, image, Stop::Never, NO_CALL)
@@ -135,7 +135,7 @@ fn put_line(image: &mut Image, line: &str) {
 }
 
 /// Each is taken, or refused with this fault.
-fn expect(
+pub(super) fn expect(
     rt: &impl Abort,
     alloc: Global,
     good: &Image,
@@ -149,9 +149,9 @@ fn expect(
     Ok(())
 }
 
-const DAMAGED: Result<(), MountFault> = Err(MountFault::Damaged);
+pub(super) const DAMAGED: Result<(), MountFault> = Err(MountFault::Damaged);
 
-const NO_VOLUME: Result<(), MountFault> = Err(MountFault::NotVolume);
+pub(super) const NO_VOLUME: Result<(), MountFault> = Err(MountFault::NotVolume);
 
 /// With the seat.
 fn seated(alloc: Global) -> Result<Image, AllocError> {

@@ -130,7 +130,11 @@ fn crash(alloc: Global, before: &Image, step: u64) -> Result<CrashDevice, Fail> 
 }
 
 /// What is on the sectors when this lands.
-fn land(alloc: Global, crashed: &CrashDevice, landing: &[Landed]) -> Result<Image, Fail> {
+pub(super) fn land(
+    alloc: Global,
+    crashed: &CrashDevice,
+    landing: &[Landed],
+) -> Result<Image, Fail> {
     let mut device = crashed.landed(alloc, landing)?;
     image_of(alloc, &mut device)
 }
