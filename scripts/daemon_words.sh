@@ -182,6 +182,24 @@ formatting() {
     done
     rm -f new.img
     try format new.img 256 ''
+    echo '== format: layout 3'
+    try format new.img 64M
+    echo "  mode $(stat -c %a new.img), $(stat -c %s new.img) bytes"
+    try check new.img
+    try format new.img 64M
+    try format --force --nodes 20 --log 288 new.img 3M
+    try check new.img
+    for words in 2064K 2068K 1T 16T 64 64m 64MB 0G -1G '' M 1.5G; do
+        rm -f new.img
+        try format --nodes 20 --log 288 new.img "$words"
+    done
+    for words in '--nodes 1' '--nodes 16100' '--log 287' '--log 1023' '--nodes x' '--log -1'; do
+        rm -f new.img
+        try format $words new.img 64M
+    done
+    try format --nodes 20 new.img 256 16
+    try format --log 288 new.img 256 16
+    rm -f new.img
     echo "== format: other words"
     try format
     try format new.img
