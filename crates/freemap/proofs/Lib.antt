@@ -4,3 +4,4 @@ pub mod Laws
 pub mod PartLaws
 pub mod KeptLemmas
 pub mod PageLaws
+pub mod GroupLaws

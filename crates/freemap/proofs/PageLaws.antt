@@ -1,18 +1,16 @@
 -- Bits of pages end to end, and what a change of a page changes.
-use Rattle.std.proofs.Common.{◌≡◌, ◌≢◌, ◌<◌, ◌≤◌, ◌+◌, ◌-◌, ◌*◌, ◌/◌, ◌%◌, ◌^◌, min, ℕ, suc, Bool, List, [], ◌∷◌, ◌++◌, length, map, take, drop, get_or, set, Result, Ok, Err, OnErr, Global, refl, sym, ap, ap₂, subst, ◌∙◌, arith, inl, inr, length-append}
+use Rattle.std.proofs.Common.{◌≡◌, ◌≢◌, ◌<◌, ◌≤◌, ◌+◌, ◌-◌, ◌*◌, ◌/◌, ◌%◌, ◌^◌, min, ℕ, suc, List, [], ◌∷◌, ◌++◌, length, map, take, drop, get_or, set, Result, Ok, Err, OnErr, Global, refl, sym, ap, ap₂, subst, ◌∙◌, arith, inl, inr, length-append}
 use Rattle.std.specs.List.{concat}
 use Rattle.std.specs.declared.rc.Rc.{Rc}
 use Rattle.std.proofs.Math.Seq.{get_or-append_right, take-append-add}
-use Rattle.std.proofs.lemmas.List.{get_or_append_left, get_or-set_same, get_or-set_other, get_or-map, length-set, length-take-le, take-append-drop, append-nil}
+use Rattle.std.proofs.lemmas.List.{get_or_append_left, get_or-set_same, get_or-set_other, get_or-map, length-map, length-set, length-take-le, take-append-drop, append-nil}
 use Rattle.std.proofs.lemmas.List.Folds.{concat-append}
 use Rattle.std.proofs.lemmas.List.Elements.{All-head, All-tail, All-set, All-get_or}
 use Rattle.std.proofs.lemmas.Bool.{cases_lt, cases_eq}
-use Rattle.freemap.specs.Places.{bit_of, is_one, places_in, ShowsPlaces}
-use Rattle.freemap.specs.Kept.{AreSectors, IsShared, IsSetBelow, IsFirstClear, BitBecomes, parts}
+use Rattle.freemap.specs.Places.{bit_of}
+use Rattle.freemap.specs.Kept.{AreSectors, IsGroup, IsSectorAt, IsSetBelow, IsFirstClear, BitBecomes}
 use Rattle.freemap.specs.declared.page.Page.{Page}
-use Rattle.freemap.proofs.Bits.{Shows-part}
-use Rattle.freemap.proofs.PartLaws.{part-within}
-use Rattle.freemap.proofs.KeptLemmas.{IsKept-take, IsKept-give, below-more, places_in-set}
+use Rattle.freemap.proofs.KeptLemmas.{stays_set, first_given}
 
 pub on_err : {T E P : Type 0} (r : Result T E) → P → OnErr r P
 on_err (Ok x) holds = tt
@@ -67,7 +65,7 @@ module _ (pages : List (List ℕ)) (all : AreSectors pages) (part : ℕ) where
       page_bit pages all (32768 * part + i) ∙ ap₂ (λ (k n : ℕ). bit_of (get_or pages k []) n) row column
 
   -- if the pages before this one are full, none below its first clear bit is clear
-  pub below_first : IsSetBelow (concat pages) (32768 * part) → (first : ℕ) → IsFirstClear (get_or pages part []) first → IsSetBelow (concat pages) (32768 * part + first)
+  pub below_first : IsSetBelow (concat pages) (32768 * part) → (first : ℕ) → IsFirstClear (get_or pages part []) 32768 first → IsSetBelow (concat pages) (32768 * part + first)
   below_first below first is i h = elim (cases_lt i (32768 * part)) [
     | inl lt ↦ below i lt
     | inr le ↦
@@ -77,7 +75,7 @@ module _ (pages : List (List ℕ)) (all : AreSectors pages) (part : ℕ) where
         rw place at (there ∙ is.below (i - 32768 * part) small)
   ]
 
-  pub clear_first : (first : ℕ) → IsFirstClear (get_or pages part []) first → first < 32768 → bit_of (concat pages) (32768 * part + first) ≡ 0
+  pub clear_first : (first : ℕ) → IsFirstClear (get_or pages part []) 32768 first → first < 32768 → bit_of (concat pages) (32768 * part + first) ≡ 0
   clear_first first is h = bit_there first h ∙ is.clear h
 
 module _ (pages : List (List ℕ)) (all : AreSectors pages) (new : List ℕ) (len : length new ≡ 4096) (place : ℕ) (within : place / 32768 < length pages) where
@@ -110,7 +108,7 @@ page_there pages part page is h = ap (λ (p : Shared). p.value) is ∙ sym (get_
 
 -- one more page
 
-take_split : (n m : ℕ) (bits : List ℕ) → n ≤ length bits → take (n + m) bits ≡ take n bits ++ take m (drop n bits)
+pub take_split : (n m : ℕ) (bits : List ℕ) → n ≤ length bits → take (n + m) bits ≡ take n bits ++ take m (drop n bits)
 take_split n m bits h =
     ap₂ (λ (k : ℕ) (l : List ℕ). take (k + m) l) (sym (length-take-le n bits h)) (sym (take-append-drop n bits)) ∙ take-append-add (take n bits) (drop n bits) m
 
@@ -121,57 +119,53 @@ cut_more pages bits page first within made is =
     concat-append pages (page ∷ []) ∙ (ap₂ (λ (a b : List ℕ). a ++ b) made (append-nil page ∙ (is ∙ ap (λ (n : ℕ). take n (drop first bits)) whole))
     ∙ sym (take_split first 4096 bits within))
 
--- what a shared bitmap keeps
+-- the first clear bit of all pages, if the pages before this one are full
+pub first_of : (pages : List (List ℕ)) → AreSectors pages → (part : ℕ) → part < length pages → IsSetBelow (concat pages) (32768 * part) → (first : ℕ) → IsFirstClear (get_or pages part []) 32768 first → first < 32768
+    → IsFirstClear (concat pages) (32768 * length pages) (32768 * part + first)
+first_of pages all part h below first is clear = record {
+  within = omega arith;
+  below = below_first pages all part below first is;
+  clear = λ inside. clear_first pages all part first is clear;
+}
 
-module _ (pages : List (List ℕ)) (count lowest : ℕ) (kept : IsShared pages count lowest) where
-  pages_are : length pages ≡ parts count
-  pages_are = omega (arith, length-pages pages kept.sectors, kept.kept.len)
+-- what a group keeps
 
-  pub pages_few : length pages ≤ 131072
-  pages_few = omega (arith, pages_are, kept.kept.fits)
+pub group_len : (pages : List (List ℕ)) → AreSectors pages → 8 * length (concat pages) ≡ 32768 * length pages
+group_len pages all = omega (arith, length-pages pages all)
 
-  pub place_in : (place : ℕ) → place < count → place / 32768 < length pages
-  place_in place h = omega (arith, pages_are)
+pub group_first : (pages : List Shared) (first : ℕ) → IsGroup (bytes_of pages) first → IsFirstClear (concat (bytes_of pages)) (8 * length (concat (bytes_of pages))) first
+group_first pages first group = subst (λ (n : ℕ). IsFirstClear (concat (bytes_of pages)) n first) (sym (group_len (bytes_of pages) group.sectors)) group.first_clear
 
-  pub part_in : (part : ℕ) (places : List Bool) → places_in (concat pages) count ≡ places → part < parts (length places) → part < length pages
-  part_in part places shown h = omega (arith, part-within (concat pages) count lowest part places kept.kept shown h, length-pages pages kept.sectors)
+pub made_group : (pages : List Shared) (first : ℕ) → length pages ≤ 128 → AreSectors (bytes_of pages) → IsFirstClear (concat (bytes_of pages)) (32768 * length pages) first → IsGroup (bytes_of pages) first
+made_group pages first few all is = record {
+  few = omega (arith, few, length-map pages (λ (p : Shared). p.value));
+  sectors = all;
+  first_clear = subst (λ (n : ℕ). IsFirstClear (concat (bytes_of pages)) (32768 * n) first) (sym (length-map pages (λ (p : Shared). p.value))) is;
+}
 
-  page_byte : (part k : ℕ) → k < 4096 → get_or (get_or pages part []) k 0 ≡ get_or (concat pages) (4096 * part + k) 0
-  page_byte part k h =
+pub sector_at : (pages : List (List ℕ)) → AreSectors pages → (part : ℕ) → part < length pages → IsSectorAt (get_or pages part []) (concat pages) (4096 * part)
+sector_at pages all part h = record {
+  len = All-get_or IsSector pages part [] h all;
+  bytes = λ k l.
       let row : (4096 * part + k) / 4096 ≡ part = omega arith in
       let column : (4096 * part + k) % 4096 ≡ k = omega arith in
-      sym (byte_at pages kept.sectors (4096 * part + k) ∙ ap₂ (λ (p n : ℕ). get_or (get_or pages p []) n 0) row column)
+      sym (byte_at pages all (4096 * part + k) ∙ ap₂ (λ (p n : ℕ). get_or (get_or pages p []) n 0) row column);
+}
 
-  pub page_len : (part : ℕ) → part < length pages → length (get_or pages part []) ≡ 4096
-  page_len part h = All-get_or IsSector pages part [] h kept.sectors
+module _ (pages : List (List ℕ)) (first : ℕ) (group : IsGroup pages first) (new : List ℕ) (len : length new ≡ 4096) (place : ℕ) (within : place / 32768 < length pages) where
+  pub still_few : length (set pages (place / 32768) new) ≤ 128
+  still_few = omega (arith, group.few, length-set pages (place / 32768) new)
 
-  pub page_shown : (part : ℕ) (places : List Bool) → places_in (concat pages) count ≡ places → part < parts (length places) → ShowsPlaces (get_or pages part []) places (32768 * part)
-  page_shown part places shown h =
-      let place : 8 * (4096 * part) ≡ 32768 * part = omega arith in
-      let shows = Shows-part (concat pages) (get_or pages part []) count (4096 * part) kept.kept.past (page_len part (part_in part places shown h)) (λ k l. page_byte part k l) in
-      subst (λ (n : ℕ). ShowsPlaces (get_or pages part []) places n) place (subst (λ (l : List Bool). ShowsPlaces (get_or pages part []) l (8 * (4096 * part))) shown shows)
+  pub still_set : BitBecomes (get_or pages (place / 32768) []) new (place % 32768) 1 → IsSetBelow (concat (set pages (place / 32768) new)) first
+  still_set becomes =
+      stays_set (concat pages) (concat (set pages (place / 32768) new)) place first (page_becomes pages group.sectors new len place within 1 becomes) group.first_clear.below
 
-  module _ (place : ℕ) (within : place < count) (new : List ℕ) (len : length new ≡ 4096) where
-    new_len : length (concat (set pages (place / 32768) new)) ≡ 4096 * parts count
-    new_len = length_set pages kept.sectors new len place (place_in place within) ∙ kept.kept.len
-
-    pub changed : (bit : ℕ) → BitBecomes (get_or pages (place / 32768) []) new (place % 32768) bit
-        → places_in (concat (set pages (place / 32768) new)) count ≡ set (places_in (concat pages) count) place (is_one bit)
-    changed bit becomes =
-        places_in-set (concat pages) (concat (set pages (place / 32768) new)) count place bit (page_becomes pages kept.sectors new len place (place_in place within) bit becomes) within
-
-    pub kept_taken : BitBecomes (get_or pages (place / 32768) []) new (place % 32768) 1 → IsSetBelow (concat pages) place → IsShared (set pages (place / 32768) new) count (place + 1)
-    kept_taken becomes below =
-        let bit = page_becomes pages kept.sectors new len place (place_in place within) 1 becomes in
-        record {
-          sectors = sectors_set pages kept.sectors new len place (place_in place within);
-          kept = IsKept-take (concat pages) (concat (set pages (place / 32768) new)) count place lowest kept.kept new_len within bit (place + 1) (omega arith)
-              (below-more (concat pages) (concat (set pages (place / 32768) new)) place bit below);
-        }
-
-    pub kept_given : BitBecomes (get_or pages (place / 32768) []) new (place % 32768) 0 → IsShared (set pages (place / 32768) new) count (min lowest place)
-    kept_given becomes = record {
-      sectors = sectors_set pages kept.sectors new len place (place_in place within);
-      kept = IsKept-give (concat pages) (concat (set pages (place / 32768) new)) count place lowest kept.kept new_len within
-          (page_becomes pages kept.sectors new len place (place_in place within) 0 becomes);
-    }
+  pub group_given : BitBecomes (get_or pages (place / 32768) []) new (place % 32768) 0 → IsGroup (set pages (place / 32768) new) (min first place)
+  group_given becomes =
+      let bit = page_becomes pages group.sectors new len place within 0 becomes in
+      record {
+        few = still_few;
+        sectors = sectors_set pages group.sectors new len place within;
+        first_clear = subst (λ (n : ℕ). IsFirstClear (concat (set pages (place / 32768) new)) (32768 * n) (min first place)) (sym (length-set pages (place / 32768) new))
+            (first_given (concat pages) (concat (set pages (place / 32768) new)) place first (32768 * length pages) bit group.first_clear);
+      }

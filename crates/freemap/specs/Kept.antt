@@ -1,6 +1,6 @@
 -- What a `Bitmap` keeps: the bytes of its sectors, how many of their bits are places, and where to
 -- look for a free one; and the same of a `SharedBitmap`, a page for each sector.
-use Rattle.std.specs.Prelude.{◌≡◌, ◌≢◌, ◌<◌, ◌≤◌, ◌+◌, ◌*◌, ◌/◌, ◌^◌, ℕ, Bool, not, List, length, count_by, max, All}
+use Rattle.std.specs.Prelude.{◌≡◌, ◌≢◌, ◌<◌, ◌≤◌, ◌+◌, ◌-◌, ◌*◌, ◌/◌, ◌^◌, ℕ, Bool, not, List, [], length, slice_index, slice_index_or, count_by, min, max, All}
 use Rattle.std.specs.List.{concat}
 use Rattle.freemap.specs.Places.{bit_of}
 
@@ -37,22 +37,39 @@ pub record IsBitmap (bytes : List ℕ) (count lowest : ℕ) : Type 0 where
   pub lowest_in : lowest ≤ count
   pub below : IsSetBelow bytes lowest
 
--- the first clear bit of a sector: 32,768 if each is set
-pub record IsFirstClear (bytes : List ℕ) (place : ℕ) : Type 0 where
-  pub within : place ≤ 32768
+-- the first clear bit below `end`: `end` if each is set
+pub record IsFirstClear (bytes : List ℕ) (end place : ℕ) : Type 0 where
+  pub within : place ≤ end
   pub below : IsSetBelow bytes place
-  pub clear : place < 32768 → bit_of bytes place ≡ 0
+  pub clear : place < end → bit_of bytes place ≡ 0
 
 -- a page is a sector, and has the place of its first clear bit
 pub record IsPage (bytes : List ℕ) (first : ℕ) : Type 0 where
   pub len : length bytes ≡ 4096
-  pub first_clear : IsFirstClear bytes first
+  pub first_clear : IsFirstClear bytes 32768 first
 
 -- every page is a sector
 abbrev pub AreSectors : List (List ℕ) → Type 0
 AreSectors pages = All (λ page. length page ≡ 4096) pages
 
--- the pages, end to end, are a bitmap
-pub record IsShared (pages : List (List ℕ)) (count lowest : ℕ) : Type 0 where
+-- a group is 128 pages at most, and has the place of their first clear bit
+pub record IsGroup (pages : List (List ℕ)) (first : ℕ) : Type 0 where
+  pub few : length pages ≤ 128
   pub sectors : AreSectors pages
-  pub kept : IsBitmap (concat pages) count lowest
+  pub first_clear : IsFirstClear (concat pages) (32768 * length pages) first
+
+-- every group has 128 pages, except the last one, which has the rest
+pub record AreGroups (groups : List (List ℕ)) : Type 0 where
+  pub many : length groups ≡ (length (concat groups) + 524287) / 524288
+  pub each : (k : ℕ)
+      → length (slice_index_or groups k []) ≡ min 524288 (length (concat groups) - 524288 * k)
+
+-- a sector is the 4,096 bytes from `first` on
+pub record IsSectorAt (sector all : List ℕ) (first : ℕ) : Type 0 where
+  pub len : length sector ≡ 4096
+  pub bytes : (k : ℕ) → k < 4096 → slice_index sector k ≡ slice_index all (first + k)
+
+-- the groups, end to end, are a bitmap
+pub record IsShared (groups : List (List ℕ)) (count lowest : ℕ) : Type 0 where
+  pub full : AreGroups groups
+  pub kept : IsBitmap (concat groups) count lowest

@@ -3,6 +3,8 @@
 
 mod bitmap;
 mod fault;
+mod group;
+mod groups;
 mod page;
 mod pages;
 mod places;

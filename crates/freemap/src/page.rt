@@ -63,7 +63,7 @@ impl Page {
 
     /// Its first free place; `PAGE_PLACES` if none is free.
     pub(crate) fn first(&self) -> usize
-        ensures { IsFirstClear self.now result }
+        ensures { IsFirstClear self.now SECTOR_PLACES result }
     {
         self.first
     }
@@ -128,7 +128,7 @@ fn first_clear(bits: &[u8], from: usize) -> usize
     requires len { length bits.now ≡ SIZE }
     requires begins { from ≤ SECTOR_PLACES }
     requires below { IsSetBelow bits.now from }
-    ensures { IsFirstClear bits.now result }
+    ensures { IsFirstClear bits.now SECTOR_PLACES result }
 {
     match sectors::first_clear(bits, from, PAGE_PLACES) {
         Some(place) => place,

@@ -1,18 +1,15 @@
-//! The pages of a shared bitmap.
+//! The pages of a group.
 
 ghost use Rattle.std.specs.Prelude.{◌≡◌, ◌<◌, ◌≤◌, ◌*◌, length, map, IfOk};
 ghost use Rattle.std.specs.List.{concat};
-ghost use Rattle.freemap.specs.Places.{bit_of};
-ghost use Rattle.freemap.specs.Kept.{IsSetBelow, AreSectors};
+ghost use Rattle.freemap.specs.Kept.{IsSetBelow, IsFirstClear, AreSectors};
 
+use crate::group::GROUP_PAGES;
 use crate::page::{PAGE_PLACES, Page};
-use crate::sectors::{MAX_BYTES, SECTOR_PLACES};
+use crate::sectors::SECTOR_PLACES;
 use sector::SIZE;
 use std::alloc::{AllocError, Global};
 use std::rc::Rc;
-
-/// The most pages: 2^32 places.
-const MAX_PAGES: usize = MAX_BYTES / SIZE;
 
 /// Pages of these sectors.
 pub(crate) fn cut(alloc: Global, bits: &[u8], count: usize) -> Result<Vec<Rc<Page>>, AllocError>
@@ -30,27 +27,25 @@ pub(crate) fn cut(alloc: Global, bits: &[u8], count: usize) -> Result<Vec<Rc<Pag
     Ok(pages)
 }
 
-/// The same pages, in the same memory.
-pub(crate) fn share(alloc: Global, pages: &[Rc<Page>]) -> Result<Vec<Rc<Page>>, AllocError>
-    ensures { IfOk result (λ copy. map (λ page. page.value) copy.items
-        ≡ map (λ page. page.value) pages.now) }
+/// The same list, in the same memory: pages or groups.
+pub(crate) fn share<T: Drop>(alloc: Global, list: &[Rc<T>]) -> Result<Vec<Rc<T>>, AllocError>
+    ensures { IfOk result (λ copy. map (λ one. one.value) copy.items
+        ≡ map (λ one. one.value) list.now) }
 {
-    let mut copy = Vec::with_capacity(alloc, pages.len())?;
-    for page in pages {
-        copy.push(page.clone()?)?;
+    let mut copy = Vec::with_capacity(alloc, list.len())?;
+    for one in list {
+        copy.push(one.clone()?)?;
     }
     Ok(copy)
 }
 
 /// The lowest free place, if none below `from` is free; the end of the last page if none is free.
 pub(crate) fn first_clear(pages: &[Rc<Page>], from: usize) -> usize
-    requires few { length pages.now ≤ MAX_PAGES }
+    requires few { length pages.now ≤ GROUP_PAGES }
     requires sectors { AreSectors (map (λ page. page.value) pages.now) }
     requires below { IsSetBelow (concat (map (λ page. page.value) pages.now)) from }
-    // What it finds
-    ensures below { IsSetBelow (concat (map (λ page. page.value) pages.now)) result }
-    ensures clear { result < SECTOR_PLACES * length pages.now
-        → bit_of (concat (map (λ page. page.value) pages.now)) result ≡ 0 }
+    ensures { IsFirstClear (concat (map (λ page. page.value) pages.now))
+        (SECTOR_PLACES * length pages.now) result }
 {
     let count = pages.len();
     for part in from / PAGE_PLACES..count {

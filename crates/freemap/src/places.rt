@@ -6,22 +6,22 @@ ghost use Rattle.freemap.specs.Kept.{parts};
 
 use crate::bitmap::Bitmap;
 use crate::fault::TakeFault;
-use crate::page::{self, PAGE_PLACES, Page};
-use crate::pages;
+use crate::group::{self, GROUP_PLACES, Group};
 use crate::sectors::{self, SECTOR_PLACES};
+use crate::{groups, pages};
 use sector::SIZE;
 use std::alloc::{AllocError, Global};
 use std::marker::Model;
 use std::rc::Rc;
 
-/// Which places are used, in pages of one bitmap sector each. A copy shares a page until one of the
-/// two changes it.
+/// Which places are used, in pages of one bitmap sector each, and these in groups of 128. A copy
+/// shares each group, and then each page, until one of the two changes it.
 ///
 /// Contracts see a list of booleans, true if the place is used.
 #[derive(Drop)]
 pub struct SharedBitmap {
     alloc: Global,
-    pages: Vec<Rc<Page>>,
+    groups: Vec<Rc<Group>>,
     count: u32,
     /// No place below this one is free.
     lowest: usize,
@@ -35,32 +35,32 @@ impl Model for SharedBitmap {
 
     ghost Value = { List Bool };
 
-    ghost view = { λ b. places_in (concat (map (λ page. page.value) b.pages.items)) b.count };
+    ghost view = { λ b. places_in (concat (map (λ g. g.value) b.groups.items)) b.count };
 
-    ghost invariant = { λ b. IsShared (map (λ page. page.value) b.pages.items) b.count b.lowest };
+    ghost invariant = { λ b. IsShared (map (λ g. g.value) b.groups.items) b.count b.lowest };
 }
 
 impl SharedBitmap {
-    /// A bitmap of the same places, whose copies share its pages.
+    /// A bitmap of the same places, whose copies share its memory.
     pub fn new(alloc: Global, set: Bitmap) -> Result<SharedBitmap, AllocError>
         ensures { IfOk result (λ places. places ≡ set) }
     {
         let count = set.bits.len() / SIZE;
         Ok(SharedBitmap {
             alloc,
-            pages: pages::cut(alloc, &set.bits, count)?,
+            groups: groups::cut(alloc, &set.bits, count)?,
             count: set.count,
             lowest: set.lowest,
         })
     }
 
-    /// A copy, which shares each page.
+    /// A copy, which shares each group.
     pub fn try_clone(&self) -> Result<SharedBitmap, AllocError>
         ensures { IfOk result (λ places. places ≡ self.now) }
     {
         Ok(SharedBitmap {
             alloc: self.alloc,
-            pages: pages::share(self.alloc, &self.pages)?,
+            groups: pages::share(self.alloc, &self.groups)?,
             count: self.count,
             lowest: self.lowest,
         })
@@ -71,7 +71,7 @@ impl SharedBitmap {
         requires { part < parts (length self.now) }
         ensures { ShowsPlaces sector.new self.now (SECTOR_PLACES * part) }
     {
-        sector.copy_from_slice(self.pages[part as usize].bytes());
+        sector.copy_from_slice(groups::page(&self.groups, part as usize));
     }
 
     /// Whether bitmap sector `part` is the same of both.
@@ -81,7 +81,10 @@ impl SharedBitmap {
         ensures { IsTrue result ↔ HaveSamePart self.now other.now (SECTOR_PLACES * part) }
     {
         let part = part as usize;
-        sectors::have_same_bits(self.pages[part].bytes(), other.pages[part].bytes())
+        sectors::have_same_bits(
+            groups::page(&self.groups, part),
+            groups::page(&other.groups, part),
+        )
     }
 
     /// Takes a free place, in place if nobody shares its page. Which one is left open.
@@ -95,13 +98,13 @@ impl SharedBitmap {
         ensures unchanged { OnErr result (self.new ≡ self.old) }
     {
         let count = self.count as usize;
-        let place = pages::first_clear(&self.pages, self.lowest);
+        let place = groups::first_clear(&self.groups, self.lowest);
         if place >= count {
             self.lowest = count;
             return Err(TakeFault::Full);
         }
-        let page = &mut self.pages[place / PAGE_PLACES];
-        page::take(self.alloc, page, place % PAGE_PLACES)?;
+        let group = &mut self.groups[place / GROUP_PLACES];
+        group::take(self.alloc, group, place % GROUP_PLACES)?;
         self.lowest = place + 1;
         Ok(place as u32)
     }
@@ -113,8 +116,8 @@ impl SharedBitmap {
         ensures unchanged { OnErr result (self.new ≡ self.old) }
     {
         let place = place as usize;
-        let page = &mut self.pages[place / PAGE_PLACES];
-        page::give(self.alloc, page, place % PAGE_PLACES)?;
+        let group = &mut self.groups[place / GROUP_PLACES];
+        group::give(self.alloc, group, place % GROUP_PLACES)?;
         self.lowest = self.lowest.min(place);
         Ok(())
     }

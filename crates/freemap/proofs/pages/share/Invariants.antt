@@ -1,5 +1,5 @@
 use Rattle.std.proofs.Common.{◌≡◌, map, take}
 use Rattle.freemap.proofs.pages.share.Given as goal
 
-abbrev pub invariant-loop-page : goal.invariant-loop-page
-invariant-loop-page l = map (λ page. page.value) l.copy.items ≡ map (λ page. page.value) (take l.page-index l.pages)
+abbrev pub invariant-loop-one : goal.invariant-loop-one
+invariant-loop-one g l = map (λ one. one.value) l.copy.items ≡ map (λ one. one.value) (take l.one-index l.list)
