@@ -16,9 +16,10 @@ use Rattle.journal.specs.declared.layout.LogArea.{LogArea}
 abbrev pub first_target : ℕ
 first_target = 98
 
--- how many sectors one transaction may write
-abbrev pub max_updates : ℕ
-max_updates = 48
+-- how many sectors one transaction may write: as many as the payload has, or 48 if a gate names each
+-- target once
+abbrev pub max_updates : LogArea → ℕ
+max_updates area = if area.once then 48 else area.sectors
 
 -- the log between the gate and the sectors that transactions write, up to the device's end
 abbrev pub log_at_start : ℕ → LogArea
@@ -32,7 +33,7 @@ pub record IsArea (area : LogArea) : Type 0 where
   pub beside : area.first < area.end → area.first + area.sectors ≤ first_target
   pub numbers : area.first + area.sectors < 2 ^ 32
   pub few : area.sectors ≤ 1022
-  pub room : max_updates ≤ area.sectors
+  pub room : 48 ≤ area.sectors
 
 -- how many sectors a device needs for it
 abbrev pub area_end : LogArea → ℕ

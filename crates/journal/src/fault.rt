@@ -13,8 +13,8 @@ pub enum JournalFault {
     /// The sector of the commit record has no form that a journal writes.
     #[error("the gate has no form")]
     Damaged,
-    /// A transaction of more than 48 sectors. Nothing changed.
-    #[error("more than 48 sectors in a transaction")]
+    /// A transaction of more sectors than `LogArea::max_updates`. Nothing changed.
+    #[error("too many sectors in a transaction")]
     TooMany,
     /// No memory to mount. The device was not touched.
     #[error("out of memory")]

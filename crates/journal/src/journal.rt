@@ -15,7 +15,7 @@ ghost use Rattle.journal.specs.Phase.{FailsCounted};
 ghost use Rattle.journal.specs.Transactions.{FitTogether, gathered, sectors_of};
 
 use crate::cache::Cache;
-use crate::layout::{self, LogArea, MAX_UPDATES, SUPERBLOCK};
+use crate::layout::{self, LogArea, SUPERBLOCK};
 use crate::recorded::Recorded;
 use crate::{JournalFault, Unmounted, View, commit, list, phase, recover};
 use disk::{Device, DiskFault, SECTOR, Update};
@@ -565,7 +565,7 @@ impl<D: Device> Journal<D> {
     fn flush_if_full(&mut self, updates: &[Update]) -> Result<(), DiskFault>
         // A transaction that may be taken
         requires up { (log_of self.old).is_down ≡ false }
-        requires short { length updates.now ≤ MAX_UPDATES }
+        requires short { length updates.now ≤ max_updates (log_of self.old).area }
         requires fit { AreTargets (log_of self.old).area.end (targets updates.now) }
         // However it ends
         ensures part { IsPart D.keeps_word (log_of self.old) (log_of self.new)
@@ -601,7 +601,7 @@ impl<D: Device> Journal<D> {
     ///
     /// # Errors
     ///
-    /// [`JournalFault::TooMany`] above 48 updates: nothing changed.
+    /// [`JournalFault::TooMany`] above [`LogArea::max_updates`] updates: nothing changed.
     /// [`JournalFault::Fault`] if the device failed, and [`JournalFault::Down`] from then on.
     pub fn apply(&mut self, updates: Vec<Update>) -> Result<(), JournalFault>
         requires { AreTargets (log_of self.old).area.end (targets updates.items) }
@@ -615,7 +615,8 @@ impl<D: Device> Journal<D> {
             (log_of self.new)) }
         // If it fails
         ensures too_many { (log_of self.old).is_down ≡ false
-            → IsErrOf result JournalFault.TooMany ↔ (max_updates < length updates.items) }
+            → IsErrOf result JournalFault.TooMany
+            ↔ (max_updates (log_of self.old).area < length updates.items) }
         ensures unchanged { IsErrOf result JournalFault.TooMany
             → log_of self.new ≡ log_of self.old }
         ensures answers { AnswersByDevice (log_of self.old) (log_of self.new)
@@ -626,7 +627,7 @@ impl<D: Device> Journal<D> {
         if self.is_down {
             return Err(JournalFault::Down);
         }
-        if updates.len() > MAX_UPDATES {
+        if updates.len() > self.area.max_updates() {
             return Err(JournalFault::TooMany);
         }
         self.flush_if_full(&updates)?;

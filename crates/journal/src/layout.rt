@@ -2,7 +2,7 @@
 
 ghost use Rattle.std.specs.Prelude.{◌≡◌};
 ghost use Rattle.disk.specs.Calls.{zero_sector};
-ghost use Rattle.journal.specs.Layout.{log_at_start};
+ghost use Rattle.journal.specs.Layout.{log_at_start, max_updates};
 
 use disk::SECTOR;
 
@@ -21,8 +21,8 @@ pub const MAX_TARGETS: usize = 1022;
 /// The first sector that a transaction may write.
 pub const FIRST_TARGET: u32 = 98;
 
-/// The most sectors of one transaction.
-pub const MAX_UPDATES: usize = 48;
+/// The most sectors of one transaction, if a commit record names each target once.
+const UPDATES_ONCE: usize = 48;
 
 /// The place of the log, and what transactions may write.
 #[derive(Clone, Copy)]
@@ -48,6 +48,18 @@ impl LogArea {
             sectors: 96,
             end: sectors,
             once: true,
+        }
+    }
+
+    /// The most sectors of one transaction: as many as the payload has, or 48 if a commit record
+    /// names each target once.
+    pub fn max_updates(&self) -> usize
+        ensures { result ≡ max_updates self.now }
+    {
+        if self.once {
+            UPDATES_ONCE
+        } else {
+            self.sectors as usize
         }
     }
 }

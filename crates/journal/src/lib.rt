@@ -17,5 +17,5 @@ mod view;
 pub use fault::{JournalFault, Unmounted};
 pub use journal::{CACHED_SECTORS, Journal};
 pub use laws::every_end;
-pub use layout::{FIRST_TARGET, LogArea, MAX_TARGETS, MAX_UPDATES, MIN_SECTORS};
+pub use layout::{FIRST_TARGET, LogArea, MAX_TARGETS, MIN_SECTORS};
 pub use view::View;

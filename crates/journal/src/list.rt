@@ -6,7 +6,7 @@ ghost use Rattle.disk.specs.Moments.{Image, applied, put as with};
 ghost use Rattle.journal.specs.Layout.{targets};
 ghost use Rattle.journal.specs.Transactions.{gathered, has, IsLastPlace};
 
-use crate::layout::{MAX_TARGETS, MAX_UPDATES};
+use crate::layout::MAX_TARGETS;
 use disk::{SECTOR, Update};
 
 /// The newest content that the updates give sector `n`, or otherwise what was found before.
@@ -45,7 +45,7 @@ pub(crate) fn find(pending_sectors: &[u32], n: u32) -> Option<usize>
 /// sectors.
 pub(crate) fn fits(pending_sectors: &[u32], updates: &[Update], sectors: usize) -> bool
     requires few { length pending_sectors.now ≤ MAX_TARGETS }
-    requires short { length updates.now ≤ MAX_UPDATES }
+    requires short { length updates.now ≤ MAX_TARGETS }
     requires apart { AllPairs (λ a b. a ≢ b) (targets updates.now) }
     ensures { IsTrue result
         ↔ (length (gathered pending_sectors.now (targets updates.now)) ≤ sectors) }

@@ -85,9 +85,9 @@ pub returns-then-self-clause-bounded : goal.returns-then-self-clause-bounded
 unfolding log_of
 returns-then-self-clause-bounded g c = omega (arith, listed_sectors c.args.self.now.pending.items, c.args.self.now.few)
 
-pub returns-then-len-gt-MAX_UPDATES-clause-bounded : goal.returns-then-len-gt-MAX_UPDATES-clause-bounded
+pub returns-then-len-max_updates-clause-bounded : goal.returns-then-len-max_updates-clause-bounded
 unfolding log_of
-returns-then-len-gt-MAX_UPDATES-clause-bounded g c = omega (arith, listed_sectors c.args.self.now.pending.items, c.args.self.now.few)
+returns-then-len-max_updates-clause-bounded g c = omega (arith, listed_sectors c.args.self.now.pending.items, c.args.self.now.few)
 
 pub returns-in_err-flush_if_full-clause-bounded : goal.returns-in_err-flush_if_full-clause-bounded
 unfolding log_of
@@ -142,12 +142,12 @@ pub returns-then-self-clause-answers : goal.returns-then-self-clause-answers
 unfolding log_of journal_failures
 returns-then-self-clause-answers g c = answers_down _ _ c.if-self.true
 
-pub returns-then-len-gt-MAX_UPDATES-clause-safe : goal.returns-then-len-gt-MAX_UPDATES-clause-safe
-returns-then-len-gt-MAX_UPDATES-clause-safe g c = stays_safe c.args.self.now
+pub returns-then-len-max_updates-clause-safe : goal.returns-then-len-max_updates-clause-safe
+returns-then-len-max_updates-clause-safe g c = stays_safe c.args.self.now
 
-pub returns-then-len-gt-MAX_UPDATES-clause-answers : goal.returns-then-len-gt-MAX_UPDATES-clause-answers
+pub returns-then-len-max_updates-clause-answers : goal.returns-then-len-max_updates-clause-answers
 unfolding log_of journal_failures
-returns-then-len-gt-MAX_UPDATES-clause-answers g c = answers_up _ _ _ _ _ (λ e. cc) (λ e. cc) c.if-self.false c.if-self.false refl
+returns-then-len-max_updates-clause-answers g c = answers_up _ _ _ _ _ (λ e. cc) (λ e. cc) c.if-self.false c.if-self.false refl
 
 pub returns-in_err-flush_if_full-clause-safe : goal.returns-in_err-flush_if_full-clause-safe
 returns-in_err-flush_if_full-clause-safe g c =

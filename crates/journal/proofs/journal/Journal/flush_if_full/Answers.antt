@@ -2,6 +2,7 @@ use Rattle.std.proofs.Common.{◌≡◌, ◌∙◌, ◌++◌, ◌∷◌, [], ap,
 use Rattle.journal.specs.Journal.{log_of, listed}
 use Rattle.journal.specs.Layout.{targets}
 use Rattle.journal.specs.Transactions.{gathered, sectors_of}
+use Rattle.journal.proofs.Areas.{updates_fit}
 use Rattle.journal.proofs.Prefixes.{together}
 use Rattle.journal.proofs.Images.{length-targets}
 use Rattle.journal.proofs.Lists.{Apart-Fit, gathered_short}
@@ -25,6 +26,15 @@ fits-requires-clause-few g c = omega (
   ap (λ (xs : List ℕ). length xs) c.args.self.now.sectors_are,
   length-targets c.args.self.now.pending.items,
   c.args.self.now.few,
+)
+
+pub fits-requires-clause-short : goal.fits-requires-clause-short
+unfolding log_of
+fits-requires-clause-short g c = omega (
+  arith,
+  c.requires.short,
+  updates_fit c.args.self.now.area c.args.self.now.is_area,
+  c.args.self.now.is_area.few,
 )
 
 pub returns-then-fits-clause-emptied : goal.returns-then-fits-clause-emptied
@@ -70,5 +80,5 @@ returns-clause-room g c =
       ap (λ us. length (targets us)) c.in_ok-flush_pending.ensures.emptied,
       length-targets c.args.updates.now,
       c.requires.short,
-      c.args.self.now.is_area.room,
+      updates_fit c.args.self.now.area c.args.self.now.is_area,
     )
