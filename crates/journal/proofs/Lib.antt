@@ -9,6 +9,7 @@ pub mod Prefixes
 pub mod GateBytes
 pub mod GateWords
 pub mod Images
+pub mod Indexes
 pub mod Joins
 pub mod Journals
 pub mod Lists

@@ -1,5 +1,5 @@
 -- The list: what it gives a sector, and which sectors it has.
-use Rattle.std.proofs.Common.{◌≡◌, ◌≢◌, ◌≤◌, ◌<◌, ◌+◌, ◌==◌, ◌||◌, ℕ, suc, zero, Bool, true, false, List, [], ◌∷◌, ◌++◌, length, take, drop, set, get_or, ◌-◌, refl, sym, ap, ◌∙◌, subst, ⊎_elim, arith, if◌then◌else◌, eq-eqb, ne_eqb, AllPairs}
+use Rattle.std.proofs.Common.{◌≡◌, ◌≢◌, ◌≤◌, ◌<◌, ◌+◌, ◌==◌, ◌||◌, ℕ, suc, zero, Bool, true, false, List, [], ◌∷◌, ◌++◌, length, take, drop, set, get_or, refl, sym, ap, ◌∙◌, subst, ⊎_elim, arith, if◌then◌else◌, eq-eqb, ne_eqb, AllPairs}
 use Rattle.std.proofs.lemmas.Bool.{cases_eq}
 use Rattle.std.proofs.lemmas.List.Folds.{list_any_at}
 use Rattle.std.proofs.lemmas.List.{take_more, length-append, append-nil, append_assoc}
@@ -141,7 +141,7 @@ Out-push : (ts : List ℕ) (x n : ℕ) → Out ts n → (x ≡ n → ⊥) → Ou
 Out-push [] x n o ne = (ne, tt)
 Out-push (t ∷ ts) x n o ne = (o.0, Out-push ts x n o.1 ne)
 
-has-push : (ts : List ℕ) (x n : ℕ) → (x ≡ n → ⊥) → has (ts ++ x ∷ []) n ≡ has ts n
+pub has-push : (ts : List ℕ) (x n : ℕ) → (x ≡ n → ⊥) → has (ts ++ x ∷ []) n ≡ has ts n
 has-push [] x n ne = has_cons x n [] ∙ ap (λ (b : Bool). if b then true else false) (ne_eqb x n ne)
 has-push (t ∷ ts) x n ne =
     has_cons t n (ts ++ x ∷ []) ∙ ap (λ (h : Bool). if t == n then true else h) (has-push ts x n ne) ∙ sym (has_cons t n ts)
@@ -244,48 +244,24 @@ Fit-apart size (t ∷ ts) f (suc i) (suc j) d l h = Fit-apart size ts f.3 i j d 
 pub targets_of-Fit : (size : ℕ) (to : List ℕ) → Fit size to → AreTargets size to
 targets_of-Fit size to fit = record { from_first = Fit-far size to fit; on_device = Fit-near size to fit; apart = Fit-apart size to fit }
 
--- looking for the last place of a number, from the end on
-pub has-drop : (xs : List ℕ) (i n : ℕ) → i < length xs → has (drop i xs) n ≡ (if get_or xs i 0 == n then true else has (drop (i + 1) xs) n)
-has-drop [] i n l = absurd (omega arith)
-has-drop (x ∷ xs) zero n l = has_cons x n xs
-has-drop (x ∷ xs) (suc i) n l =
-    has-drop xs i n (omega arith)
-    ∙ ap (λ (k : ℕ). if get_or xs i 0 == n then true else has (drop k (x ∷ xs)) n) (let q : suc (i + 1) ≡ suc i + 1 = omega arith in q)
-
-pub searched_more : (xs : List ℕ) (back place n : ℕ) → back < length xs → place + 1 + back ≡ length xs → has (drop (length xs - back) xs) n ≡ false
-    → (get_or xs place 0 ≡ n → ⊥) → has (drop (length xs - (back + 1)) xs) n ≡ false
-searched_more xs back place n l at e other =
-    ap (λ (k : ℕ). has (drop k xs) n) (let q : length xs - (back + 1) ≡ place = omega arith in q)
-    ∙ has-drop xs place n (omega arith)
-    ∙ ap (λ (b : Bool). if b then true else has (drop (place + 1) xs) n) (ne_eqb (get_or xs place 0) n other)
-    ∙ ap (λ (k : ℕ). has (drop k xs) n) (let q : place + 1 ≡ length xs - back = omega arith in q) ∙ e
-
-pub searched_found : (xs : List ℕ) (back place n : ℕ) → back < length xs → place + 1 + back ≡ length xs → has (drop (length xs - back) xs) n ≡ false
-    → get_or xs place 0 ≡ n → IsLastPlace xs n place
-searched_found xs back place n l at e is = record {
-  there = omega arith;
-  is = is;
-  last = ap (λ (k : ℕ). has (drop k xs) n) (let q : place + 1 ≡ length xs - back = omega arith in q) ∙ e;
-}
-
 -- the last update of a sector, by the sectors that are named
 pub record IsLastUpdate (us : List Update) (n place : ℕ) : Type 0 where
   pub there : place < length us
   pub is : (get_or us place no_update).target ≡ n
   pub last : Out (drop (place + 1) (targets us)) n
 
-pub last_update : (us : List Update) (xs named : List ℕ) (n place : ℕ) → xs ≡ named → named ≡ targets us → IsLastPlace xs n place → IsLastUpdate us n place
-last_update us xs named n place e q last =
+pub last_update : (us : List Update) (named : List ℕ) (n place : ℕ) → named ≡ targets us → IsLastPlace named n place → IsLastUpdate us n place
+last_update us named n place q last =
     let P : List ℕ → Type 0 = λ ts. IsLastPlace ts n place in
-    let found : IsLastPlace (targets us) n place = subst P (e ∙ q) last in
+    let found : IsLastPlace (targets us) n place = subst P q last in
     record {
       there = omega (arith, found.there, length-targets us);
       is = sym (get_or-targets us place) ∙ found.is;
       last = not_has-out (drop (place + 1) (targets us)) n found.last;
     }
 
-pub not_named : (us : List Update) (xs named : List ℕ) (n : ℕ) → xs ≡ named → named ≡ targets us → has xs n ≡ false → has (targets us) n ≡ false
-not_named us xs named n e q none = ap (λ (ts : List ℕ). has ts n) (sym (e ∙ q)) ∙ none
+pub not_named : (us : List Update) (named : List ℕ) (n : ℕ) → named ≡ targets us → has named n ≡ false → has (targets us) n ≡ false
+not_named us named n q none = ap (λ (ts : List ℕ). has ts n) (sym q) ∙ none
 
 pub has-update : (us : List Update) (n place : ℕ) → IsLastUpdate us n place → has (targets us) n ≡ true
 has-update us n place last =

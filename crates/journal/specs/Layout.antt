@@ -16,8 +16,8 @@ use Rattle.journal.specs.declared.layout.LogArea.{LogArea}
 abbrev pub first_target : ℕ
 first_target = 98
 
--- how many sectors one transaction may write: as many as the payload has, or 48 if a gate names each
--- target once
+-- how many sectors one transaction may write: as many as the payload has, or 48 if a gate names
+-- each target once
 abbrev pub max_updates : LogArea → ℕ
 max_updates area = if area.once then 48 else area.sectors
 

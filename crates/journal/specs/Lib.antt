@@ -4,6 +4,7 @@ pub mod Phase
 pub mod Commit
 pub mod Transactions
 pub mod Behind
+pub mod Index
 pub mod Recorded
 pub mod Cached
 pub mod Log

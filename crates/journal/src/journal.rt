@@ -15,6 +15,7 @@ ghost use Rattle.journal.specs.Phase.{FailsCounted};
 ghost use Rattle.journal.specs.Transactions.{FitTogether, gathered, sectors_of};
 
 use crate::cache::Cache;
+use crate::index::SectorList;
 use crate::layout::{self, LogArea, SUPERBLOCK};
 use crate::recorded::Recorded;
 use crate::{JournalFault, Unmounted, View, commit, list, phase, recover};
@@ -35,7 +36,7 @@ pub struct Journal<D: Device> {
     device: D,
     area: LogArea,
     pending: Vec<Update>,
-    pending_sectors: Vec<u32>,
+    pending_sectors: SectorList,
     /// What the commit record names.
     recorded: Recorded,
     /// What was read last.
@@ -45,8 +46,8 @@ pub struct Journal<D: Device> {
     ghost large: { area_end area ≤ D.size device },
     ghost few: { length pending.items ≤ area.sectors },
     ghost room: { area.sectors ≤ vec_capacity pending },
-    ghost sectors_room: { area.sectors ≤ vec_capacity pending_sectors },
-    ghost sectors_are: { pending_sectors.items ≡ targets pending.items },
+    ghost sectors_room: { area.sectors ≤ vec_capacity pending_sectors.sectors },
+    ghost sectors_are: { pending_sectors.sectors.items ≡ targets pending.items },
     ghost fit: { AreTargets area.end (targets pending.items) },
     ghost shown_has: { HasRoom area recorded },
     ghost named: { is_down ≡ false → targets recorded.updates.items ≡ recorded.targets.items },
@@ -66,7 +67,7 @@ pub struct Journal<D: Device> {
 #[derive(Drop)]
 struct Room {
     pending: Vec<Update>,
-    pending_sectors: Vec<u32>,
+    pending_sectors: SectorList,
     recorded: Recorded,
     cache: Cache,
 }
@@ -74,17 +75,18 @@ struct Room {
 /// Memory for a journal with this log that keeps `cached` sectors.
 fn room_for(alloc: Global, area: LogArea, cached: NonZeroUsize) -> Result<Room, AllocError>
     ensures none { IfOk result
-        (λ room. (room.pending.items ≡ []) × (room.pending_sectors.items ≡ [])
+        (λ room. (room.pending.items ≡ []) × (room.pending_sectors.sectors.items ≡ [])
         × (room.recorded.targets.items ≡ []) × (room.recorded.updates.items ≡ [])
-        × (room.cache.sectors.entries ≡ [])) }
+        × (room.recorded.index.entries.items ≡ []) × (room.cache.sectors.entries ≡ [])) }
     ensures room { IfOk result (λ room. (area.sectors ≤ vec_capacity room.pending)
-        × (area.sectors ≤ vec_capacity room.pending_sectors)
+        × (area.sectors ≤ vec_capacity room.pending_sectors.sectors)
         × (area.sectors ≤ vec_capacity room.recorded.targets)
-        × (area.sectors ≤ vec_capacity room.recorded.updates)) }
+        × (area.sectors ≤ vec_capacity room.recorded.updates)
+        × (area.sectors ≤ vec_capacity room.recorded.index.entries)) }
 {
     Ok(Room {
         pending: Vec::with_capacity(alloc, area.sectors as usize)?,
-        pending_sectors: Vec::with_capacity(alloc, area.sectors as usize)?,
+        pending_sectors: SectorList::new(alloc, area.sectors)?,
         recorded: Recorded::new(alloc, area.sectors as usize)?,
         cache: Cache::new(alloc, cached)?,
     })
@@ -411,7 +413,7 @@ impl<D: Device> Journal<D> {
         if self.is_down {
             return Err(JournalFault::Down);
         }
-        if let Some(place) = list::find(&self.pending_sectors, n) {
+        if let Some(place) = self.pending_sectors.find(n) {
             *content = self.pending[place].content;
             return Ok(());
         }
@@ -548,7 +550,7 @@ impl<D: Device> Journal<D> {
             &mut self.device,
             self.area,
             &mut self.recorded,
-            &self.pending_sectors,
+            &self.pending_sectors.sectors,
             &self.pending,
         )
         .is_err()
@@ -586,7 +588,7 @@ impl<D: Device> Journal<D> {
             (list_with (log_of self.old) updates.now))
             → self.new.pending.items ≡ []) }
         ensures room { OnOk result
-            (length (gathered self.new.pending_sectors.items (targets updates.now))
+            (length (gathered self.new.pending_sectors.sectors.items (targets updates.now))
             ≤ (log_of self.old).area.sectors) }
     {
         if list::fits(&self.pending_sectors, updates, self.area.sectors as usize) {

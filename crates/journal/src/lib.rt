@@ -5,6 +5,7 @@ mod cache;
 mod commit;
 mod fault;
 mod gate;
+mod index;
 mod journal;
 mod laws;
 mod layout;

@@ -1,11 +1,11 @@
 //! What waits for a flush: updates of different sectors, and the sectors by themselves.
 
-ghost use Rattle.std.specs.Prelude.{◌≡◌, ◌≢◌, ◌≤◌, ◌<◌, ◌↔◌, ◌∷◌, [], ℕ, false, length, unwrap_or, AllPairs, IsTrue, vec_capacity};
-ghost use Rattle.std.specs.Option.{IfSome, IfNone};
+ghost use Rattle.std.specs.Prelude.{◌≡◌, ◌≢◌, ◌≤◌, ◌<◌, ◌↔◌, ◌∷◌, [], ℕ, length, unwrap_or, AllPairs, IsTrue, vec_capacity};
 ghost use Rattle.disk.specs.Moments.{Image, applied, put as with};
 ghost use Rattle.journal.specs.Layout.{targets};
-ghost use Rattle.journal.specs.Transactions.{gathered, has, IsLastPlace};
+ghost use Rattle.journal.specs.Transactions.{gathered};
 
+use crate::index::SectorList;
 use crate::layout::MAX_TARGETS;
 use disk::{SECTOR, Update};
 
@@ -27,60 +27,47 @@ pub(crate) fn newer(
     found
 }
 
-/// The last place of a sector among the pending ones.
-pub(crate) fn find(pending_sectors: &[u32], n: u32) -> Option<usize>
-    ensures found { IfSome result (λ place. IsLastPlace pending_sectors.now n place) }
-    ensures none { IfNone result (has pending_sectors.now n ≡ false) }
-{
-    for back in 0..pending_sectors.len() {
-        let place = pending_sectors.len() - 1 - back;
-        if pending_sectors[place] == n {
-            return Some(place);
-        }
-    }
-    None
-}
-
 /// Whether the pending sectors and those of the updates are few enough for a payload of `sectors`
 /// sectors.
-pub(crate) fn fits(pending_sectors: &[u32], updates: &[Update], sectors: usize) -> bool
-    requires few { length pending_sectors.now ≤ MAX_TARGETS }
+pub(crate) fn fits(pending_sectors: &SectorList, updates: &[Update], sectors: usize) -> bool
+    requires few { length pending_sectors.now.sectors.items ≤ MAX_TARGETS }
     requires short { length updates.now ≤ MAX_TARGETS }
     requires apart { AllPairs (λ a b. a ≢ b) (targets updates.now) }
     ensures { IsTrue result
-        ↔ (length (gathered pending_sectors.now (targets updates.now)) ≤ sectors) }
+        ↔ (length (gathered pending_sectors.now.sectors.items (targets updates.now)) ≤ sectors) }
 {
     let mut fresh = 0;
     for update in updates {
-        if !pending_sectors.contains(&update.target) {
+        if !pending_sectors.contains(update.target) {
             fresh += 1;
         }
     }
-    pending_sectors.len() + fresh <= sectors
+    pending_sectors.sectors.len() + fresh <= sectors
 }
 
 /// Puts an update in the place of the one of its sector, or otherwise after the others.
-pub(crate) fn put(pending: &mut Vec<Update>, pending_sectors: &mut Vec<u32>, update: &Update)
+pub(crate) fn put(pending: &mut Vec<Update>, pending_sectors: &mut SectorList, update: &Update)
     // There is room for it
-    requires sectors_are { pending_sectors.old.items ≡ targets pending.old.items }
-    requires room { length (gathered pending_sectors.old.items (update.now.target ∷ []))
+    requires sectors_are { pending_sectors.old.sectors.items ≡ targets pending.old.items }
+    requires room { length (gathered pending_sectors.old.sectors.items (update.now.target ∷ []))
         ≤ vec_capacity pending.old }
-    requires sectors_room { length (gathered pending_sectors.old.items (update.now.target ∷ []))
-        ≤ vec_capacity pending_sectors.old }
+    requires sectors_room { length (gathered pending_sectors.old.sectors.items
+        (update.now.target ∷ [])) ≤ vec_capacity pending_sectors.old.sectors }
     // What the list has then
     ensures applied { (image : Image) (n : ℕ) → applied pending.new.items image n
         ≡ with (applied pending.old.items image) update.now n }
     ensures targets { targets pending.new.items
         ≡ gathered (targets pending.old.items) (update.now.target ∷ []) }
-    ensures sectors_are { pending_sectors.new.items ≡ targets pending.new.items }
+    ensures sectors_are { pending_sectors.new.sectors.items ≡ targets pending.new.items }
     // It takes no memory
     ensures capacity { vec_capacity pending.new ≡ vec_capacity pending.old }
-    ensures named_capacity { vec_capacity pending_sectors.new ≡ vec_capacity pending_sectors.old }
+    ensures named_capacity { vec_capacity pending_sectors.new.sectors
+        ≡ vec_capacity pending_sectors.old.sectors }
 {
-    match find(pending_sectors, update.target) {
+    match pending_sectors.find(update.target) {
         Some(place) => pending[place].content = update.content,
         None => {
-            pending_sectors.push_reserved(update.target);
+            pending_sectors.push(update.target);
             pending.push_reserved(Update {
                 target: update.target,
                 content: update.content,
@@ -92,24 +79,25 @@ pub(crate) fn put(pending: &mut Vec<Update>, pending_sectors: &mut Vec<u32>, upd
 /// Puts updates one after the other.
 pub(crate) fn merge_into(
     pending: &mut Vec<Update>,
-    pending_sectors: &mut Vec<u32>,
+    pending_sectors: &mut SectorList,
     updates: &[Update],
 )
     // There is room for it
-    requires sectors_are { pending_sectors.old.items ≡ targets pending.old.items }
-    requires room { length (gathered pending_sectors.old.items (targets updates.now))
+    requires sectors_are { pending_sectors.old.sectors.items ≡ targets pending.old.items }
+    requires room { length (gathered pending_sectors.old.sectors.items (targets updates.now))
         ≤ vec_capacity pending.old }
-    requires sectors_room { length (gathered pending_sectors.old.items (targets updates.now))
-        ≤ vec_capacity pending_sectors.old }
+    requires sectors_room { length (gathered pending_sectors.old.sectors.items
+        (targets updates.now)) ≤ vec_capacity pending_sectors.old.sectors }
     // What the list has then
     ensures applied { (image : Image) (n : ℕ) → applied pending.new.items image n
         ≡ applied updates.now (applied pending.old.items image) n }
     ensures targets { targets pending.new.items
         ≡ gathered (targets pending.old.items) (targets updates.now) }
-    ensures sectors_are { pending_sectors.new.items ≡ targets pending.new.items }
+    ensures sectors_are { pending_sectors.new.sectors.items ≡ targets pending.new.items }
     // It takes no memory
     ensures capacity { vec_capacity pending.new ≡ vec_capacity pending.old }
-    ensures named_capacity { vec_capacity pending_sectors.new ≡ vec_capacity pending_sectors.old }
+    ensures named_capacity { vec_capacity pending_sectors.new.sectors
+        ≡ vec_capacity pending_sectors.old.sectors }
 {
     for update in updates {
         put(pending, pending_sectors, update);

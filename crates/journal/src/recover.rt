@@ -22,9 +22,10 @@ pub(crate) fn recover<D: Device>(
 ) -> Result<(), JournalFault>
     requires area { IsArea area }
     requires large { area_end area ≤ D.size device.old }
-    requires empty { recorded.old.updates.items ≡ [] }
+    requires empty { (recorded.old.updates.items ≡ []) × (recorded.old.index.entries.items ≡ []) }
     requires room { (area.sectors ≤ vec_capacity recorded.old.targets)
-        × (area.sectors ≤ vec_capacity recorded.old.updates) }
+        × (area.sectors ≤ vec_capacity recorded.old.updates)
+        × (area.sectors ≤ vec_capacity recorded.old.index.entries) }
     // On a device that keeps its word
     ensures moments { D.keeps_word
         → AddsOnly (SettlesAs area (seen (D.history device.old).now))
@@ -57,9 +58,10 @@ fn replay<D: Device>(
 ) -> Result<(), JournalFault>
     requires area { IsArea area }
     requires large { area_end area ≤ D.size device.old }
-    requires empty { recorded.old.updates.items ≡ [] }
+    requires empty { (recorded.old.updates.items ≡ []) × (recorded.old.index.entries.items ≡ []) }
     requires room { (area.sectors ≤ vec_capacity recorded.old.targets)
-        × (area.sectors ≤ vec_capacity recorded.old.updates) }
+        × (area.sectors ≤ vec_capacity recorded.old.updates)
+        × (area.sectors ≤ vec_capacity recorded.old.index.entries) }
     // On a device that keeps its word
     ensures replays { D.keeps_word → (before : History) → D.history device.old ≡ synced before
         → Replays area before (D.history device.new) result }
@@ -77,6 +79,8 @@ fn replay<D: Device>(
     // the disk may have an older one: a sync may have failed before this mount
     commit::rewrite(device, area, &recorded.targets)?;
     read_payload(device, area, &recorded.targets, &mut recorded.updates)?;
+    // the index goes with the updates
+    recorded.index.put_all(0, &recorded.updates);
     commit::close(device, area, recorded)?;
     Ok(())
 }

@@ -5,4 +5,4 @@ use Rattle.journal.proofs.list.fits.Given as goal
 
 abbrev pub invariant-loop-update : goal.invariant-loop-update
 invariant-loop-update l =
-    l.fresh ≡ fresh_count l.pending_sectors (targets (take l.update-index l.updates))
+    l.fresh ≡ fresh_count l.pending_sectors.sectors.items (targets (take l.update-index l.updates))

@@ -10,12 +10,12 @@ use Rattle.journal.proofs.list.put.Goals as goal
 use Rattle.journal.proofs.list.put.Goals.{In-Some, In-None}
 
 found : (c : In-Some) → IsLastUpdate c.args.pending.now.items c.args.update.now.target c.in-Some.place
-found c = last_update c.args.pending.now.items c.deref.result.now c.args.pending_sectors.now.items c.args.update.now.target c.in-Some.place
-    c.deref.ensures.value c.requires.sectors_are c.in-Some.ensures.found
+found c = last_update c.args.pending.now.items c.args.pending_sectors.now.sectors.items c.args.update.now.target c.in-Some.place
+    c.requires.sectors_are c.in-Some.ensures.found
 
 missing : (c : In-None) → has (targets c.args.pending.now.items) c.args.update.now.target ≡ false
-missing c = not_named c.args.pending.now.items c.deref.result.now c.args.pending_sectors.now.items c.args.update.now.target
-    c.deref.ensures.value c.requires.sectors_are c.in-None.ensures.none
+missing c = not_named c.args.pending.now.items c.args.pending_sectors.now.sectors.items c.args.update.now.target
+    c.requires.sectors_are c.in-None.ensures.none
 
 -- the place is that of the update's sector
 replaced : (us : List Update) (n place : ℕ) (was : Update) → was ≡ get_or us place was → IsLastUpdate us n place → was.target ≡ n
@@ -24,10 +24,10 @@ replaced us n place was e last = ap (λ (u : Update). u.target) (e ∙ get_or_de
 pub index_mut-requires : goal.index_mut-requires
 index_mut-requires c = omega (arith, (found (goal.at.index_mut-requires c).In-Some).there, c.args.pending.now.ok)
 
-pub push_reserved-requires-in-None : goal.push_reserved-requires-in-None
-push_reserved-requires-in-None c =
-    let none = missing (goal.at.push_reserved-requires-in-None c).In-None in
-    let pending_sectors = c.args.pending_sectors.now.items in
+pub push_reserved-requires : goal.push_reserved-requires
+push_reserved-requires c =
+    let none = missing (goal.at.push_reserved-requires c).In-None in
+    let pending_sectors = c.args.pending_sectors.now.sectors.items in
     let t = c.args.update.now.target in
     omega (
       arith,
@@ -67,18 +67,18 @@ returns-in-Some-clause-sectors_are c =
 
 pub returns-in-None-clause-applied : goal.returns-in-None-clause-applied
 returns-in-None-clause-applied c = λ image n.
-    ap (λ (xs : List Update). applied xs image n) c.push_reserved-in-None.ensures.items
+    ap (λ (xs : List Update). applied xs image n) c.push_reserved.ensures.items
     ∙ ap (λ (f : Image). f n) (applied-push c.args.pending.now.items c.args.update.now image)
 
 pub returns-in-None-clause-targets : goal.returns-in-None-clause-targets
 returns-in-None-clause-targets c =
-    ap (λ (xs : List Update). targets xs) c.push_reserved-in-None.ensures.items
+    ap (λ (xs : List Update). targets xs) c.push_reserved.ensures.items
     ∙ targets-push c.args.pending.now.items c.args.update.now
     ∙ sym (gathered_new (targets c.args.pending.now.items) c.args.update.now.target (missing (goal.at.returns-in-None-clause-targets c).In-None))
 
 pub returns-in-None-clause-sectors_are : goal.returns-in-None-clause-sectors_are
 returns-in-None-clause-sectors_are c =
-    c.push_reserved.ensures.items
+    c.push.ensures.items
     ∙ ap (λ (xs : List ℕ). xs ++ c.args.update.now.target ∷ []) c.requires.sectors_are
     ∙ sym (targets-push c.args.pending.now.items c.args.update.now)
-    ∙ sym (ap (λ (xs : List Update). targets xs) c.push_reserved-in-None.ensures.items)
+    ∙ sym (ap (λ (xs : List Update). targets xs) c.push_reserved.ensures.items)

@@ -1,12 +1,16 @@
-use Rattle.std.proofs.Common.{◌≡◌, ℕ, List, length, arith, sym, subst, ◌∙◌, refl, ap, vec_len, inr}
+use Rattle.std.proofs.Common.{◌≡◌, ◌≤◌, ℕ, List, [], length, arith, sym, subst, ◌∙◌, refl, ap, vec_len, inr}
 use Rattle.std.proofs.lemmas.Bool.{eqb-true}
+use Rattle.disk.specs.declared.update.Update.{Update}
 use Rattle.disk.specs.Moments.{History, moment, seen, synced}
 use Rattle.journal.specs.Behind.{FitsGate}
 use Rattle.journal.specs.Commit.{KeepsShown, rewritten}
 use Rattle.journal.specs.declared.layout.LogArea.{LogArea}
-use Rattle.journal.specs.Layout.{NamesTargets, copies}
+use Rattle.journal.specs.Index.{IsIndexOf}
+use Rattle.journal.specs.Layout.{NamesTargets, copies, targets}
 use Rattle.journal.specs.Phase.{IsGated}
 use Rattle.journal.specs.Recover.{IsClosed}
+use Rattle.journal.proofs.Images.{length-targets}
+use Rattle.journal.proofs.Indexes.{index_empty}
 use Rattle.journal.proofs.Answerings.{is_fault, is_told}
 use Rattle.journal.proofs.Recovers.{counted_after, synced_moments, recover_moments, gated_after, closed_none, fault_counted, no_elements, none_counted, not_empty, recovers_closed, recovers_copied}
 use Rattle.journal.proofs.Rewrites.{gated_again, shown_again}
@@ -75,11 +79,13 @@ returns-then-is_empty g c =
         closed = λ closed. record { ok = resynced g read before e; err = tt };
         damaged = λ is. absurd (cc);
       };
-      none = (no_elements _ no_items, c.requires.empty);
+      none = (no_elements _ no_items, c.requires.empty.0);
       room = record {
         fits = record { few = c.in_ok-read_gate.ensures.named.0; fit = c.in_ok-read_gate.ensures.named.1 };
         room = omega (arith, c.in_ok-read_gate.ensures.capacity, c.requires.room.0);
         updates_room = c.requires.room.1;
+        index_room = c.requires.room.2;
+        indexed = index_empty c.args.recorded.now.index.entries.items (targets c.args.recorded.now.updates.items) c.requires.empty.1 (ap (λ (us : List Update). targets us) c.requires.empty.0);
       };
       size = c.in_ok-read_gate.ensures.reads.1;
       failures = counted_after _ _ _ _ refl c.in_ok-read_gate.ensures.failures;
@@ -124,6 +130,11 @@ payload_past g c to k =
     ap (λ (h : History). copies (seen h.now) c.args.area.first c.read_gate.new.named.items) c.in_ok-read_payload.ensures.reads.0
     ∙ ap (λ (ts : List ℕ). copies (seen (g.D.Device.history c.rewrite.new.device).now) c.args.area.first ts) (sym to)
     ∙ c.in_ok-read_payload.ensures.ok k
+
+-- and no more than one gate names
+read_few : (g : Over) (c : In_ok-read_payload g) → length c.read_gate.new.named.items ≤ c.args.area.sectors → c.deref-2.result.now ≡ c.read_gate.new.named.items
+    → length c.read_payload.new.updates.items ≤ c.args.area.sectors
+read_few g c few to = omega (arith, few, ap (λ (ts : List ℕ). length ts) to, ap (λ (ts : List ℕ). length ts) c.in_ok-read_payload.ensures.named, length-targets c.read_payload.new.updates.items)
 
 pub rewrite-requires-clause-fits : goal.rewrite-requires-clause-fits
 rewrite-requires-clause-fits g c =
@@ -173,12 +184,21 @@ returns-in_err-read_payload g c =
 pub read_payload-requires-clause-few : goal.read_payload-requires-clause-few
 read_payload-requires-clause-few g c = omega (arith, ap (λ (ts : List ℕ). length ts) c.deref-2.ensures.value, c.in_ok-read_gate.ensures.named.0)
 
+pub put_all-requires-clause-room : goal.put_all-requires-clause-room
+put_all-requires-clause-room g c = omega (arith, read_few g (goal.at.put_all-requires-clause-room g c).In_ok-read_payload c.in_ok-read_gate.ensures.named.0 c.deref-2.ensures.value, ap (λ (us : List Update). length us) c.deref-3.ensures.value, c.requires.room.2)
+
+pub put_all-requires-clause-small : goal.put_all-requires-clause-small
+put_all-requires-clause-small g c = omega (arith, read_few g (goal.at.put_all-requires-clause-small g c).In_ok-read_payload c.in_ok-read_gate.ensures.named.0 c.deref-2.ensures.value, ap (λ (us : List Update). length us) c.deref-3.ensures.value, c.requires.area.few)
+
 pub close-requires-clause-fits : goal.close-requires-clause-fits
 close-requires-clause-fits g c = record {
   has = record {
     fits = record { few = c.in_ok-read_gate.ensures.named.0; fit = c.in_ok-read_gate.ensures.named.1 };
     room = omega (arith, c.in_ok-read_gate.ensures.capacity, c.requires.room.0);
     updates_room = omega (arith, c.in_ok-read_payload.ensures.capacity, c.requires.room.1);
+    index_room = omega (arith, c.put_all.ensures.capacity, c.requires.room.2);
+    indexed = subst (λ (us : List Update). IsIndexOf c.put_all.new.self.entries.items (targets us)) c.deref-3.ensures.value
+        (c.put_all.ensures.indexed [] (index_empty c.args.recorded.now.index.entries.items [] c.requires.empty.1 refl) refl);
   };
   named = c.in_ok-read_payload.ensures.named ∙ c.deref-2.ensures.value;
 }

@@ -100,7 +100,7 @@ few g c = omega (
   length-targets c.merge_into.new.pending.items,
   ap (λ (ts : List ℕ). length ts) (targets_put g c),
   ap (λ (ts : List ℕ). length (gathered ts (targets c.args.updates.items))) c.flush_if_full.new.self.sectors_are,
-  ap (λ (us : List Update). length (gathered c.flush_if_full.new.self.pending_sectors.items (targets us))) c.deref.ensures.value,
+  ap (λ (us : List Update). length (gathered c.flush_if_full.new.self.pending_sectors.sectors.items (targets us))) c.deref.ensures.value,
   c.in_ok-flush_if_full.ensures.room,
   ap (λ (a : LogArea). a.sectors) c.flush_if_full.ensures.part.area,
 )

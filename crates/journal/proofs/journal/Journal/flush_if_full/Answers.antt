@@ -1,4 +1,4 @@
-use Rattle.std.proofs.Common.{◌≡◌, ◌∙◌, ◌++◌, ◌∷◌, [], ap, arith, length, ℕ, List, false, true}
+use Rattle.std.proofs.Common.{◌≡◌, ◌++◌, ◌∷◌, [], ap, arith, length, ℕ, List, false, true}
 use Rattle.journal.specs.Journal.{log_of, listed}
 use Rattle.journal.specs.Layout.{targets}
 use Rattle.journal.specs.Transactions.{gathered, sectors_of}
@@ -12,17 +12,16 @@ use Rattle.journal.proofs.journal.Journal.flush_if_full.Given.{Over}
 use Rattle.journal.proofs.journal.Journal.flush_if_full.Goals.{After-fits}
 
 -- what is named is gathered with the updates as the list with one more
-same : (g : Over) (c : After-fits g) → length (gathered c.deref.result.now (targets c.args.updates.now))
+same : (g : Over) (c : After-fits g) → length (gathered c.args.self.now.pending_sectors.sectors.items (targets c.args.updates.now))
     ≡ length (gathered [] (sectors_of (listed c.args.self.now.pending.items ++ c.args.updates.now ∷ [])))
 same g c =
     let was = c.args.self.now in
-    ap (λ (ts : List ℕ). length ts) (together was.pending.items c.args.updates.now c.deref.result.now (c.deref.ensures.value ∙ was.sectors_are)
+    ap (λ (ts : List ℕ). length ts) (together was.pending.items c.args.updates.now c.args.self.now.pending_sectors.sectors.items was.sectors_are
     (Apart-Fit was.area.end (targets was.pending.items) (Fit-of was.area.end (targets was.pending.items) was.fit)))
 
 pub fits-requires-clause-few : goal.fits-requires-clause-few
 fits-requires-clause-few g c = omega (
   arith,
-  ap (λ (xs : List ℕ). length xs) c.deref.ensures.value,
   ap (λ (xs : List ℕ). length xs) c.args.self.now.sectors_are,
   length-targets c.args.self.now.pending.items,
   c.args.self.now.few,
@@ -75,7 +74,7 @@ returns-clause-room g c =
     let now = c.flush_pending.new.self in
     omega (
       arith,
-      gathered_short now.pending_sectors.items (targets c.args.updates.now),
+      gathered_short now.pending_sectors.sectors.items (targets c.args.updates.now),
       ap (λ (xs : List ℕ). length xs) now.sectors_are,
       ap (λ us. length (targets us)) c.in_ok-flush_pending.ensures.emptied,
       length-targets c.args.updates.now,

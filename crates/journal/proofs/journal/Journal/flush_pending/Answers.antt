@@ -1,4 +1,4 @@
-use Rattle.std.proofs.Common.{◌≡◌, ◌∙◌, ◌+◌, ◌++◌, ap, sym, ℕ, List, length, false, rules, arith}
+use Rattle.std.proofs.Common.{◌≡◌, ◌≤◌, ◌∙◌, ◌+◌, ◌++◌, ap, sym, ℕ, List, length, false, rules, arith}
 use Rattle.std.proofs.lemmas.List.{length-append}
 use Rattle.std.specs.Global.{Vec}
 use Rattle.disk.specs.Moments.{AddsOnly, applied, seen, moment}
@@ -100,41 +100,49 @@ returns-clause-gate g c =
           (was.pending.ok.0 ∙ none))));
     }
 
-pub invariant_of-self-2-clause-cached : goal.invariant_of-self-2-clause-cached
+pub invariant_of-self-3-clause-cached : goal.invariant_of-self-3-clause-cached
 unfolding log_of
-invariant_of-self-2-clause-cached g c = λ k up.
-    let at = (goal.at.invariant_of-self-2-clause-cached g c).After-is_err in
+invariant_of-self-3-clause-cached g c = λ k up.
+    let at = (goal.at.invariant_of-self-3-clause-cached g c).After-is_err in
     let was = c.args.self.now in
     copies_flushed was.area.end was.pending.items c.take_over.new.updates.items
     (through was.area was.recorded.targets.items (seen (g.D.Device.history was.device).now)) (through c.args.self.now.area c.take_over.new.self.targets.items (seen (g.D.Device.history c.commit.new.device).now))
-    was.cache.sectors.entries c.take_over.ensures.emptied (same g (goal.at.invariant_of-self-2-clause-cached g c).After-take_over (done g at c.if-is_err.false k).same) (was.cached k c.requires)
+    was.cache.sectors.entries c.take_over.ensures.emptied (same g (goal.at.invariant_of-self-3-clause-cached g c).After-take_over (done g at c.if-is_err.false k).same) (was.cached k c.requires)
 
-pub take_over-requires : goal.take_over-requires
-take_over-requires g c =
-    let kept = (shown g (goal.at.take_over-requires g c).After-is_err c.if-is_err.false) in
-    omega (
-      arith,
-      c.commit.ensures.kept.fits.few,
-      c.commit.ensures.kept.updates_room,
-      ap (λ (ts : List ℕ). length ts) kept.0,
-      length-append (way_for c.args.self.now.area c.args.self.now.recorded.targets.items c.deref.result.now) c.deref.result.now,
-      ap (λ (ts : List ℕ). length ts) kept.1,
-      length-targets c.commit.new.recorded.updates.items,
-      ap (λ (ts : List ℕ). length ts) (c.deref.ensures.value ∙ c.args.self.now.sectors_are),
-      length-targets c.args.self.now.pending.items,
-    )
+-- what is recorded then is what the gate names
+few : (g : Over) (c : After-is_err g) → c.is_err.result ≡ false
+    → length c.commit.new.recorded.updates.items + length c.args.self.now.pending.items ≤ c.args.self.now.area.sectors
+few g c e = omega (
+  arith,
+  c.commit.ensures.kept.fits.few,
+  ap (λ (ts : List ℕ). length ts) (shown g c e).0,
+  length-append (way_for c.args.self.now.area c.args.self.now.recorded.targets.items c.deref.result.now) c.deref.result.now,
+  ap (λ (ts : List ℕ). length ts) (shown g c e).1,
+  length-targets c.commit.new.recorded.updates.items,
+  ap (λ (ts : List ℕ). length ts) (c.deref.ensures.value ∙ c.args.self.now.sectors_are),
+  length-targets c.args.self.now.pending.items,
+)
 
-pub invariant_of-self-2-clause-named : goal.invariant_of-self-2-clause-named
-invariant_of-self-2-clause-named g c = λ up.
-    let kept = (shown g (goal.at.invariant_of-self-2-clause-named g c).After-is_err c.if-is_err.false) in
+pub take_over-requires-clause-room : goal.take_over-requires-clause-room
+take_over-requires-clause-room g c =
+    let most = few g (goal.at.take_over-requires-clause-room g c).After-is_err c.if-is_err.false in
+    omega (arith, most, c.commit.ensures.kept.updates_room, c.commit.ensures.kept.index_room)
+
+pub take_over-requires-clause-few : goal.take_over-requires-clause-few
+take_over-requires-clause-few g c =
+    omega (arith, few g (goal.at.take_over-requires-clause-few g c).After-is_err c.if-is_err.false, c.args.self.now.is_area.few)
+
+pub invariant_of-self-3-clause-named : goal.invariant_of-self-3-clause-named
+invariant_of-self-3-clause-named g c = λ up.
+    let kept = (shown g (goal.at.invariant_of-self-3-clause-named g c).After-is_err c.if-is_err.false) in
     taken_named c.commit.new.recorded.updates.items c.args.self.now.pending.items c.take_over.new.self.updates.items _ c.deref.result.now
     kept.1 (c.deref.ensures.value ∙ c.args.self.now.sectors_are) c.take_over.ensures.items
     ∙ sym kept.0 ∙ ap (λ (to : Vec ℕ). to.items) (sym c.take_over.ensures.targets)
 
-pub invariant_of-self-2-clause-payload : goal.invariant_of-self-2-clause-payload
+pub invariant_of-self-3-clause-payload : goal.invariant_of-self-3-clause-payload
 unfolding log_of
-invariant_of-self-2-clause-payload g c = λ k up.
-    let at = (goal.at.invariant_of-self-2-clause-payload g c).After-is_err in
+invariant_of-self-3-clause-payload g c = λ k up.
+    let at = (goal.at.invariant_of-self-3-clause-payload g c).After-is_err in
     ap (λ (to : Vec ℕ). copies (seen (g.D.Device.history c.commit.new.device).now) c.args.self.now.area.first to.items) c.take_over.ensures.targets
     ∙ (done g at c.if-is_err.false k).payload
     ∙ sym c.take_over.ensures.items
