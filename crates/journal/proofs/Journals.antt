@@ -1,15 +1,23 @@
 -- What a journal's calls keep.
-use Rattle.std.proofs.Common.{◌≡◌, ◌<◌, ◌+◌, ℕ, true, false, List, [], ◌∷◌, length, refl, sym, ap, ◌∙◌, subst, arith, Result, Ok, Err, OnOk, is_err, ◌++◌, take, get_or}
+use Rattle.std.proofs.Common.{◌≡◌, ◌≤◌, ◌<◌, ◌+◌, ℕ, true, false, List, [], ◌∷◌, length, refl, sym, ap, ◌∙◌, subst, arith, Result, Ok, Err, OnOk, is_err, ◌++◌, take, get_or}
 use Rattle.std.proofs.lemmas.List.{take_more}
 use Rattle.disk.specs.declared.update.Update.{Update}
 use Rattle.disk.specs.Moments.{Image, History, seen}
+use Rattle.journal.specs.declared.journal.Journal.{Journal}
 use Rattle.journal.specs.declared.recorded.Recorded.{Recorded}
 use Rattle.journal.specs.declared.layout.LogArea.{LogArea}
-use Rattle.journal.specs.Layout.{copies, gate, targets}
+use Rattle.journal.specs.Journal.{log_of}
+use Rattle.journal.specs.Layout.{copies, gate, max_updates, targets}
 use Rattle.journal.specs.Phase.{IsGated}
 use Rattle.journal.specs.Recorded.{IsStored}
 use Rattle.journal.specs.Commit.{AddsEither, IsCommitted}
+use Rattle.journal.proofs.Areas.{updates_enough}
 use Rattle.journal.proofs.Lists.{targets-append, targets-push}
+
+-- each journal takes a transaction of 48 sectors
+pub takes_enough : {D : _} {g : _} (journal : Journal D g) → 48 ≤ max_updates (log_of journal).area
+unfolding log_of
+takes_enough journal = updates_enough journal.area journal.is_area
 
 none_of : (us : List Update) → length us ≡ 0 → us ≡ []
 none_of [] e = refl
