@@ -23,6 +23,10 @@ impl<D: Device> Device for &mut D {
         (**self).read(n, content)
     }
 
+    fn read_run(&mut self, first: u32, contents: &mut [[u8; SECTOR]]) -> Result<(), DiskFault> {
+        (**self).read_run(first, contents)
+    }
+
     fn write(&mut self, n: u32, content: &[u8; SECTOR]) -> Result<(), DiskFault> {
         (**self).write(n, content)
     }

@@ -1,4 +1,4 @@
-ghost use Rattle.std.specs.Prelude.{◌≡◌, ◌≤◌, ◌<◌, ◌⊎◌, ◌↔◌, ℕ, OnOk, OnErr, IsErrOf};
+ghost use Rattle.std.specs.Prelude.{◌≡◌, ◌≤◌, ◌<◌, ◌+◌, ◌-◌, ◌⊎◌, ◌↔◌, ℕ, [], length, slice_index_or, OnOk, OnErr, IsErrOf};
 ghost use Rattle.disk.specs.Moments.{History, IsSector, seen, wrote, synced};
 ghost use Rattle.disk.specs.Cause.{HasCause};
 
@@ -40,6 +40,30 @@ pub trait Device: Drop {
         ensures size { size self.new ≡ size self.old }
         // Whether it fails
         ensures cause { HasCause (failed self.old) (failed self.new) result };
+
+    /// Puts into `contents` the newest contents of as many sectors, from `first` on. After `Fault`
+    /// it may hold anything. The default reads one sector after the other.
+    fn read_run(&mut self, first: u32, contents: &mut [[u8; SECTOR]]) -> Result<(), DiskFault>
+        ensures ok { keeps_word → OnOk result ((i : ℕ) → i < length contents.old
+            → slice_index_or contents.new i [] ≡ seen (history self.old).now (first + i)) }
+        // If it fails: `Range` if the device has fewer sectors from `first` on
+        ensures range { IsErrOf result DiskFault.Range
+            ↔ (size self.old - first < length contents.old) }
+        ensures untouched { IsErrOf result DiskFault.Range → contents.new ≡ contents.old }
+        // It only reads
+        ensures history { history self.new ≡ history self.old }
+        ensures size { size self.new ≡ size self.old }
+        // Whether it fails
+        ensures cause { HasCause (failed self.old) (failed self.new) result }
+    {
+        if contents.len() > self.sectors().saturating_sub(first) as usize {
+            return Err(DiskFault::Range);
+        }
+        for (i, content) in contents.iter_mut().enumerate() {
+            self.read(first + i as u32, content)?;
+        }
+        Ok(())
+    }
 
     /// Writes sector `n`. Until a sync a crash may leave it or what was there before; a write that
     /// failed counts as landed or not.

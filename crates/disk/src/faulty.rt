@@ -9,7 +9,7 @@ use crate::{Device, DiskFault, SECTOR};
 /// A call of a device that may fail.
 #[derive(Clone, Copy, Debug, PartialEq, Eq)]
 pub enum CallKind {
-    /// [`Device::read`].
+    /// [`Device::read`], or a whole [`Device::read_run`].
     Read,
     /// [`Device::write`].
     Write,
@@ -48,7 +48,8 @@ impl Plan {
 /// A device of which one call returns `Fault`, counts it, and does nothing else. Every other call
 /// is the inner device's, and this device keeps its word if the inner one does.
 ///
-/// A read or a write of a sector that the device does not have is none of its calls.
+/// A read or a write of a sector that the device does not have is none of its calls. Each sector of
+/// a [`Device::read_run`] is a read.
 #[derive(Drop)]
 pub struct FaultDevice<D: Device> {
     inner: D,

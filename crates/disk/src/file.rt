@@ -1,6 +1,6 @@
 //! A device over a file.
 
-ghost use Rattle.std.specs.Prelude.{◌≡◌, ◌≢◌, ◌≤◌, ◌<◌, ◌*◌, ◌⊎◌, ◌↔◌, ℕ, [], Some, None, Err, false, IsTrue, IfOk, IfSome, OnOk, OnErr, IsErrOf, IsNone};
+ghost use Rattle.std.specs.Prelude.{◌≡◌, ◌≢◌, ◌≤◌, ◌<◌, ◌+◌, ◌-◌, ◌*◌, ◌⊎◌, ◌↔◌, ℕ, [], length, slice_index_or, Some, None, Err, false, IsTrue, IfOk, IfSome, OnOk, OnErr, IsErrOf, IsNone};
 ghost use Rattle.disk.specs.Moments.{at_rest};
 ghost use Rattle.std.specs.IoError.{error_kind};
 ghost use Rattle.disk.specs.Cause.{IsCounted, HasCause};
@@ -284,6 +284,38 @@ impl Device for FileDevice {
             Ok(()) => Ok(()),
             Err(error) => Err(self.fail(CallKind::Read, error.kind())),
         }
+    }
+
+    /// The file is read once, and it is one read of the counts. A sector that was gathered is read
+    /// as it was written last.
+    fn read_run(&mut self, first: u32, contents: &mut [[u8; SECTOR]]) -> Result<(), DiskFault>
+        ensures newest { OnOk result ((i : ℕ) → i < length contents.old
+            → IfSome (gathered self.old (first + i))
+            (λ newest. slice_index_or contents.new i [] ≡ newest)) }
+        // It only reads
+        ensures gathered { (m : ℕ) → gathered self.new m ≡ gathered self.old m }
+        // If it fails
+        ensures range { IsErrOf result DiskFault.Range
+            ↔ (file_size self.old - first < length contents.old) }
+        ensures untouched { IsErrOf result DiskFault.Range → contents.new ≡ contents.old }
+        // However it ends
+        ensures size { file_size self.new ≡ file_size self.old }
+        ensures may_write { file_may_write self.new ≡ file_may_write self.old }
+        ensures cause { HasCause (file_failures self.old) (file_failures self.new) result }
+        ensures noted { Notes CallKind.Read self.old self.new result }
+    {
+        if contents.len() > self.sectors.saturating_sub(first) as usize {
+            return Err(DiskFault::Range);
+        }
+        self.counts.add(CallKind::Read);
+        if let Err(error) = self
+            .file
+            .read_exact_at(contents.as_flattened_mut(), offset_of(first))
+        {
+            return Err(self.fail(CallKind::Read, error.kind()));
+        }
+        self.run.copy_over(first, contents);
+        Ok(())
     }
 
     /// A sector that is written is gathered, and the others stay so, or were handed to the file. If

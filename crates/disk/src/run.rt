@@ -1,6 +1,6 @@
 //! Neighbouring sectors that were written, and are not yet handed on.
 
-ghost use Rattle.std.specs.Prelude.{◌≡◌, ◌≤◌, ◌==◌, ◌↔◌, ℕ, [], Some, None, vec_len, vec_capacity, flat_map, if◌then◌else◌, IsTrue, IfOk, OnErr, option_copied};
+ghost use Rattle.std.specs.Prelude.{◌≡◌, ◌≤◌, ◌<◌, ◌+◌, ◌^◌, ◌==◌, ◌↔◌, ℕ, [], Some, None, length, slice_index_or, unwrap_or, vec_len, vec_capacity, flat_map, if◌then◌else◌, IsTrue, IfOk, OnErr, option_copied};
 ghost use Rattle.disk.specs.declared.run.TheConstants.{RUN_SECTORS};
 
 use crate::{DiskFault, SECTOR};
@@ -57,6 +57,19 @@ impl Run {
             return None;
         }
         self.sectors.get((n - self.first) as usize)
+    }
+
+    /// Puts into `contents`, which are of the sectors from `first` on, those that the run has.
+    pub(crate) fn copy_over(&self, first: u32, contents: &mut [[u8; SECTOR]])
+        requires { first + length contents.old < 2 ^ 32 }
+        ensures { (i : ℕ) → i < length contents.old → slice_index_or contents.new i []
+            ≡ unwrap_or (newest_in self.now (first + i)) (slice_index_or contents.old i []) }
+    {
+        for (i, content) in contents.iter_mut().enumerate() {
+            if let Some(newest) = self.get(first + i as u32) {
+                *content = *newest;
+            }
+        }
     }
 
     /// Whether sector `n` is in the run or just after it, with room left: an empty run takes any.
