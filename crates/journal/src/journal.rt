@@ -14,6 +14,8 @@ ghost use Rattle.journal.specs.MountAnswers.{JournalComesBack, HasRecovered, IsN
 ghost use Rattle.journal.specs.Phase.{FailsCounted};
 ghost use Rattle.journal.specs.Transactions.{FitTogether, gathered, sectors_of};
 
+mod runs;
+
 use crate::cache::Cache;
 use crate::index::SectorList;
 use crate::layout::{self, LogArea, SUPERBLOCK};

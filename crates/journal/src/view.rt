@@ -1,6 +1,6 @@
 //! A volume that is read as a mount would find it. Nothing is written.
 
-ghost use Rattle.std.specs.Prelude.{◌≡◌, ◌≤◌, ◌<◌, ◌⊎◌, take, length};
+ghost use Rattle.std.specs.Prelude.{◌≡◌, ◌≤◌, ◌<◌, ◌⊎◌, ◌+◌, ℕ, [], slice_index_or, take, length};
 ghost use Rattle.journal.specs.Layout.{IsArea, area_end};
 
 use crate::layout::{LogArea, MAX_TARGETS};
@@ -36,7 +36,8 @@ fn padded(targets: &[u32]) -> [u32; MAX_TARGETS]
 
 #[tactic(auto, unfolding(crate::specs::Views::view_of, crate::specs::Views::view_failures, crate::specs::Views::name_of))]
 impl<'a, D: Device> View<'a, D> {
-    ghost use Rattle.std.specs.Prelude.{OnOk, IfErr, IsErrOf};
+    ghost use Rattle.std.specs.Prelude.{false, OnOk, IfErr, IsErrOf};
+    ghost use Rattle.disk.specs.Moments.{seen};
     ghost use Rattle.journal.specs.Log.{AnswersByDevice};
     ghost use Rattle.journal.specs.Viewed.{viewed};
     ghost use Rattle.journal.specs.Views.{view_of, view_failures, name_of};
@@ -88,5 +89,65 @@ impl<'a, D: Device> View<'a, D> {
             return Err(JournalFault::Fault);
         }
         Ok(())
+    }
+
+    /// Puts into `run` what as many sectors of the base hold, from `first` on. The device reads
+    /// them in one [`Device::read_run`], and then each whose content is in the payload there. After
+    /// `Fault` the run may hold anything.
+    ///
+    /// # Errors
+    ///
+    /// [`JournalFault::Fault`] if the device failed, and [`JournalFault::Down`] from then on.
+    pub fn read_run(&mut self, first: u32, run: &mut [[u8; SECTOR]]) -> Result<(), JournalFault>
+        requires { first + length run.old ≤ (view_of self.old).size }
+        ensures ok { D.keeps_word → OnOk result ((i : ℕ) → i < length run.old
+            → slice_index_or run.new i [] ≡ (view_of self.old).base (first + i)) }
+        // It only reads, on the device that it has
+        ensures view { view_of self.new ≡ record (view_of self.old)
+            { is_down = (view_of self.new).is_down } }
+        ensures same_reference { name_of self.new ≡ name_of self.old }
+        // If it fails
+        ensures untouched { IsErrOf result JournalFault.Down → run.new ≡ run.old }
+        ensures answers { AnswersByDevice (view_of self.old) (view_of self.new)
+            (view_failures self.old) (view_failures self.new) result }
+        ensures refuses { IfErr result
+            (λ fault. (fault ≡ JournalFault.Fault) ⊎ (fault ≡ JournalFault.Down)) }
+    {
+        if self.is_down {
+            return Err(JournalFault::Down);
+        }
+        // the number of a sector is a u32, since this is one
+        let device = &mut *self.device;
+        let _size = device.sectors();
+        if device.read_run(first, run).is_err() {
+            self.is_down = true;
+            return Err(JournalFault::Fault);
+        }
+        for (i, content) in run.iter_mut().enumerate() {
+            self.read_elsewhere(first + i as u32, content)?;
+        }
+        Ok(())
+    }
+
+    /// Reads sector `n` if its content is in the payload; `content` is what its own place holds.
+    fn read_elsewhere(&mut self, n: u32, content: &mut [u8; SECTOR]) -> Result<(), JournalFault>
+        requires up { (view_of self.old).is_down ≡ false }
+        requires there { n < (view_of self.old).size }
+        ensures ok { D.keeps_word → content.old ≡ seen (view_of self.old).history.now n
+            → OnOk result (content.new ≡ (view_of self.old).base n) }
+        // It only reads, on the device that it has
+        ensures view { view_of self.new ≡ record (view_of self.old)
+            { is_down = (view_of self.new).is_down } }
+        ensures same_reference { name_of self.new ≡ name_of self.old }
+        // If it fails
+        ensures answers { AnswersByDevice (view_of self.old) (view_of self.new)
+            (view_failures self.old) (view_failures self.new) result }
+        ensures refuses { IfErr result
+            (λ fault. (fault ≡ JournalFault.Fault) ⊎ (fault ≡ JournalFault.Down)) }
+    {
+        if gate::place_of(&self.targets[..self.count], self.area, n) == n {
+            return Ok(());
+        }
+        self.read(n, content)
     }
 }
