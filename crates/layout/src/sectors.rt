@@ -1,6 +1,6 @@
 //! Reading a volume.
 
-ghost use Rattle.std.specs.Prelude.{◌≡◌, ◌<◌, ℕ, IfOk, is_err, IsTrue};
+ghost use Rattle.std.specs.Prelude.{◌≡◌, ◌≤◌, ◌<◌, ◌+◌, ◌^◌, ℕ, [], length, slice_index_or, IfOk, OnOk, is_err, IsTrue};
 ghost use Rattle.disk.specs.Moments.{Image};
 ghost use Rattle.layout.specs.Health.{Health, FailsOrStays};
 
@@ -40,4 +40,25 @@ pub trait Sectors {
         ensures kept { kept self.new ≡ kept self.old }
         ensures health { FailsOrStays (health self.old) (health self.new)
             (IsTrue (is_err result)) };
+
+    /// Puts into `contents` those of as many sectors, from `first` on. If it fails it may hold
+    /// anything. The default reads one sector after the other.
+    ///
+    /// # Errors
+    ///
+    /// [`ReadFault`] if the device failed, now or before.
+    fn read_run(&mut self, first: u32, contents: &mut [[u8; SECTOR]]) -> Result<(), ReadFault>
+        requires within { first + length contents.old ≤ size (kept self.old) }
+        requires numbered { first + length contents.old < 2 ^ 32 }
+        ensures contents { keeps_word → OnOk result ((i : ℕ) → i < length contents.old
+            → slice_index_or contents.new i [] ≡ image (kept self.old) (first + i)) }
+        ensures kept { kept self.new ≡ kept self.old }
+        ensures health { FailsOrStays (health self.old) (health self.new)
+            (IsTrue (is_err result)) }
+    {
+        for (i, content) in contents.iter_mut().enumerate() {
+            *content = self.read(first + i as u32)?;
+        }
+        Ok(())
+    }
 }
