@@ -3,7 +3,7 @@ use Rattle.std.proofs.Common.{◌≡◌, ◌≢◌, ◌<◌, ◌⊎◌, ℕ, zer
 use Rattle.std.proofs.lemmas.Bool.{cases_eq, cases_lt}
 use Rattle.std.proofs.lemmas.List.{length-set, get_or-set_same, get_or-set_other, get_or_past, get_or_default, set-set, set_comm}
 use Rattle.std.proofs.Common.{Bor}
-use Rattle.std.specs.Option.{option_copied}
+use Rattle.std.specs.Option.{MatchOption, IsSomeAnd}
 use Rattle.std.specs.Prelude.{IfSome, IfNone}
 use Rattle.std.proofs.lemmas.Option.{same_Some}
 use Rattle.model_tree.specs.Trees.Keyed.{Keyed, at}
@@ -66,13 +66,17 @@ read-change cached_nodes changes i place read own within h key is =
     ap (λ (k : ℕ). get_or (overlaid cached_nodes changes) k None) (sym key) ∙ changed-here cached_nodes changes i own within h
     ∙ ap (λ (change : ℕ × Option CachedNode). change.1) (sym (is ∙ get_or_default changes i read (0, None) h))
 
-pub copied-some : (found : Option (Bor CachedNode)) (there : Option CachedNode) → there ≡ option_copied found → IfSome found (λ cached. there ≡ Some cached.now)
-copied-some None there is = tt
-copied-some (Some cached) there is = is
+pub lent-some : (read : Option CachedNode) (found : Option (Bor CachedNode)) (there : Option CachedNode) → there ≡ read → MatchOption read (found ≡ None) (λ one. IsSomeAnd found (λ cached. cached.now ≡ one))
+    → IfSome found (λ cached. there ≡ Some cached.now)
+lent-some read None there same is = tt
+lent-some None (Some cached) there same is = absurd cc
+lent-some (Some one) (Some cached) there same is = same ∙ ap (λ (cached : CachedNode). Some cached) (sym is)
 
-pub copied-none : (found : Option (Bor CachedNode)) (there : Option CachedNode) → there ≡ option_copied found → IfNone found (there ≡ None)
-copied-none None there is = is
-copied-none (Some cached) there is = tt
+pub lent-none : (read : Option CachedNode) (found : Option (Bor CachedNode)) (there : Option CachedNode) → there ≡ read → MatchOption read (found ≡ None) (λ one. IsSomeAnd found (λ cached. cached.now ≡ one))
+    → IfNone found (there ≡ None)
+lent-none None None there same is = same
+lent-none (Some one) None there same is = absurd is
+lent-none read (Some cached) there same is = tt
 
 -- no change is for the place, so it has the table's cached node
 pub unchanged : (table : List (Option CachedNode)) (changes : Keyed (Option CachedNode)) (looked : Keyed (Option CachedNode)) (seen : Overlaid) (place : ℕ) → looked ≡ changes → record { table = table; cached_nodes = overlaid table changes } ≡ seen

@@ -4,14 +4,14 @@ ghost use Rattle.std.specs.Prelude.{◌≡◌, ◌≢◌, ◌<◌, Some, None, l
 ghost use Rattle.node_table.specs.Overlays.{overlaid, HaveOwnPlace, IsFresh, CanBecome};
 ghost use Rattle.node_table.specs.Tables.{node_number_at};
 
-use crate::cached_node::CachedNode;
+use crate::boxed_node::BoxedNode;
 use crate::table::Table;
 use std::marker::Model;
 
 /// A cached node, or none, for each of some places. Contracts see the list of them.
 #[derive(Drop)]
 pub struct Changes {
-    list: Vec<(u32, Option<CachedNode>)>,
+    list: Vec<(u32, Option<BoxedNode>)>,
 }
 
 impl Model for Changes {
@@ -28,7 +28,7 @@ impl Model for Changes {
 }
 
 impl Changes {
-    pub(crate) fn new(list: Vec<(u32, Option<CachedNode>)>) -> Changes
+    pub(crate) fn new(list: Vec<(u32, Option<BoxedNode>)>) -> Changes
         requires { HaveOwnPlace list.items }
         ensures { result ≡ list.items }
     {
@@ -53,7 +53,7 @@ impl Table {
     }
 
     /// Puts a node into a place, as the next version of the one there or instead of it.
-    fn put(&mut self, place: u32, cached: CachedNode)
+    fn put(&mut self, place: u32, cached: BoxedNode)
         requires { place < length self.old
             → node_number_at self.old place ≢ Some cached.fields.number
             → IsFresh self.old cached.fields.number }

@@ -5,7 +5,7 @@ ghost use Rattle.std.specs.List.Sorted.{IsPermutation, IsNonDecreasingBy};
 ghost use Rattle.model_tree.specs.Trees.Keyed.{at, IsAbove};
 ghost use Rattle.node_table.specs.Index.{IsAt, entries_from, AreDifferent};
 
-use crate::cached_node::CachedNode;
+use crate::boxed_node::BoxedNode;
 use crate::table::Table;
 use std::alloc::{AllocError, Global};
 
@@ -22,7 +22,7 @@ pub(crate) fn entry_of(index: &[(u64, u32)], number: u64) -> Option<usize>
 /// for each place.
 pub(crate) fn entries(
     alloc: Global,
-    cached_nodes: &[Option<CachedNode>],
+    cached_nodes: &[Option<BoxedNode>],
 ) -> Result<Vec<(u64, u32)>, AllocError>
     requires { length cached_nodes.now ≤ Table.MAX_NODES }
     ensures entries { IfOk result (λ index. index.items ≡ entries_from 0 cached_nodes.now) }

@@ -1,6 +1,7 @@
 //! The nodes of a volume in memory: everything except the bytes of files.
 #![tactic(auto)]
 
+mod boxed_node;
 mod cached_node;
 mod changes;
 mod fault;
@@ -8,6 +9,7 @@ mod index;
 mod overlay;
 mod table;
 
+pub use boxed_node::BoxedNode;
 pub use cached_node::CachedNode;
 pub use changes::Changes;
 pub use fault::TableFault;

@@ -4,6 +4,7 @@ ghost use Rattle.std.specs.Prelude.{◌≡◌, ◌≢◌, ◌<◌, ℕ, Some, No
 ghost use Rattle.node_table.specs.Overlays.{overlaid, change_at};
 ghost use Rattle.node_table.specs.Tables.{node_number, node_number_at, HasNoNode, IsFree, AreTaken};
 
+use crate::boxed_node::BoxedNode;
 use crate::cached_node::CachedNode;
 use crate::changes::Changes;
 use crate::table::Table;
@@ -19,7 +20,7 @@ use std::marker::Model;
 pub struct Overlay<'a> {
     alloc: Global,
     table: &'a Table,
-    changes: Vec<(u32, Option<CachedNode>)>,
+    changes: Vec<(u32, Option<BoxedNode>)>,
 }
 
 impl<'a> Model for Overlay<'a> {
@@ -68,7 +69,7 @@ impl<'a> Overlay<'a> {
         ensures none { IfNone result (slice_index_or self.now.cached_nodes place None ≡ None) }
     {
         match change_of(&self.changes, place) {
-            Some(i) => self.changes[i].1.as_ref(),
+            Some(i) => self.changes[i].1.as_deref(),
             None => self.table.cached(place),
         }
     }
@@ -139,7 +140,7 @@ impl<'a> Overlay<'a> {
     ///
     /// `AllocError`, but never if what is at the place already differs from what the table has
     /// there.
-    pub fn put(&mut self, place: u32, cached: Option<CachedNode>) -> Result<(), AllocError>
+    pub fn put(&mut self, place: u32, cached: Option<BoxedNode>) -> Result<(), AllocError>
         requires { place < length self.old.cached_nodes }
         ensures cached_nodes { OnOk result (self.new.cached_nodes ≡ set self.old.cached_nodes place cached) }
         ensures table { self.new.table ≡ self.old.table }
@@ -164,7 +165,7 @@ impl<'a> Overlay<'a> {
 }
 
 /// The index of the change of a place.
-fn change_of(changes: &[(u32, Option<CachedNode>)], place: u32) -> Option<usize>
+fn change_of(changes: &[(u32, Option<BoxedNode>)], place: u32) -> Option<usize>
     ensures within { IfSome result (λ i. i < length changes.now) }
     ensures some { IfSome result (λ i. (change_at changes.now i).0 ≡ place) }
     ensures none { IfNone result ((i : ℕ)
@@ -174,7 +175,7 @@ fn change_of(changes: &[(u32, Option<CachedNode>)], place: u32) -> Option<usize>
 }
 
 /// The index of the change that puts a node with this number.
-fn change_to(changes: &[(u32, Option<CachedNode>)], number: u64) -> Option<usize>
+fn change_to(changes: &[(u32, Option<BoxedNode>)], number: u64) -> Option<usize>
     ensures within { IfSome result (λ i. i < length changes.now) }
     ensures some { IfSome result (λ i. node_number (change_at changes.now i).1 ≡ Some number) }
     ensures none { IfNone result ((i : ℕ)
@@ -187,17 +188,18 @@ fn change_to(changes: &[(u32, Option<CachedNode>)], number: u64) -> Option<usize
 }
 
 /// Takes the cached node out of a change.
-fn take_from(changes: &mut Vec<(u32, Option<CachedNode>)>, i: usize) -> Option<CachedNode>
+fn take_from(changes: &mut Vec<(u32, Option<BoxedNode>)>, i: usize) -> Option<CachedNode>
     requires { i < length changes.old.items }
     ensures cached { result ≡ (change_at changes.old.items i).1 }
     ensures changes { changes.new.items
         ≡ set changes.old.items i ((change_at changes.old.items i).0, None) }
 {
-    changes[i].1.take()
+    let cached = changes[i].1.take()?;
+    Some(cached.into_inner())
 }
 
 /// Puts a cached node, or none, into a change.
-fn put_into(changes: &mut Vec<(u32, Option<CachedNode>)>, i: usize, cached: Option<CachedNode>)
+fn put_into(changes: &mut Vec<(u32, Option<BoxedNode>)>, i: usize, cached: Option<BoxedNode>)
     requires { i < length changes.old.items }
     ensures { changes.new.items
         ≡ set changes.old.items i ((change_at changes.old.items i).0, cached) }

@@ -5,6 +5,7 @@ ghost use Rattle.layout.specs.Marks.{times};
 ghost use Rattle.node_table.specs.Tables.{node_number_at, HasNoNode, HaveOwnPlaces, AreNumbered, AreBelow, IsFree, AreFew, charge_there, charge_of_all, count_of_all, vacant};
 ghost use Rattle.model_tree.specs.Trees.Charge.{charge_of_blocks};
 
+use crate::boxed_node::BoxedNode;
 use crate::cached_node::CachedNode;
 use crate::fault::TableFault;
 use crate::index::{self, entry_of};
@@ -14,11 +15,14 @@ use std::marker::Model;
 
 /// A cached node, or none, at each place of a volume's node table. Contracts see the list of them.
 ///
+/// A node is in memory of its own, and a free place takes 36 bytes: an empty box, and the room of
+/// an entry in the index and in the list of the free places.
+///
 /// Finding a number takes one step for each doubling of the table. Making or replacing a node
 /// changes one place of each list; removing one moves each of the numbers after it.
 #[derive(Drop)]
 pub struct Table {
-    cached_nodes: Vec<Option<CachedNode>>,
+    cached_nodes: Vec<Option<BoxedNode>>,
     /// The numbers of the nodes and their places, by rising number.
     index: Vec<(u64, u32)>,
     /// The free places; the last one is the next to be taken.
@@ -74,7 +78,7 @@ impl Table {
     /// [`TableFault::Memory`].
     pub fn from_cached_nodes(
         alloc: Global,
-        cached_nodes: Vec<Option<CachedNode>>,
+        cached_nodes: Vec<Option<BoxedNode>>,
     ) -> Result<Table, TableFault>
         requires few { length cached_nodes.items ≤ Table.MAX_NODES }
         requires numbered { AreNumbered cached_nodes.items }
@@ -151,7 +155,7 @@ impl Table {
     }
 
     /// Puts a node whose number is above all others into a free place.
-    pub fn make(&mut self, place: u32, cached: CachedNode)
+    pub fn make(&mut self, place: u32, cached: BoxedNode)
         requires free { IsFree self.old place }
         requires some { 0 < cached.fields.number }
         requires above { AreBelow self.old cached.fields.number }
@@ -164,7 +168,7 @@ impl Table {
     }
 
     /// Puts a cached node into the place of the one with its number.
-    pub fn replace(&mut self, place: u32, cached: CachedNode)
+    pub fn replace(&mut self, place: u32, cached: BoxedNode)
         requires { node_number_at self.old place ≡ Some cached.fields.number }
         ensures { self.new ≡ set self.old place (Some cached) }
     {
@@ -189,7 +193,7 @@ impl Table {
 }
 
 /// The places without a cached node, with room for all places.
-fn free_places(alloc: Global, cached_nodes: &[Option<CachedNode>]) -> Result<Vec<u32>, AllocError>
+fn free_places(alloc: Global, cached_nodes: &[Option<BoxedNode>]) -> Result<Vec<u32>, AllocError>
     requires { length cached_nodes.now ≤ Table.MAX_NODES }
     ensures times { IfOk result (λ free. (n : ℕ) → times n free.items ≡ vacant n cached_nodes.now) }
     ensures count { IfOk result (λ free.
@@ -206,7 +210,7 @@ fn free_places(alloc: Global, cached_nodes: &[Option<CachedNode>]) -> Result<Vec
 }
 
 /// What cached nodes take of the data region.
-fn charge_of_cached_nodes(cached_nodes: &[Option<CachedNode>]) -> u64
+fn charge_of_cached_nodes(cached_nodes: &[Option<BoxedNode>]) -> u64
     requires { length cached_nodes.now ≤ Table.MAX_NODES }
     ensures charge { result ≡ charge_of_all cached_nodes.now }
     ensures few { AreFew cached_nodes.now }
@@ -259,7 +263,7 @@ fn blocks_charge(blocks: &BlockList) -> u64
 }
 
 /// What the cached node at a place takes of the data region.
-fn charge_at(cached_nodes: &[Option<CachedNode>], place: u32) -> u64
+fn charge_at(cached_nodes: &[Option<BoxedNode>], place: u32) -> u64
     ensures { result ≡ charge_there (slice_index_or cached_nodes.now place None) }
 {
     match cached_nodes.get(place as usize) {
@@ -269,7 +273,7 @@ fn charge_at(cached_nodes: &[Option<CachedNode>], place: u32) -> u64
 }
 
 /// Puts a cached node, or none, into a place.
-fn put_cached(cached_nodes: &mut Vec<Option<CachedNode>>, place: u32, cached: Option<CachedNode>)
+fn put_cached(cached_nodes: &mut Vec<Option<BoxedNode>>, place: u32, cached: Option<BoxedNode>)
     requires { place < length cached_nodes.old.items }
     ensures { cached_nodes.new.items ≡ set cached_nodes.old.items place cached }
 {

@@ -15,8 +15,8 @@ loop-place-preserved c =
     let step = entries-step c.args.cached_nodes.now c.loop-place.place c.index-cached_nodes-place.result c.loop-place-test.true c.index-cached_nodes-place.is c.loop-place.index.items inv.entries in
     elim c.match-cached.branch [
       | in-Some w ↦
-          let added : (w.cached.inside.inode.number, c.loop-place.place) ∷ [] ≡ entry_from c.loop-place.place c.index-cached_nodes-place.result =
-          ap (λ (cached_node : CachedNode). (cached_node.fields.number, c.loop-place.place) ∷ []) w.cached.view_is ∙ ap (entry_from c.loop-place.place) (sym w.in-Some.is) in
+          let added : (w.behind-cached.inside.inode.number, c.loop-place.place) ∷ [] ≡ entry_from c.loop-place.place c.index-cached_nodes-place.result =
+          ap (λ (cached_node : CachedNode). (cached_node.fields.number, c.loop-place.place) ∷ []) (w.behind-cached.view_is ∙ w.deref.ensures) ∙ ap (entry_from c.loop-place.place) (sym w.in-Some.is) in
           rw w.index-is (record {
             entries = w.push_reserved.ensures.items ∙ ap (λ (l : Keyed ℕ). c.loop-place.index.items ++ l) added ∙ step;
             few = omega (arith, w.push_reserved.ensures.len, inv.few);

@@ -30,8 +30,8 @@ loop-cached-preserved c =
     elim c.match-cached.branch [
       | in-Some w ↦
           let one : CachedNode = w.in-Some.cached in
-          let few : length one.blocks ≤ 4096 = subst (λ (cached_node : CachedNode). length cached_node.blocks ≤ 4096) w.cached.view_is w.blocks_charge-charge.ensures.few in
-          let charge : w.blocks_charge-charge.result ≡ charge_of one = w.blocks_charge-charge.ensures.charge ∙ ap charge_of w.cached.view_is in
+          let few : length one.blocks ≤ 4096 = subst (λ (cached_node : CachedNode). length cached_node.blocks ≤ 4096) (w.behind-cached.view_is ∙ w.deref.ensures) w.blocks_charge-charge.ensures.few in
+          let charge : w.blocks_charge-charge.result ≡ charge_of one = w.blocks_charge-charge.ensures.charge ∙ ap charge_of (w.behind-cached.view_is ∙ w.deref.ensures) in
           rw w.charge-is (record {
             charge = omega (arith, inv.charge, charge, sum, ap (worth_of charge_of) w.in-Some.is);
             most = omega (arith, inv.most, charge, charge-most one few);

@@ -3,8 +3,7 @@ use Rattle.std.specs.Prelude.{IfSome, IfNone}
 use Rattle.model_tree.specs.Trees.Keyed.{Keyed}
 use Rattle.layout.specs.CachedNodes.{CachedNode}
 use Rattle.node_table.specs.Overlays.{Overlaid, change_at}
-use Rattle.node_table.proofs.OverlayLaws.{at-off, changed-off, read-change, copied-some}
-use Rattle.node_table.proofs.OverlayLaws.{copied-none}
+use Rattle.node_table.proofs.OverlayLaws.{at-off, changed-off, read-change, lent-some, lent-none}
 use Rattle.node_table.proofs.overlay.Overlay.cached.Goals as goal
 
 pub returns-in-Some-clause-some : goal.returns-in-Some-clause-some
@@ -13,7 +12,7 @@ returns-in-Some-clause-some c =
     let within : c.in-Some.i < length changes = subst (λ (l : Keyed (Option CachedNode)). c.in-Some.i < length l) c.deref.ensures.value c.in-Some.ensures.within in
     let key : (change_at changes c.in-Some.i).0 ≡ c.args.place = subst (λ (l : Keyed (Option CachedNode)). (change_at l c.in-Some.i).0 ≡ c.args.place) c.deref.ensures.value c.in-Some.ensures.some in
     let there = read-change c.self.inside.table.now changes c.in-Some.i c.args.place c.index.result.now c.self.invariant.0 c.self.invariant.1 within key c.index.ensures in
-    copied-some c.as_ref.result (get_or c.args.self.now.cached_nodes c.args.place None) (ap (λ (overlay : Overlaid). get_or overlay.cached_nodes c.args.place None) (sym c.self.view_is) ∙ there ∙ sym c.as_ref.ensures.value)
+    lent-some c.index.result.now.1 c.as_deref.result (get_or c.args.self.now.cached_nodes c.args.place None) (ap (λ (overlay : Overlaid). get_or overlay.cached_nodes c.args.place None) (sym c.self.view_is) ∙ there) c.as_deref.ensures.cases
 
 pub returns-in-Some-clause-none : goal.returns-in-Some-clause-none
 returns-in-Some-clause-none c =
@@ -21,7 +20,7 @@ returns-in-Some-clause-none c =
     let within : c.in-Some.i < length changes = subst (λ (l : Keyed (Option CachedNode)). c.in-Some.i < length l) c.deref.ensures.value c.in-Some.ensures.within in
     let key : (change_at changes c.in-Some.i).0 ≡ c.args.place = subst (λ (l : Keyed (Option CachedNode)). (change_at l c.in-Some.i).0 ≡ c.args.place) c.deref.ensures.value c.in-Some.ensures.some in
     let there = read-change c.self.inside.table.now changes c.in-Some.i c.args.place c.index.result.now c.self.invariant.0 c.self.invariant.1 within key c.index.ensures in
-    copied-none c.as_ref.result (get_or c.args.self.now.cached_nodes c.args.place None) (ap (λ (overlay : Overlaid). get_or overlay.cached_nodes c.args.place None) (sym c.self.view_is) ∙ there ∙ sym c.as_ref.ensures.value)
+    lent-none c.index.result.now.1 c.as_deref.result (get_or c.args.self.now.cached_nodes c.args.place None) (ap (λ (overlay : Overlaid). get_or overlay.cached_nodes c.args.place None) (sym c.self.view_is) ∙ there) c.as_deref.ensures.cases
 
 pub returns-in-None-clause-some : goal.returns-in-None-clause-some
 returns-in-None-clause-some c =

@@ -14,7 +14,7 @@ take_free-requires c =
 pub overflow_add-self : goal.overflow_add-self
 overflow_add-self c =
     let kept = c.self.invariant.0 in
-    let few = ap (λ (cached_node : CachedNode). length cached_node.blocks) c.cached.view_is in
+    let few = ap (λ (cached_node : CachedNode). length cached_node.blocks) (c.behind-cached-2.view_is ∙ c.deref-2.ensures) in
     omega (arith, kept.charge_is, kept.few, charges-most c.self.inside.cached_nodes.items kept.each, c.blocks_charge.ensures.charge, few, c.blocks_charge.ensures.few)
 
 pub invariant_of-self : goal.invariant_of-self
@@ -23,10 +23,10 @@ invariant_of-self c =
     let cached_nodes : List (Option CachedNode) = c.self.inside.cached_nodes.items in
     let is_free : IsFree cached_nodes c.args.place = subst (λ (l : List (Option CachedNode)). IsFree l c.args.place) (sym c.self.view_is) c.requires.free in
     let below : AreBelow cached_nodes c.args.cached.fields.number = subst (λ (l : List (Option CachedNode)). AreBelow l c.args.cached.fields.number) (sym c.self.view_is) c.requires.above in
-    let number : c.cached.inside.inode.number ≡ c.args.cached.fields.number = ap (λ (cached_node : CachedNode). cached_node.fields.number) c.cached.view_is in
-    let is : c.blocks_charge.result ≡ charge_of c.args.cached = c.blocks_charge.ensures.charge ∙ ap charge_of c.cached.view_is in
+    let number : c.behind-cached.inside.inode.number ≡ c.args.cached.fields.number = ap (λ (cached_node : CachedNode). cached_node.fields.number) (c.behind-cached.view_is ∙ c.deref.ensures) in
+    let is : c.blocks_charge.result ≡ charge_of c.args.cached = c.blocks_charge.ensures.charge ∙ ap charge_of (c.behind-cached-2.view_is ∙ c.deref-2.ensures) in
     let sum : c.self.inside.charge + c.blocks_charge.result ≡ c.self.inside.charge + charge_of c.args.cached = omega (arith, is) in
-    let few : length c.args.cached.blocks ≤ 4096 = subst (λ (cached_node : CachedNode). length cached_node.blocks ≤ 4096) c.cached.view_is c.blocks_charge.ensures.few in
+    let few : length c.args.cached.blocks ≤ 4096 = subst (λ (cached_node : CachedNode). length cached_node.blocks ≤ 4096) (c.behind-cached-2.view_is ∙ c.deref-2.ensures) c.blocks_charge.ensures.few in
     let long = length-set cached_nodes c.args.place (Some c.args.cached) in
     let room = c.self.invariant.1 in
     rw (c.put_cached.ensures, c.push_reserved.ensures.items, number) (

@@ -14,7 +14,7 @@ overflow_sub-self c =
 pub overflow_add-self : goal.overflow_add-self
 overflow_add-self c =
     let kept = c.self.invariant.0 in
-    let few = ap (λ (cached_node : CachedNode). length cached_node.blocks) c.cached.view_is in
+    let few = ap (λ (cached_node : CachedNode). length cached_node.blocks) (c.behind-cached.view_is ∙ c.deref-2.ensures) in
     omega (arith, kept.charge_is, kept.few, charges-most c.self.inside.cached_nodes.items kept.each, c.blocks_charge.ensures.charge, few, c.blocks_charge.ensures.few)
 
 pub invariant_of-self : goal.invariant_of-self
@@ -24,10 +24,10 @@ invariant_of-self c =
     let there : node_number_at cached_nodes c.args.place ≡ Some c.args.cached.fields.number =
     subst (λ (l : List (Option CachedNode)). node_number_at l c.args.place ≡ Some c.args.cached.fields.number) (sym c.self.view_is) c.requires in
     let was : c.charge_at.result ≡ charge_there (get_or cached_nodes c.args.place None) = c.charge_at.ensures ∙ ap (λ (l : List (Option CachedNode)). charge_there (get_or l c.args.place None)) c.deref.ensures.value in
-    let is : c.blocks_charge.result ≡ charge_of c.args.cached = c.blocks_charge.ensures.charge ∙ ap charge_of c.cached.view_is in
+    let is : c.blocks_charge.result ≡ charge_of c.args.cached = c.blocks_charge.ensures.charge ∙ ap charge_of (c.behind-cached.view_is ∙ c.deref-2.ensures) in
     let sum : c.self.inside.charge - c.charge_at.result + c.blocks_charge.result + charge_there (get_or cached_nodes c.args.place None) ≡ c.self.inside.charge + charge_of c.args.cached =
     omega (arith, was, is, charge-within cached_nodes c.args.place, kept.charge_is) in
-    let few : length c.args.cached.blocks ≤ 4096 = subst (λ (cached_node : CachedNode). length cached_node.blocks ≤ 4096) c.cached.view_is c.blocks_charge.ensures.few in
+    let few : length c.args.cached.blocks ≤ 4096 = subst (λ (cached_node : CachedNode). length cached_node.blocks ≤ 4096) (c.behind-cached.view_is ∙ c.deref-2.ensures) c.blocks_charge.ensures.few in
     let long = length-set cached_nodes c.args.place (Some c.args.cached) in
     let room = c.self.invariant.1 in
     rw c.put_cached.ensures (
