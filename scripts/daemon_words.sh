@@ -189,7 +189,7 @@ formatting() {
     try format new.img 64M
     try format --force --nodes 20 --log 288 new.img 3M
     try check new.img
-    for words in 2064K 2068K 1T 16T 64 64m 64MB 0G -1G '' M 1.5G; do
+    for words in 2064K 2068K 1T 16T 17T 16777217M 64 64m 64MB 0G -1G '' M 1.5G; do
         rm -f new.img
         try format --nodes 20 --log 288 new.img "$words"
     done

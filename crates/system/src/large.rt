@@ -1,5 +1,7 @@
 //! Volumes of version 3: their size, as a command line gives it, and making one.
 
+ghost use Rattle.std.specs.Prelude.{◌≡◌, ◌<◌, ◌-◌, ◌/◌, ◌^◌, None, Some};
+
 use crate::number::decimal;
 use crate::refused::Refused;
 use crate::volume_file::open_refusal;
@@ -22,6 +24,9 @@ const FEWEST_BY_DEFAULT: u32 = 16;
 
 /// At most what a node takes in memory, when a mount reads it.
 const BYTES_PER_NODE: u64 = 1_024;
+
+/// One sector more than a volume can have: those of 16 TiB.
+const ONE_MORE: u64 = 1 << 32;
 
 /// What the units of a size are.
 const UNITS: [(&str, u64); 4] = [
@@ -71,16 +76,30 @@ impl LargeSize {
     }
 }
 
-/// The sectors of a size in bytes, as `64G`: a number and K, M, G or T, each 1024 times the one
-/// before it. None if it has no such form, or too many sectors for a volume.
+/// The sectors of a volume of this size in bytes, as `64G`: a number and K, M, G or T, each 1024
+/// times the one before it. A volume of `16T` has one sector less than that. None if it has no such
+/// form, or is larger.
 pub fn sectors_in(size: &str) -> Option<u32> {
     for (suffix, unit) in UNITS {
         if let Some(number) = size.strip_suffix(suffix) {
             let bytes = u64::from(decimal(number)?).checked_mul(unit)?;
-            return u32::try_from(bytes / SECTOR as u64).ok();
+            return sectors_of(bytes);
         }
     }
     None
+}
+
+/// The whole sectors of this many bytes; one less if they are 2^32, since a volume has at most
+/// 2^32 - 1. None if they are more.
+fn sectors_of(bytes: u64) -> Option<u32>
+    ensures most { bytes / 4096 < 2 ^ 32 → result ≡ Some (bytes / 4096) }
+    ensures one_more { bytes / 4096 ≡ 2 ^ 32 → result ≡ Some (2 ^ 32 - 1) }
+    ensures beyond { 2 ^ 32 < bytes / 4096 → result ≡ None }
+{
+    match bytes / SECTOR as u64 {
+        ONE_MORE => Some(u32::MAX),
+        sectors => u32::try_from(sectors).ok(),
+    }
 }
 
 /// Makes a file, or a block device of this size, a new volume of version 3, and prints what it has.
