@@ -34,11 +34,12 @@ shown() {
     cmp -s err.txt usage.txt && echo '  ! that usage' || sed 's/^/  ! /' err.txt
 }
 
-# The same for every release and at any port.
+# The same for every release, at any port, and for every volume.
 without_numbers() {
     sed -E 's/^(.{4}nfs41d) [0-9]+\.[0-9.]+/\1 VERSION/; s/\(rattle-kit[^)]*\)$/(KIT)/
         s/^(.{4}(serving|listening on) .*:)[0-9]+$/\1PORT/; s/:[0-9]+(, metrics on )/:PORT\1/
-        /other[.]img/s/:[1-9][0-9]+/:PORT/; s#d{250}[d/]*#dddd../#'
+        /other[.]img/s/:[1-9][0-9]+/:PORT/; s#d{250}[d/]*#dddd../#
+        s/ identity [0-9a-f]{32}$/ identity IDENTITY/'
 }
 
 # Tries these words. Those of 256 bytes or more are cut in what is printed.

@@ -164,7 +164,8 @@ fn with_sessions<'a>(alloc: Global, command: Command<'a>) -> Result<Command<'a>,
             NAME,
             "NAME",
             "What distinguishes this server from others, the same at each start; by default the \
-             name of the host, a colon, and the path of the volume",
+             identity of the volume, or of one of layout 2 the name of the host, a colon, and its \
+             path",
         ))?
         .arg(option(
             alloc,

@@ -16,8 +16,8 @@ pub fn is_name(name: &[u8]) -> bool {
     (1..=MAX_NAME_BYTES).contains(&name.len())
 }
 
-/// The name by default of the server of this volume: that of the host, a colon, and the volume's
-/// path from the root, without links.
+/// The name by default of the server of a volume without an identity: that of the host, a colon,
+/// and the volume's path from the root, without links.
 ///
 /// # Errors
 /// Usage if it is too long; Open if there is no such file; Io; Memory.

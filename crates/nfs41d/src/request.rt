@@ -70,7 +70,8 @@ pub struct Serving<'a> {
     pub file: &'a str,
     /// The address to listen at; None: the socket that a service manager hands over.
     pub address: Option<SocketAddr>,
-    /// What distinguishes this server from others; None: the host and the file.
+    /// What distinguishes this server from others; None: the volume's identity, or without one the
+    /// host and the file.
     pub name: Option<&'a str>,
     pub forget_after: Option<Duration>,
     /// Which replies outlive a crash.

@@ -7,16 +7,16 @@ use crate::version::RELEASE;
 use disk::{Device, FileDevice};
 use event_loop::{Admission, Door, Keeping, Settings, serve};
 use std::net::SocketAddr;
-use system::{Refused, open_volume, served_layout};
+use system::{Refused, identity_of, open_volume, served_version};
 
 /// Serves the volume in a file. It is locked, and the socket there, before the mount raises the
 /// restart count.
 pub fn serve_volume(rt: &HostRuntime, serving: Serving<'_>) -> Result<(), Fault> {
-    let name = name_of(rt, serving.name, serving.file)?;
     let mut device = open_volume(rt, serving.file)?;
+    let version = served_version(&mut device)?;
+    let name = name_of(rt, &serving, identity_of(rt.alloc(), version)?)?;
     let door = door_of(rt, serving.address)?;
-    let layout = served_layout(&mut device)?;
-    let title = title_of(rt, serving.file, layout, device.sectors())?;
+    let title = title_of(rt, serving.file, version.number(), device.sectors())?;
     let settings = settings_of(serving, name);
     let mut out = rt.stdout();
     match serve(
@@ -41,10 +41,16 @@ fn device_fault(device: &FileDevice) -> Fault {
     }
 }
 
-fn name_of(rt: &HostRuntime, given: Option<&str>, file: &str) -> Result<Vec<u8>, Fault> {
-    match given {
-        Some(name) => Ok(Vec::from_slice(rt.alloc(), name.as_bytes())?),
-        None => default_name(rt, file),
+/// The name that is given, or else the identity of the volume, or else the name by default.
+fn name_of(
+    rt: &HostRuntime,
+    serving: &Serving<'_>,
+    identity: Option<String>,
+) -> Result<Vec<u8>, Fault> {
+    match (serving.name, identity) {
+        (Some(name), _) => Ok(Vec::from_slice(rt.alloc(), name.as_bytes())?),
+        (None, Some(identity)) => Ok(identity.into_bytes()),
+        (None, None) => default_name(rt, serving.file),
     }
 }
 

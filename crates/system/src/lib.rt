@@ -2,6 +2,7 @@
 #![tactic(auto)]
 
 mod beginning;
+mod identity;
 mod large;
 mod machine;
 mod number;
@@ -13,6 +14,7 @@ mod time;
 mod volume_file;
 
 pub use beginning::{Begun, Unbegun, begin};
+pub use identity::identity_of;
 pub use large::{LargeSize, format_large_file, sectors_in};
 pub use machine::Machine;
 pub use number::decimal;
@@ -23,5 +25,5 @@ pub use size::VolumeSize;
 pub use time::{WallClock, moment};
 pub use volume_file::{
     begins_as_volume, check_file, format_file, open_refusal, open_volume, open_volume_to_read,
-    served_layout,
+    served_version,
 };

@@ -1,9 +1,10 @@
 //! The volume in a file, or on a block device.
 
+use crate::identity::identity_of;
 use crate::refused::Refused;
 use crate::size::VolumeSize;
 use disk::{Device, FileDevice, SECTOR};
-use fs::{Checked, Fs};
+use fs::Fs;
 use layout::versions::VersionNumber;
 use server::{Server, is_volume_size};
 use std::fs::{File, metadata};
@@ -40,20 +41,21 @@ where
 /// Prints what a mount would find, and writes nothing to the file.
 ///
 /// # Errors
-/// Those of [`check_volume`]; Io.
+/// Those of [`open_volume_to_read`], and those of the mount; Io.
 pub fn check_file<R, O>(rt: &R, file: &str, out: &mut O) -> Result<(), Refused>
 where
     R: Files<File = File> + AllocGlobal,
     O: Write,
 {
-    let found = check_volume(rt, file)?;
+    let mut device = open_volume_to_read(rt, file)?;
+    let found = Fs::check(rt.alloc(), &mut device)?;
     write!(
         out,
         "volume {} {} run {}",
         found.sectors, found.nodes, found.count
     )?;
-    if found.version > VersionNumber::CURRENT.number() {
-        write!(out, " layout {}", found.version)?;
+    if let Some(identity) = identity_of(rt.alloc(), served_version(&mut device)?)? {
+        write!(out, " layout {} identity {identity}", found.version)?;
     }
     Ok(writeln!(out)?)
 }
@@ -62,26 +64,14 @@ where
 ///
 /// # Errors
 /// Device: sector 0 could not be read.
-pub fn served_layout(device: &mut FileDevice) -> Result<u32, Refused> {
+pub fn served_version(device: &mut FileDevice) -> Result<VersionNumber, Refused> {
     let sectors = device.sectors();
     let mut first = [0; SECTOR];
     if sectors > 0 {
         device.read(0, &mut first)?;
     }
     let version = version_at(sectors, &first).unwrap_or(VersionNumber::CURRENT);
-    Ok(version.served().number())
-}
-
-/// What a mount of the volume in a file would find.
-///
-/// # Errors
-/// Those of [`open_volume_to_read`], and those of the mount.
-fn check_volume<R>(rt: &R, file: &str) -> Result<Checked, Refused>
-where
-    R: Files<File = File> + AllocGlobal,
-{
-    let mut device = open_volume_to_read(rt, file)?;
-    Ok(Fs::check(rt.alloc(), &mut device)?)
+    Ok(version.served())
 }
 
 /// Whether a file begins as a volume does, of whatever version and size, sound or damaged.
