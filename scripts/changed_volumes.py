@@ -2,17 +2,18 @@
 """Changes each byte of each field of a volume, one at a time, and compares what `nfs41 check` says
 of it with a reading of docs/FORMAT.md in which no crate has a part.
 
-    scripts/changed_volumes.py [NFS41 [EACH]]
+    scripts/changed_volumes.py [NFS41 [EACH [NFS41D]]]
 
-It takes the proved program crates/nfs41/out/nfs41, or the one that is named, and needs nothing
-else. The program makes a volume with directories, files and the seat of a persistent session. That
-is tried as it was left, with the commit record set; as the next mount leaves it; and as one of
-version 1 in the middle of a migration. Each byte is changed in its lowest bit, in its highest one
-and in all. Where the reading finds a tree, `check` has to print the volume, and where it does not
-`refused: Damaged` or `refused: NotVolume`, as the reading says. Of the changes each EACH-th one is
-made (1); where 3 does not divide it they are of all three kinds.
+It takes the proved programs crates/nfs41/out/nfs41 and crates/nfs41d/out/nfs41d, or those that are
+named, and needs nothing else. The programs make a volume of version 2 and one of version 3, with
+directories, files and the seat of a persistent session. Each is tried as it was left, with the commit
+record set; and as the next mount leaves it; that of version 2 also as one of version 1 in the middle
+of a migration. Each byte is changed in its lowest bit, in its highest one and in all. Where the
+reading finds a tree, `check` has to print the volume, and where it does not `refused: Damaged` or
+`refused: NotVolume`, as the reading says. Of the changes each EACH-th one is made (1); where 3 does
+not divide it they are of all three kinds.
 
-Prints a line for each of the three, with how many changes there were and after how many a tree
+Prints a line for each of the five, with how many changes there were and after how many a tree
 stands, and the first differences. The last line is `as expected`; else the status is 1.
 """
 import os
@@ -23,7 +24,7 @@ import tempfile
 
 TOP = pathlib.Path(__file__).resolve().parent.parent
 SECTOR, ZERO = 4096, bytes(4096)
-BITMAP, SEATS, BEHIND_SEATS, MARK, NODES = 98, 100, 145, 147, 148
+LOG, BITMAP, SEATS, BEHIND_SEATS, MARK, NODES = 2, 98, 100, 145, 147, 148
 SEAT_SECTORS, SLOT_SECTORS, MAX_OWNER, MAX_RESULT = 9, 4, 1024, 16360
 RUNS, NAMES, RECORD = 500, 15, 272
 SCRIPT = f"""A hello 7 7
@@ -74,12 +75,34 @@ class Reading:
     def read_superblock(self):
         first = self.sectors[0]
         self.version, self.size, self.places, self.count = (number(first, at, 4) for at in (8, 12, 16, 20))
-        is_size = self.size == len(self.sectors) and 256 <= self.size <= 65536
-        is_room = 2 <= self.places <= 16384 and 164 + self.places <= self.size
-        if first[:8] != b"NFS41VOL" or self.version not in (1, 2) or not (is_size and is_room):
+        if first[:8] != b"NFS41VOL" or self.size != len(self.sectors) or self.version not in (1, 2, 3):
+            raise Unfit("NotVolume")
+        if self.version == 3:
+            self.read_large(first)
+        else:
+            self.read_small(first)
+        self.later = (self.count + 1) << 32
+
+    def read_small(self, first):
+        if not (256 <= self.size <= 65536 and 2 <= self.places <= 16384 and 164 + self.places <= self.size):
             raise Unfit("NotVolume")
         need(is_zero(first[24:]))
-        self.later = (self.count + 1) << 32
+        self.log, self.log_sectors, self.seats_start = LOG, 96, SEATS
+        self.data_end = self.targets_end = self.size
+        self.most_names, self.most_bytes = 1024, 1 << 24
+
+    def read_large(self, first):
+        """What the superblock of version 3 has behind the restart count."""
+        self.log_sectors, seats, slots = number(first, 24, 4), number(first, 28, 2), number(first, 30, 2)
+        self.most_names, self.most_bytes, self.identity = number(first, 32, 4), number(first, 40, 8), first[48:64]
+        are_counts = 2 <= self.places <= 4194304 and 288 <= self.log_sectors <= 1022 and (seats, slots) == (5, 2)
+        are_limits = 1 <= self.most_names <= 1024 and 1 <= self.most_bytes <= 1 << 24
+        tail = seats * (1 + SLOT_SECTORS * slots) + self.log_sectors
+        if not (are_counts and are_limits and 164 + self.places + tail <= self.size):
+            raise Unfit("NotVolume")
+        need(is_zero(first[36:40]) and is_zero(first[64:]))
+        self.data_end = self.seats_start = self.size - tail
+        self.log = self.targets_end = self.size - self.log_sectors
 
     def read_record(self):
         """The commit record: from here on the sectors are those that are read through it."""
@@ -87,23 +110,26 @@ class Reading:
         self.targets = []
         if is_zero(record):
             return
-        need(number(record, 0, 4) == 1 and 1 <= k <= 96 and is_zero(record[8 + 4 * k :]))
+        need(number(record, 0, 4) == 1 and 1 <= k <= self.log_sectors and is_zero(record[8 + 4 * k :]))
         self.targets = [number(record, 8 + 4 * i, 4) for i in range(k)]
-        need(len(set(self.targets)) == k and all(BITMAP <= it < self.size for it in self.targets))
+        need(all(BITMAP <= it < self.targets_end for it in self.targets))
+        need(self.version == 3 or len(set(self.targets)) == k)
         for i, target in enumerate(self.targets):
-            self.sectors[target] = self.sectors[2 + i]
+            self.sectors[target] = self.sectors[self.log + i]
 
     def read_mark(self):
         mark, self.moved = self.sectors[MARK], None
-        if not is_zero(mark):
+        if self.version == 3:
+            need(all(self.sectors[it] == ZERO for it in range(BITMAP, NODES)))
+        elif not is_zero(mark):
             self.moved = number(mark, 4, 4)
             need(mark[:4] == b"MIGR" and is_zero(mark[8:]) and 1 <= self.moved <= self.places)
             need(self.version == 1 or self.moved == self.places)
 
     def read_seat(self, first):
         """The first sector of a seat, its id and its owner's length, or None where it is free."""
-        head, free = self.sectors[first], self.sectors[first : first + SEAT_SECTORS]
-        if all(it == ZERO for it in free):
+        head, whole = self.sectors[first], self.sectors[first : first + SEAT_SECTORS]
+        if all(it == ZERO for it in (whole[:1] if self.version == 3 else whole)):
             return None
         slots, length = number(head, 24, 4), number(head, 28, 4)
         need(head[:4] == b"SESS" and slots in (1, 2) and length <= MAX_OWNER and is_zero(head[32 + length :]))
@@ -120,17 +146,17 @@ class Reading:
             need(is_zero(text[16:24]) and is_zero(text[24 + length :]))
 
     def read_seats(self):
-        self.seats = [it for k in range(5) if (it := self.read_seat(SEATS + SEAT_SECTORS * k))]
+        self.seats = [it for k in range(5) if (it := self.read_seat(self.seats_start + SEAT_SECTORS * k))]
         ids = [it[1] for it in self.seats]
         need(len(ids) == len(set(ids)) and all(self.sectors[it] == ZERO for it in range(BEHIND_SEATS, MARK)))
-        need(not ids or (self.version == 2 and self.moved is None))
+        need(not ids or (self.version > 1 and self.moved is None))
 
     def read_place(self, place):
         """The inode at a place of the node table."""
         content = self.sectors[NODES + place]
         if content == ZERO:
             return
-        if self.version == 2 or place < (self.moved or 0):
+        if self.version > 1 or place < (self.moved or 0):
             entries, most = number(content, 84, 2), 72
             need(content[:4] == b"NOD2" and content[5] == 0 and is_zero(content[86:128]))
         else:
@@ -144,7 +170,7 @@ class Reading:
         self.nodes.append(node)
 
     def read_blocks(self, node):
-        most, width = (1024, NAMES) if node.is_directory else (1 << 24, SECTOR)
+        most, width = (self.most_names, NAMES) if node.is_directory else (self.most_bytes, SECTOR)
         need(node.size <= most)
         self.read_runs(node, -(-node.size // width))
         if node.is_directory:
@@ -154,7 +180,7 @@ class Reading:
             need(not (used and last) or is_zero(self.sectors[last][used:]))
 
     def name_sector(self, sector):
-        need(NODES + self.places <= sector < self.size and sector not in self.named)
+        need(NODES + self.places <= sector < self.data_end and sector not in self.named)
         self.named.add(sector)
 
     def read_runs(self, node, most):
@@ -210,7 +236,9 @@ class Reading:
     def check_sectors(self):
         """The room that all nodes are charged, and the bitmap."""
         charge = sum(len(it.blocks) + -(-len(it.blocks) // RUNS) for it in self.nodes)
-        need(charge + self.places + NODES <= self.size)
+        need(charge + self.places + NODES <= self.data_end)
+        if self.version == 3:
+            return
         bits = bytearray(2 * SECTOR)
         for sector in self.named:
             i = sector - NODES - self.places
@@ -247,9 +275,11 @@ def is_name(name):
 
 def parts_of(reading):
     """Returns the fields, and some of the bytes that nothing uses: sector, first byte, end."""
-    parts = [(0, 0, 28), (1, 0, 12 + 4 * len(reading.targets)), (2, 0, 2), (BITMAP, 0, 16), (MARK, 0, 12), (reading.size - 1, 0, 2)]
+    parts = [(0, 0, 68), (1, 0, 12 + 4 * len(reading.targets)), (2, 0, 2), (BITMAP, 0, 16), (MARK, 0, 12)]
+    parts += [(it, 0, 2) for it in (reading.log, reading.data_end - 1, reading.size - 1)]
     parts += [(it, SECTOR - 2, SECTOR) for it in (0, 1, 99, 144, 146, MARK)]
-    parts += [(SEATS + SEAT_SECTORS * k + at, 0, 2) for k in range(5) for at in (1, 5)] + [(BEHIND_SEATS, 0, 2)]
+    parts += [(reading.seats_start + SEAT_SECTORS * k + at, 0, 2) for k in range(5) for at in (0, 1, 5)]
+    parts += [(reading.seats_start + SEAT_SECTORS * k, SECTOR - 2, SECTOR) for k in range(5)] + [(BEHIND_SEATS, 0, 2)]
     for first, _, length in reading.seats:
         parts += [(first, 0, 34 + length), (first, 1054, 1058), (first + 1, 2, 30), (first + 4, SECTOR - 2, SECTOR)]
         end = 24 + number(reading.sectors[first + 1], 12, 4)
@@ -275,9 +305,10 @@ def parts_of_node(reading, node):
 
 def changes_of(reading):
     """Returns the sector, the byte and what is changed of it. A sector that the commit record names is changed in the log, and
-    at home, where nothing reads it."""
-    homes = {target: 2 + i for i, target in enumerate(reading.targets)}
-    parts = parts_of(reading) + [(it, 0, 1) for it in homes]
+    where nothing reads it: at home, and in the log for an earlier target of the same number."""
+    homes = {target: reading.log + i for i, target in enumerate(reading.targets)}
+    earlier = [reading.log + i for i, target in enumerate(reading.targets) if homes[target] != reading.log + i]
+    parts = parts_of(reading) + [(it, 0, 1) for it in [*homes, *earlier]]
     read = [(homes.get(sector, sector) if to > 1 else sector, first, to) for sector, first, to in parts]
     return sorted({(sector, place, change) for sector, first, to in read for place in range(first, to) for change in (1, 128, 255)})
 
@@ -288,7 +319,8 @@ def expected_of(image):
         reading = Reading(image)
     except Unfit as why:
         return 1, f"refused: {why}\n"
-    return 0, f"volume {reading.size} {reading.places} run {reading.count}\n"
+    layout = f" layout 3 identity {reading.identity.hex()}" if reading.version == 3 else ""
+    return 0, f"volume {reading.size} {reading.places} run {reading.count}{layout}\n"
 
 
 def checked(nfs41, path):
@@ -327,18 +359,28 @@ def take_back(image, moved):
     return image
 
 
-def main(nfs41=TOP / "crates/nfs41/out/nfs41", each="1"):
+def try_version(nfs41, path, version, each):
+    """A new volume is filled, and mounted again."""
+    script = path.with_name("script.txt")
+    script.write_text(SCRIPT)
+    subprocess.run([nfs41, "run", path, script], check=True, stdout=subprocess.DEVNULL)
+    wrong = try_volume(nfs41, path, f"version {version}, as it was left", each)
+    subprocess.run([nfs41, "serve", path, "0", "0"], check=True, stdout=subprocess.DEVNULL)
+    return wrong + try_volume(nfs41, path, f"version {version}, mounted again", each)
+
+
+def main(nfs41=TOP / "crates/nfs41/out/nfs41", each="1", nfs41d=TOP / "crates/nfs41d/out/nfs41d"):
     wrong, each = [], int(each)
     with tempfile.TemporaryDirectory() as folder:
-        path, script = pathlib.Path(folder, "volume.img"), pathlib.Path(folder, "script.txt")
-        script.write_text(SCRIPT)
-        for words in (("format", path, "256", "16"), ("run", path, script)):
-            subprocess.run([nfs41, *words], check=True, stdout=subprocess.DEVNULL)
-        wrong += try_volume(nfs41, path, "as it was left", each)
-        subprocess.run([nfs41, "serve", path, "0", "0"], check=True, stdout=subprocess.DEVNULL)
-        wrong += try_volume(nfs41, path, "mounted again", each)
+        path = pathlib.Path(folder, "small.img")
+        subprocess.run([nfs41, "format", path, "256", "16"], check=True, stdout=subprocess.DEVNULL)
+        wrong += try_version(nfs41, path, 2, each)
         path.write_bytes(take_back(path.read_bytes(), 13))
-        wrong += try_volume(nfs41, path, "in a migration", each)
+        wrong += try_volume(nfs41, path, "version 1, in a migration", each)
+        path = pathlib.Path(folder, "large.img")
+        words = ("format", "--nodes", "16", "--log", "288", path, "2068K")
+        subprocess.run([nfs41d, *words], check=True, stdout=subprocess.DEVNULL)
+        wrong += try_version(nfs41, path, 3, each)
     for line in wrong[:20]:
         print(line)
     if wrong:

@@ -4,7 +4,7 @@ ghost use Rattle.std.specs.Prelude.{◌≡◌, ◌≤◌, ◌<◌, ◌⊎◌, �
 ghost use Rattle.disk.specs.Moments.{seen};
 ghost use Rattle.journal.specs.Log.{AnswersByDevice, contents};
 
-use crate::{Journal, JournalFault, list};
+use crate::{Journal, JournalFault};
 use disk::{Device, SECTOR};
 
 #[tactic(auto, unfolding(crate::specs::Journal::log_of, crate::specs::Journal::journal_failures, crate::specs::Journal::recorded_sectors))]
@@ -55,7 +55,7 @@ impl<D: Device> Journal<D> {
         ensures { D.keeps_word → content.old ≡ seen (log_of self.now).history.now n
             → content.new ≡ contents (log_of self.now) n }
     {
-        if let Some(place) = list::find(&self.pending_sectors, n) {
+        if let Some(place) = self.pending_sectors.find(n) {
             *content = self.pending[place].content;
             return;
         }

@@ -13,8 +13,8 @@ use Rattle.journal.proofs.journal.Journal.put_newer.Given.{Over}
 use Rattle.journal.proofs.journal.Journal.put_newer.Goals.{In-Some, In_default}
 
 found : (g : Over) (c : In-Some g) → IsLastUpdate c.args.self.now.pending.items c.args.n c.in-Some.place
-found g c = last_update c.args.self.now.pending.items c.deref.result.now c.args.self.now.pending_sectors.items c.args.n c.in-Some.place
-    c.deref.ensures.value c.args.self.now.sectors_are c.in-Some.ensures.found
+found g c = last_update c.args.self.now.pending.items c.args.self.now.pending_sectors.sectors.items c.args.n c.in-Some.place
+    c.args.self.now.sectors_are c.in-Some.ensures.found
 
 pub index-requires : goal.index-requires
 index-requires g c = omega (arith, (found g (goal.at.index-requires g c).In-Some).there, c.args.self.now.pending.ok)
@@ -36,8 +36,8 @@ either false = inr refl
 -- no update waits for the sector
 alone : (g : Over) (c : In_default g) → (image : Image) → applied c.args.self.now.pending.items image c.args.n ≡ image c.args.n
 alone g c image =
-    let none = not_named c.args.self.now.pending.items c.deref.result.now c.args.self.now.pending_sectors.items c.args.n
-    c.deref.ensures.value c.args.self.now.sectors_are c.in_default.ensures.none in
+    let none = not_named c.args.self.now.pending.items c.args.self.now.pending_sectors.sectors.items c.args.n
+    c.args.self.now.sectors_are c.in_default.ensures.none in
     let items = c.args.self.now.pending.items in
     applied_out items image c.args.n (not_has-out (targets items) c.args.n none)
 
