@@ -39,7 +39,7 @@ use freemap::SharedBitmap;
 use layout::places::NODES;
 use layout::sectors::Sectors;
 use layout::versions::Marking;
-use node_table::{CachedNode, Changes, Overlay, Table};
+use node_table::{BoxedNode, CachedNode, Changes, Overlay, Table};
 use std::alloc::{AllocError, Global};
 
 /// Cached nodes, places and updates as edits have made them.
@@ -84,6 +84,7 @@ fn take_cached(cached_nodes: &mut Overlay<'_>, place: u32) -> Result<CachedNode,
 
 /// Puts a cached node into a place of the table.
 fn put_cached(
+    alloc: Global,
     cached_nodes: &mut Overlay<'_>,
     place: u32,
     cached: CachedNode,
@@ -93,7 +94,8 @@ fn put_cached(
         (cached_nodes.new.cached_nodes ≡ set cached_nodes.old.cached_nodes place (Some cached)) }
     ensures table { cached_nodes.new.table ≡ cached_nodes.old.table }
 {
-    cached_nodes.put(place, Some(cached))
+    let boxed = BoxedNode::new(alloc, cached)?;
+    cached_nodes.put(place, Some(boxed))
 }
 
 /// Gives a cached node other metadata.
@@ -186,7 +188,7 @@ impl<'a> Transaction<'a> {
         ensures table { self.new.cached_nodes.table ≡ self.old.cached_nodes.table }
     {
         put_node(&mut self.updates, place, &cached)?;
-        put_cached(&mut self.cached_nodes, place, cached)?;
+        put_cached(self.alloc, &mut self.cached_nodes, place, cached)?;
         Ok(())
     }
 
@@ -210,7 +212,7 @@ impl<'a> Transaction<'a> {
         let mut cached = take_cached(&mut self.cached_nodes, place)?;
         show_in(&mut cached, metadata)?;
         put_node(&mut self.updates, place, &cached)?;
-        put_cached(&mut self.cached_nodes, place, cached)?;
+        put_cached(self.alloc, &mut self.cached_nodes, place, cached)?;
         Ok(())
     }
 
@@ -331,7 +333,7 @@ impl<'a> Transaction<'a> {
         let mut cached = take_cached(&mut self.cached_nodes, place)?;
         grow_to(&mut cached, size)?;
         put_node(&mut self.updates, place, &cached)?;
-        put_cached(&mut self.cached_nodes, place, cached)?;
+        put_cached(self.alloc, &mut self.cached_nodes, place, cached)?;
         Ok(())
     }
 
@@ -506,7 +508,7 @@ impl<'a> Transaction<'a> {
                 place,
                 &mut written.cached,
             )?;
-            put_cached(&mut self.cached_nodes, place, written.cached)?;
+            put_cached(self.alloc, &mut self.cached_nodes, place, written.cached)?;
         } else {
             // The runs of its blocks have not changed.
             self.store_node(place, written.cached)?;
@@ -553,7 +555,7 @@ impl<'a> Transaction<'a> {
         ensures count { length self.new.updates ≤ length self.old.updates + 1 }
     {
         put_node(&mut self.updates, place, &cached)?;
-        put_cached(&mut self.cached_nodes, place, cached)?;
+        put_cached(self.alloc, &mut self.cached_nodes, place, cached)?;
         Ok(())
     }
 
@@ -579,7 +581,7 @@ impl<'a> Transaction<'a> {
             &mut cached,
             runs,
         )?;
-        put_cached(&mut self.cached_nodes, place, cached)?;
+        put_cached(self.alloc, &mut self.cached_nodes, place, cached)?;
         Ok(())
     }
 }

@@ -20,7 +20,7 @@ use inode::Form;
 use layout::sectors::Sectors;
 use model_tree::seats::Seats;
 use model_tree::stamps::stamp;
-use node_table::{CachedNode, Table};
+use node_table::{BoxedNode, Table};
 use std::alloc::{AllocError, Global};
 use tree_check::are_well_formed;
 use volume_load::read_volume;
@@ -39,19 +39,17 @@ pub(crate) struct Loaded {
 }
 
 /// The cached node of a place as it is once its node has form two.
-fn in_second(cached: Option<CachedNode>) -> Option<CachedNode>
+fn in_second(cached: Option<BoxedNode>) -> Option<BoxedNode>
     ensures { result ≡ in_second cached }
 {
-    let mut cached = cached?;
-    cached.form = Form::Two;
-    Some(cached)
+    Some(cached?.with_form(Form::Two))
 }
 
 /// The cached nodes of all places as they are then.
 fn all_second(
     alloc: Global,
-    cached_nodes: Vec<Option<CachedNode>>,
-) -> Result<Vec<Option<CachedNode>>, AllocError>
+    cached_nodes: Vec<Option<BoxedNode>>,
+) -> Result<Vec<Option<BoxedNode>>, AllocError>
     ensures { IfOk result (λ second. second.items ≡ all_second cached_nodes.items) }
 {
     let mut second = Vec::with_capacity(alloc, cached_nodes.len())?;

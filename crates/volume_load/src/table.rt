@@ -29,7 +29,7 @@ use inode::{Form, Inode};
 use layout::places::NODES;
 use layout::sectors::Sectors;
 use layout::versions::{VersionNumber, form_at};
-use node_table::CachedNode;
+use node_table::{BoxedNode, CachedNode};
 use std::alloc::{AllocError, Global};
 
 /// The runs and the blocks of a node.
@@ -123,7 +123,7 @@ fn read_place<S: Sectors>(
     first: u32,
     place: u32,
     form: Form,
-) -> Result<Option<CachedNode>, ScanFault>
+) -> Result<Option<BoxedNode>, ScanFault>
     requires place { NODES + place < first }
     requires within { first + length places.old ≤ S.size (S.kept sectors.old) }
     ensures found { IfOk result
@@ -144,7 +144,7 @@ fn read_place<S: Sectors>(
         return Ok(None);
     };
     let cached = read_cached(alloc, sectors, places, first, form, inode)?;
-    Ok(Some(cached))
+    Ok(Some(BoxedNode::new(alloc, cached)?))
 }
 
 /// The cached nodes of `nodes` places, in the forms of the version and its mark, and the marks of
@@ -156,7 +156,7 @@ pub(crate) fn read_table<S: Sectors>(
     nodes: u32,
     number: VersionNumber,
     mark: Option<u32>,
-) -> Result<Vec<Option<CachedNode>>, ScanFault>
+) -> Result<Vec<Option<BoxedNode>>, ScanFault>
     requires few { NODES + nodes < 2 ^ 32 }
     requires within { NODES + nodes + length places.old ≤ S.size (S.kept sectors.old) }
     requires free { places.old ≡ replicate (length places.old) false }
@@ -183,7 +183,7 @@ pub(crate) fn read_table<S: Sectors>(
 }
 
 /// The numbers of the nodes.
-fn numbers_in(alloc: Global, cached_nodes: &[Option<CachedNode>]) -> Result<Vec<u64>, AllocError>
+fn numbers_in(alloc: Global, cached_nodes: &[Option<BoxedNode>]) -> Result<Vec<u64>, AllocError>
     ensures { IfOk result (λ numbers. numbers.items ≡ numbers_of cached_nodes.now) }
 {
     let mut numbers = Vec::with_capacity(alloc, cached_nodes.len())?;
@@ -198,7 +198,7 @@ fn numbers_in(alloc: Global, cached_nodes: &[Option<CachedNode>]) -> Result<Vec<
 /// Whether no two nodes have the same number.
 pub(crate) fn are_numbered(
     alloc: Global,
-    cached_nodes: &[Option<CachedNode>],
+    cached_nodes: &[Option<BoxedNode>],
 ) -> Result<bool, AllocError>
     ensures { IfOk result (λ are. IsTrue are ↔ AreNumbered cached_nodes.now) }
 {

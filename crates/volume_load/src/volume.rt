@@ -22,14 +22,14 @@ use layout::places::{BEHIND_SEATS, BITMAP, MARK, NODES};
 use layout::sectors::Sectors;
 use layout::versions::{Marking, VersionNumber};
 use model_tree::seats::Seats;
-use node_table::CachedNode;
+use node_table::BoxedNode;
 use std::alloc::Global;
 
 /// What a volume holds: the cached nodes of its nodes by their places, and which places of its data
 /// region they use.
 #[derive(Drop)]
 pub struct Contents {
-    pub cached_nodes: Vec<Option<CachedNode>>,
+    pub cached_nodes: Vec<Option<BoxedNode>>,
     pub places: Bitmap,
     /// How far a migration has come, as its mark says.
     pub mark: Option<u32>,
