@@ -38,4 +38,12 @@ impl<D: Device> Sectors for Store<D> {
         }
         Ok(content)
     }
+
+    /// Its device reads them in one call.
+    fn read_run(&mut self, first: u32, contents: &mut [[u8; SECTOR]]) -> Result<(), ReadFault> {
+        if self.journal.read_run(first, contents).is_err() {
+            return Err(ReadFault);
+        }
+        Ok(())
+    }
 }

@@ -41,4 +41,12 @@ impl<'a, D: Device> Sectors for ViewStore<'a, D> {
         }
         Ok(content)
     }
+
+    /// Its device reads them in one call, and by themselves those that are not at home.
+    fn read_run(&mut self, first: u32, contents: &mut [[u8; SECTOR]]) -> Result<(), ReadFault> {
+        if self.view.read_run(first, contents).is_err() {
+            return Err(ReadFault);
+        }
+        Ok(())
+    }
 }

@@ -1,3 +1,4 @@
+pub mod Ahead
 pub mod CachedNodes
 pub mod Faults
 pub mod Marking

@@ -2,6 +2,7 @@
 //! it is damaged.
 #![tactic(auto)]
 
+mod ahead;
 mod fault;
 mod laws;
 mod marks;

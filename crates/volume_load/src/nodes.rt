@@ -1,16 +1,17 @@
 //! The sector of a place of the node table.
 
-ghost use Rattle.std.specs.Prelude.{◌≡◌, ◌<◌, ◌+◌, ◌^◌, Option, option_map, IfOk, IsErrOf};
+ghost use Rattle.std.specs.Prelude.{◌≡◌, ◌<◌, Option, option_map, IfOk, OnOk, IsErrOf};
 ghost use Rattle.inode.specs.Fields.{Fields, fields_of};
+ghost use Rattle.volume_load.specs.Ahead.{IsAhead};
 ghost use Rattle.volume_load.specs.Places.{FindsFields};
 ghost use Rattle.layout.specs.CachedNodes.{node_sector};
 ghost use Rattle.layout.specs.Health.{FailsOrStays};
 
+use crate::ahead::Ahead;
 use crate::fault::ScanFault;
-use crate::sectors::{fetch, is_zero_from};
+use crate::sectors::is_zero_from;
 use disk::SECTOR;
 use inode::{Form, Inode};
-use layout::places::NODES;
 use layout::sectors::Sectors;
 use std::alloc::Global;
 
@@ -36,13 +37,17 @@ fn node_in(alloc: Global, form: Form, content: &[u8; SECTOR]) -> Result<Option<I
 pub(crate) fn read_node<S: Sectors>(
     alloc: Global,
     sectors: &mut S,
+    ahead: &mut Ahead,
     place: u32,
     form: Form,
 ) -> Result<Option<Inode>, ScanFault>
-    requires within { NODES + place < S.size (S.kept sectors.old) }
-    requires small { NODES + place < 2 ^ 32 }
+    requires place { place < ahead.old.nodes }
+    requires ahead { IsAhead S.keeps_word (S.image (S.kept sectors.old))
+        (S.size (S.kept sectors.old)) ahead.old.nodes ahead.old }
     ensures found { IfOk result (λ node. FindsFields S.keeps_word form
         (S.image (S.kept sectors.old) (node_sector place)) (option_map fields_of node)) }
+    ensures ahead { OnOk result (IsAhead S.keeps_word (S.image (S.kept sectors.old))
+        (S.size (S.kept sectors.old)) ahead.old.nodes ahead.new) }
     // If it fails
     ensures damaged { S.keeps_word → IsErrOf result ScanFault.Damaged → (fields : Option Fields)
         → ¬ FindsFields S.keeps_word form (S.image (S.kept sectors.old) (node_sector place))
@@ -52,6 +57,6 @@ pub(crate) fn read_node<S: Sectors>(
     ensures health { FailsOrStays (S.health sectors.old) (S.health sectors.new)
         (IsErrOf result ScanFault.Device) }
 {
-    let content = fetch(sectors, NODES + place)?;
+    let content = ahead.fetch(sectors, place)?;
     node_in(alloc, form, &content)
 }

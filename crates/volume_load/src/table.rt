@@ -1,7 +1,7 @@
 //! The cached node of a place, and those of a table.
 
 ghost use Rattle.std.specs.Prelude.{◌≡◌, ◌≤◌, ◌<◌, ◌+◌, ◌/◌, ◌^◌, ℕ, List, Option, Some, length};
-ghost use Rattle.std.specs.Prelude.{replicate, false, IfOk, IsErrOf, None, IsTrue, ◌↔◌};
+ghost use Rattle.std.specs.Prelude.{replicate, false, IfOk, OnOk, IsErrOf, None, IsTrue, ◌↔◌};
 ghost use Rattle.extents.specs.declared.run.Run.{Run};
 ghost use Rattle.inode.specs.Fields.{fields_of, IsInode};
 ghost use Rattle.layout.specs.CachedNodes as layout;
@@ -11,12 +11,14 @@ ghost use Rattle.layout.specs.Marks.{namings_of};
 ghost use Rattle.layout.specs.Stands.{version_by};
 ghost use Rattle.model_tree.specs.Seats.Seats.{no_seats};
 ghost use Rattle.model_tree.specs.Trees.Charge.{divided_up};
+ghost use Rattle.volume_load.specs.Ahead.{IsAhead};
 ghost use Rattle.volume_load.specs.Names.{AreSetWithin};
 ghost use Rattle.volume_load.specs.Marking.{CanMark, AreMarked};
 ghost use Rattle.volume_load.specs.CachedNodes.{uses, FindsBlocks, FindsRest, FindsPlace, IsFound};
 ghost use Rattle.volume_load.specs.CachedNodes.{CanHold};
 ghost use Rattle.volume_load.specs.CachedNodes.{numbers_of};
 
+use crate::ahead::Ahead;
 use crate::fault::ScanFault;
 use crate::marks::{mark_blocks, mark_sectors};
 use crate::names::read_content;
@@ -119,17 +121,22 @@ fn read_cached<S: Sectors>(
 fn read_place<S: Sectors>(
     alloc: Global,
     sectors: &mut S,
+    ahead: &mut Ahead,
     places: &mut Bitmap,
     first: u32,
     place: u32,
     form: Form,
 ) -> Result<Option<BoxedNode>, ScanFault>
-    requires place { NODES + place < first }
+    requires place { place < ahead.old.nodes }
+    requires ahead { IsAhead S.keeps_word (S.image (S.kept sectors.old))
+        (S.size (S.kept sectors.old)) ahead.old.nodes ahead.old }
     requires within { first + length places.old ≤ S.size (S.kept sectors.old) }
     ensures found { IfOk result
         (FindsPlace S.keeps_word form (S.image (S.kept sectors.old)) place) }
     ensures marked { IfOk result (λ cached. AreMarked first places.old places.new
         (λ n. namings_of n cached)) }
+    ensures ahead { OnOk result (IsAhead S.keeps_word (S.image (S.kept sectors.old))
+        (S.size (S.kept sectors.old)) ahead.old.nodes ahead.new) }
     // If it fails
     ensures damaged { S.keeps_word → IsErrOf result ScanFault.Damaged
         → (cached : Option layout.CachedNode)
@@ -140,7 +147,7 @@ fn read_place<S: Sectors>(
     ensures health { FailsOrStays (S.health sectors.old) (S.health sectors.new)
         (IsErrOf result ScanFault.Device) }
 {
-    let Some(inode) = read_node(alloc, sectors, place, form)? else {
+    let Some(inode) = read_node(alloc, sectors, ahead, place, form)? else {
         return Ok(None);
     };
     let cached = read_cached(alloc, sectors, places, first, form, inode)?;
@@ -174,9 +181,18 @@ pub(crate) fn read_table<S: Sectors>(
         (IsErrOf result ScanFault.Device) }
 {
     let mut cached_nodes = Vec::with_capacity(alloc, nodes as usize)?;
+    let mut ahead = Ahead::new(alloc, nodes)?;
     for place in 0..nodes {
         let form = form_at(number, mark, place);
-        let cached = read_place(alloc, sectors, places, NODES + nodes, place, form)?;
+        let cached = read_place(
+            alloc,
+            sectors,
+            &mut ahead,
+            places,
+            NODES + nodes,
+            place,
+            form,
+        )?;
         cached_nodes.push(cached)?;
     }
     Ok(cached_nodes)

@@ -6,6 +6,7 @@ use Rattle.layout.specs.CachedNodes.{CachedNode}
 use Rattle.layout.specs.Marks.{named, namings_of, mark_by}
 use Rattle.layout.specs.Stands.{version_by}
 use Rattle.model_tree.specs.Seats.Seats.{no_seats}
+use Rattle.volume_load.specs.Ahead.{IsAhead}
 use Rattle.volume_load.specs.CachedNodes.{FindsPlace}
 use Rattle.volume_load.specs.Marking.{AreMarked, max_marks}
 use Rattle.volume_load.specs.declared.fault.ScanFault.{ScanFault}
@@ -51,6 +52,8 @@ loop-place-preserved g c =
           (marked_more first c.args.places.now c.loop-place.places c.read_place.new.places (λ n. named n prefix) (λ n. namings_of n cached_node) (λ n. named n (prefix ++ cached_node ∷ [])) (λ n. sym (named-push n prefix cached_node)) inv.marked c.in_ok-cached.ensures.marked);
       long = ap (λ (l : List (Option CachedNode)). length l) pushed ∙ length_push prefix cached_node ∙ ap (λ (n : ℕ). n + 1) inv.long;
       each = subst (λ (l : List (Option CachedNode)). (p : ℕ) → p < place + 1 → FindsPlace g.S.Sectors.keeps_word (form p) image p (get_or l p None)) (sym pushed) (each_more g.S.Sectors.keeps_word form image prefix cached_node place inv.long inv.each found);
+      ahead = subst (λ (nodes : ℕ). IsAhead g.S.Sectors.keeps_word image (g.S.Sectors.size (g.S.Sectors.kept c.args.sectors.now)) nodes c.read_place.new.ahead) inv.ahead.nodes_are
+          (subst (λ kept. IsAhead g.S.Sectors.keeps_word (g.S.Sectors.image kept) (g.S.Sectors.size kept) c.loop-place.ahead.nodes c.read_place.new.ahead) inv.kept c.in_ok-cached.ensures.ahead);
       kept = c.read_place.ensures.kept ∙ inv.kept;
       health = c.in_ok-cached.ensures.health.stays (λ e. cc) ∙ inv.health;
     }
