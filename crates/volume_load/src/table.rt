@@ -151,7 +151,8 @@ fn read_place<S: Sectors>(
         return Ok(None);
     };
     let cached = read_cached(alloc, sectors, places, first, form, inode)?;
-    Ok(Some(BoxedNode::new(alloc, cached)?))
+    let boxed = BoxedNode::new(alloc, cached)?;
+    Ok(Some(boxed))
 }
 
 /// The cached nodes of `nodes` places, in the forms of the version and its mark, and the marks of

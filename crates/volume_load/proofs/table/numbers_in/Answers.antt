@@ -17,8 +17,8 @@ loop-cached-preserved c =
     elim c.match-cached.branch [
       | in-Some+in_ok-push w ↦
           ap (λ (v : Vec ℕ Global). v.items) w.numbers-is ∙ w.in_ok-push.ensures.items
-          ∙ ap (λ (l : List ℕ). l ++ w.cached.inside.inode.number ∷ []) c.loop-cached.invariant
-          ∙ ap (λ (number : ℕ). numbers_of (take i cached_nodes) ++ number ∷ []) (ap (λ (cached_node : CachedNode). cached_node.fields.number) w.cached.view_is)
+          ∙ ap (λ (l : List ℕ). l ++ w.behind-cached.inside.inode.number ∷ []) c.loop-cached.invariant
+          ∙ ap (λ (number : ℕ). numbers_of (take i cached_nodes) ++ number ∷ []) (ap (λ (cached_node : CachedNode). cached_node.fields.number) (w.behind-cached.view_is ∙ w.deref.ensures))
           ∙ grown (Some w.in-Some.cached) w.in-Some.is
       | in_default w ↦
           ap (λ (v : Vec ℕ Global). v.items) w.numbers-is ∙ c.loop-cached.invariant ∙ sym (append-nil (numbers_of (take i cached_nodes))) ∙ grown None w.in_default.is

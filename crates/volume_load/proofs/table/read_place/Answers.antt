@@ -1,10 +1,12 @@
-use Rattle.std.proofs.Common.{Option, option_map, sym, ap, subst}
+use Rattle.std.proofs.Common.{Option, Some, option_map, sym, ap, subst}
 use Rattle.std.specs.Prelude.{Err}
 use Rattle.inode.specs.declared.node.Inode.{Inode}
 use Rattle.inode.specs.Fields.{fields_of}
-use Rattle.layout.specs.CachedNodes.{node_sector}
+use Rattle.layout.specs.CachedNodes.{CachedNode, node_sector}
+use Rattle.layout.specs.Marks.{namings_of}
 use Rattle.volume_load.specs.Places.{FindsFields}
 use Rattle.volume_load.specs.CachedNodes.{FindsRest}
+use Rattle.volume_load.specs.Marking.{AreMarked}
 use Rattle.volume_load.specs.declared.fault.ScanFault.{ScanFault}
 use Rattle.volume_load.proofs.CachedNodeLaws.{fields_there, found_there, none_there, marked_cached}
 use Rattle.volume_load.proofs.CachedNodeLaws.{marked_free}
@@ -30,4 +32,6 @@ returns-in_err-cached-clause-damaged g c = λ word is cached_node found can.
     (subst (λ kept. FindsRest g.S.Sectors.keeps_word (g.S.Sectors.image kept) one) (sym c.in_ok-inode.ensures.kept) rest) marks) cached_node found can
 
 pub returns-clause-marked : goal.returns-clause-marked
-returns-clause-marked g c = marked_cached c.args.first c.args.places.now c.read_cached.new.places c.in_ok-cached.cached c.in_ok-cached.ensures.marked
+returns-clause-marked g c =
+    subst (λ (cached_node : CachedNode). AreMarked c.args.first c.args.places.now c.read_cached.new.places (λ n. namings_of n (Some cached_node))) (sym c.in_ok-boxed.ensures)
+    (marked_cached c.args.first c.args.places.now c.read_cached.new.places c.in_ok-cached.cached c.in_ok-cached.ensures.marked)
