@@ -1,9 +1,11 @@
 -- Transactions that are flushed one by one, at each moment of it.
-use Rattle.std.proofs.Common.{◌≡◌, ◌≤◌, ◌<◌, ◌+◌, ◌*◌, ℕ, zero, suc, List, [], ◌∷◌, ◌++◌, length, take, drop, refl, sym, ap, ◌∙◌, subst, arith, ⊎_elim}
+use Rattle.std.proofs.Common.{◌≡◌, ◌⊎◌, ◌≤◌, ◌<◌, ◌+◌, ◌*◌, ℕ, zero, suc, List, [], ◌∷◌, ◌++◌, length, take, drop, refl, sym, ap, ◌∙◌, subst, arith, ⊎_elim}
 use Rattle.std.proofs.lemmas.Bool.{cases_lt}
 use Rattle.disk.specs.declared.update.Update.{Update}
 use Rattle.disk.specs.Moments.{Image, AddsOnly, applied, moment}
 use Rattle.disk.proofs.MomentLemmas.{AddsOnly-same, AddsOnly-weaken, AddsOnly-join}
+use Rattle.journal.specs.declared.fault.JournalFault.{JournalFault}
+use Rattle.journal.specs.declared.fault.JournalFault.TheVariants as faults
 use Rattle.journal.specs.declared.layout.LogArea.{LogArea}
 use Rattle.journal.specs.Calls.{GoesThroughFirst, IsSafe, HasApplied, flush_cost, list_with}
 use Rattle.journal.specs.Log.{Log, MakesAtMost, StandsForPrefix, applied_all}
@@ -22,6 +24,17 @@ stays_then first then = record { area = then.area ∙ first.area; size = then.si
 -- and its transactions still end at the end of the device
 pub whole_stays : (old new : Log) → StaysInPlace old new → old.area.end ≡ old.size → new.area.end ≡ new.size
 whole_stays old new place whole = ap (λ (area : LogArea). area.end) place.area ∙ whole ∙ sym place.size
+
+-- The only failure of a transaction that is not too long, on a journal that is up
+pub only_fault : (fault : JournalFault) → (fault ≡ faults.TooMany → ⊥) → (fault ≡ faults.Down → ⊥)
+    → (fault ≡ faults.TooMany) ⊎ ((fault ≡ faults.Fault) ⊎ (fault ≡ faults.Down)) → fault ≡ faults.Fault
+only_fault fault short up refuses = ⊎_elim
+    (λ (many : fault ≡ faults.TooMany). absurd (short many))
+    (λ (rest : (fault ≡ faults.Fault) ⊎ (fault ≡ faults.Down)). ⊎_elim
+    (λ (is : fault ≡ faults.Fault). is)
+    (λ (down : fault ≡ faults.Down). absurd (up down))
+    rest)
+    refuses
 
 -- One transaction
 

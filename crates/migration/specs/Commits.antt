@@ -3,14 +3,15 @@ use Rattle.std.specs.Prelude.{◌≤◌, ◌*◌, ℕ, List, length}
 use Rattle.std.specs.List.{AllByRecursion}
 use Rattle.disk.specs.declared.update.Update.{Update}
 use Rattle.disk.specs.Moments.{AddsOnly}
-use Rattle.journal.specs.Layout.{AreTargets, max_updates, targets}
+use Rattle.journal.specs.Layout.{AreTargets, targets}
 use Rattle.journal.specs.Log.{Log, MakesAtMost, StandsForPrefix, applied_all}
 use Rattle.journal.specs.Settled.{AreSame}
 use Rattle.migration.specs.Migrations.{Rests, StaysInPlace, transaction_cost}
 
--- a transaction that a journal accepts, all of it below this end, and a list of them
+-- a transaction that a journal accepts wherever its log is, all of it below this end, and a list of
+-- them
 pub record FitsJournal (end : ℕ) (updates : List Update) : Type 0 where
-  pub few : length updates ≤ max_updates
+  pub few : length updates ≤ 48
   pub fit : AreTargets end (targets updates)
 
 abbrev pub AreTransactions : (end : ℕ) → List (List Update) → Type 0

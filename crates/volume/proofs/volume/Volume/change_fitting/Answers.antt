@@ -10,6 +10,7 @@ use Rattle.journal.specs.Journal.{log_of, journal_failures}
 use Rattle.journal.specs.Layout.{AreTargets, targets}
 use Rattle.journal.specs.declared.layout.LogArea.{LogArea}
 use Rattle.journal.specs.Log.{Log, AnswersByDevice, MakesAtMost, contents}
+use Rattle.journal.proofs.Journals.{takes_enough}
 use Rattle.layout.specs.CachedNodes.{CachedNode}
 use Rattle.layout.specs.Health.{Health}
 use Rattle.layout.specs.declared.versions.Marking.{Marking}
@@ -112,7 +113,7 @@ returns-in_err-apply-clause-volume g c =
     omega (arith, c.requires.change.few, c.in_ok-outcome.ensures.done.count, ap bitmap_sectors c.marking.ensures, few_bitmap volume.version) in
     rw told (apply_refused word volume.version volume.limits volume.run volume.table old new (with_tree (volume_state_by volume.version volume.limits volume.run volume.table old) (edited_by (volume_state_by volume.version volume.limits volume.run volume.table old) c.args.edits.now)) _ _ fault
     (subst (λ (log : Log). IsSafe word log new) same c.in_err-apply.ensures.safe) volume.placed up
-    (λ many. (let bound = (c.in_err-apply.ensures.too_many (ap (λ (log : Log). log.is_down) same ∙ up)).0 (ap (λ x. Err x) many) in omega (arith, bound, short)))
+    (λ many. (let bound = (c.in_err-apply.ensures.too_many (ap (λ (log : Log). log.is_down) same ∙ up)).0 (ap (λ x. Err x) many) in omega (arith, bound, short, takes_enough c.outcome_of.new.base.journal)))
     (subst (λ (log : Log). AnswersByDevice {T = Unit {0}} log new (journal_failures volume.store.journal) (journal_failures c.apply.new.self) (Err fault)) same
     (subst (λ (n : ℕ). AnswersByDevice {T = Unit {0}} mid new n (journal_failures c.apply.new.self) (Err fault)) failed c.in_err-apply.ensures.answers))
     c.in_err-apply.ensures.refuses)

@@ -5,6 +5,7 @@ use Rattle.journal.specs.Journal.{log_of, journal_failures}
 use Rattle.journal.specs.declared.layout.LogArea.{LogArea}
 use Rattle.journal.specs.Layout.{AreTargets, targets}
 use Rattle.journal.specs.Log.{Log, contents}
+use Rattle.journal.proofs.Journals.{takes_enough}
 use Rattle.layout.specs.Stands.{Kept}
 use Rattle.layout.specs.Versions.{data_end_by, limits_by, log_by, size_by}
 use Rattle.model_tree.specs.Seats.SeatEdits.{edited_all, edits_view}
@@ -57,7 +58,7 @@ returns-in_err-apply-clause-volume g c =
     let after : Kept = record { tree = held.tree; seats = edited_all (edits_view c.args.edits.now) held.seats } in
     let few : length c.in_ok-updates.updates.items ≤ 48 = (let most = c.in_ok-updates.ensures.few in omega (arith, most)) in
     rw told (apply_refused g.D.Device.keeps_word volume.version volume.limits volume.run volume.table old new after _ _ fault c.in_err-apply.ensures.safe volume.placed up
-    (λ many. (let bound = (c.in_err-apply.ensures.too_many up).0 (ap (λ x. Err x) many) in omega (arith, bound, few))) c.in_err-apply.ensures.answers c.in_err-apply.ensures.refuses)
+    (λ many. (let bound = (c.in_err-apply.ensures.too_many up).0 (ap (λ x. Err x) many) in omega (arith, bound, few, takes_enough volume.store.journal))) c.in_err-apply.ensures.answers c.in_err-apply.ensures.refuses)
 
 pub returns-in_err-apply-clause-brief : goal.returns-in_err-apply-clause-brief
 unfolding volume_state
@@ -100,7 +101,7 @@ invariant_of-self g c =
       placed = placed_on version new.area old.area new.size old.size did.safe.area did.safe.size volume.placed;
       serves = λ k is_up.
           let has = up_applied g.D.Device.keeps_word old new _ _ _ c.apply.result did.ok did.answers did.refuses
-          (λ many. (let bound = (did.too_many up).0 many in omega (arith, bound, few))) is_up in
+          (λ many. (let bound = (did.too_many up).0 many in omega (arith, bound, few, takes_enough volume.store.journal))) is_up in
           applied_serves g.D.Device.keeps_word version volume.limits volume.run volume.table volume.table old new updates after 0 0 did.safe volume.placed (omega arith) is_up has
           (λ kept. volume.serves kept up)
           (λ kept. seats_behind version volume.served nodes volume.run old volume.table edits updates c.in_ok-updates.ensures (c.requires kept) (volume.serves kept up)) k;
