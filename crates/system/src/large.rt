@@ -5,8 +5,9 @@ ghost use Rattle.std.specs.Prelude.{◌≡◌, ◌<◌, ◌-◌, ◌/◌, ◌^�
 use crate::number::decimal;
 use crate::refused::Refused;
 use crate::volume_file::open_refusal;
-use disk::{FileDevice, SECTOR};
+use disk::{Device, FileDevice, SECTOR};
 use geometry::{Geometry, MAX_FILE_BYTES, MAX_LOG, MAX_NAMES, SEATS, SLOTS, Superblock};
+use std::alloc::Global;
 use std::fs::File;
 use std::io::{Read, Write};
 use std::rt::Files;
@@ -116,13 +117,12 @@ where
     R: Files<File = File> + AllocGlobal,
     O: Write,
 {
-    let geometry = size.geometry();
-    if !geometry.fits() {
+    if !size.geometry().fits() {
         return Err(Refused::Size);
     }
     let identity = identity(rt)?;
-    let mut device = FileDevice::create(rt, rt.alloc(), file, geometry.sectors)?;
-    format_large(rt.alloc(), &mut device, &Superblock { geometry, identity })?;
+    let mut device = FileDevice::create(rt, rt.alloc(), file, size.sectors)?;
+    format_large_device(rt.alloc(), &mut device, size, identity)?;
     Ok(writeln!(
         out,
         "formatted: layout 3, {} sectors, {} nodes, a log of {} sectors; at most {} MiB of memory",
@@ -131,6 +131,20 @@ where
         size.log,
         size.memory()
     )?)
+}
+
+/// Makes a device a new volume of version 3 of this size and identity.
+///
+/// # Errors
+/// Size if no volume on the device has this size; Device; Memory.
+pub fn format_large_device<D: Device>(
+    alloc: Global,
+    device: &mut D,
+    size: LargeSize,
+    identity: [u8; 16],
+) -> Result<(), Refused> {
+    let geometry = size.geometry();
+    Ok(format_large(alloc, device, &Superblock { geometry, identity })?)
 }
 
 /// Random bytes.

@@ -15,7 +15,7 @@ mod volume_file;
 
 pub use beginning::{Begun, Unbegun, begin};
 pub use identity::identity_of;
-pub use large::{LargeSize, format_large_file, sectors_in};
+pub use large::{LargeSize, format_large_device, format_large_file, sectors_in};
 pub use machine::Machine;
 pub use number::decimal;
 pub use outcome::{tell_outcome, tell_usage};

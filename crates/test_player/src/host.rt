@@ -3,10 +3,17 @@
 
 use crate::device::{RowDevice, Uncounted};
 use crate::refusal::refusal;
+use disk::Device;
 use server::{Holding, MountFault, Server, Settings, Unmounted};
 use std::alloc::{AllocError, Global};
-use system::standard_settings;
-use test_rows::{Choices, Host, Refusal, TrialDevice, Turn};
+use system::{LargeSize, Refused, format_large_device, standard_settings};
+use test_rows::{Choices, Host, Layout, Refusal, TrialDevice, Turn};
+
+/// The sectors of the log of a volume of version 3.
+const LOG: u32 = 288;
+
+/// The identity of such a volume.
+const IDENTITY: [u8; 16] = *b"0123456789abcdef";
 
 /// The moment of every turn.
 const NOW: u64 = 5;
@@ -21,13 +28,18 @@ impl Host for Mounted {
     fn format(
         alloc: Global,
         device: TrialDevice,
+        layout: Layout,
         nodes: u32,
     ) -> Result<TrialDevice, test_rows::Unmounted> {
         let mut device = Uncounted { inner: device };
-        match Server::format(alloc, &mut device, nodes) {
+        let formatted = match layout {
+            Layout::Small => format_small(alloc, &mut device, nodes),
+            Layout::Large => format_large(alloc, &mut device, nodes),
+        };
+        match formatted {
             Ok(()) => Ok(device.inner),
             Err(fault) => Err(test_rows::Unmounted {
-                fault: refusal(fault.into()),
+                fault: refusal(fault),
                 device: device.inner,
             }),
         }
@@ -107,6 +119,20 @@ impl Host for Mounted {
             Err(fault) => Err(refusal(fault.into())),
         }
     }
+}
+
+fn format_small(alloc: Global, device: &mut RowDevice, nodes: u32) -> Result<(), Refused> {
+    Ok(Server::format(alloc, device, nodes)?)
+}
+
+/// With the shortest log.
+fn format_large(alloc: Global, device: &mut RowDevice, nodes: u32) -> Result<(), Refused> {
+    let size = LargeSize {
+        log: LOG,
+        nodes,
+        ..LargeSize::of_sectors(device.sectors())
+    };
+    format_large_device(alloc, device, size, IDENTITY)
 }
 
 /// Mounts a device under the standard name.

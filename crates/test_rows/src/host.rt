@@ -2,14 +2,20 @@
 
 use crate::answer::Turn;
 use crate::refusal::Refusal;
-use crate::rows::Choices;
+use crate::rows::{Choices, Layout};
 use crate::trials::TrialDevice;
 use std::alloc::Global;
 
 /// A server of the volume on a device.
 pub trait Host: Sized + Drop {
-    /// Makes a device a new volume with this number of nodes. It comes back if that is refused.
-    fn format(alloc: Global, device: TrialDevice, nodes: u32) -> Result<TrialDevice, Unmounted>;
+    /// Makes a device a new volume of this layout with this number of nodes. It comes back if that is
+    /// refused.
+    fn format(
+        alloc: Global,
+        device: TrialDevice,
+        layout: Layout,
+        nodes: u32,
+    ) -> Result<TrialDevice, Unmounted>;
 
     /// Mounts a device. It comes back if that is refused.
     fn mount(alloc: Global, device: TrialDevice, choices: Choices) -> Result<Self, Unmounted>;

@@ -25,6 +25,6 @@ pub use fault::{Fault, Misread};
 pub use host::{Host, Unmounted};
 pub use player::{Patience, Place, play_row};
 pub use refusal::Refusal;
-pub use rows::{Choices, Row, Sheet};
+pub use rows::{Choices, Layout, Row, Sheet};
 pub use sockets::Loop;
 pub use trials::{Tally, TrialDevice, crash};

@@ -4,15 +4,13 @@ use crate::difference::{Difference, Differs, placed};
 use crate::direct::Direct;
 use crate::host::{Host, Unmounted};
 use crate::refusal::Refusal;
-use crate::rows::{Row, Step};
+use crate::rows::{Layout, Row, Step};
 use crate::sockets::{Loop, Sockets};
 use crate::trials::{TrialDevice, lasting};
 use disk::MemDevice;
 use std::alloc::Global;
 
-/// The volume in memory.
-const SECTORS: u32 = 256;
-
+/// The nodes of a volume.
 const NODES: u32 = 16;
 
 /// How many connections a row begins with.
@@ -114,7 +112,7 @@ fn play_on<H: Host, S: Stage>(
     arrival: Arrival,
 ) -> Result<u32, Differs> {
     let mut line = 0;
-    let mut stage = placed(line, begin::<H, S>(rt, arrival))?;
+    let mut stage = placed(line, begin::<H, S>(rt, row.layout, arrival))?;
     for step in row.steps.iter() {
         line = step.line;
         stage = placed(line, stage.take(rt, &step.step))?;
@@ -122,14 +120,23 @@ fn play_on<H: Host, S: Stage>(
     placed(line, stage.end())
 }
 
-fn begin<H: Host, S: Stage>(rt: &HostRuntime, arrival: Arrival) -> Result<S, Difference> {
-    S::begin(rt, new_volume::<H>(rt.alloc(), arrival.patience)?, arrival)
+fn begin<H: Host, S: Stage>(
+    rt: &HostRuntime,
+    layout: Layout,
+    arrival: Arrival,
+) -> Result<S, Difference> {
+    let volume = new_volume::<H>(rt.alloc(), layout, arrival.patience)?;
+    S::begin(rt, volume, arrival)
 }
 
-/// A new volume.
-pub fn new_volume<H: Host>(alloc: Global, patience: Patience) -> Result<TrialDevice, Difference> {
-    let device = lasting(alloc, MemDevice::new(alloc, SECTORS)?);
-    match format::<H>(alloc, device, patience) {
+/// A new volume in memory.
+pub fn new_volume<H: Host>(
+    alloc: Global,
+    layout: Layout,
+    patience: Patience,
+) -> Result<TrialDevice, Difference> {
+    let device = lasting(alloc, MemDevice::new(alloc, layout.sectors())?);
+    match format::<H>(alloc, device, layout, patience) {
         Ok(device) => Ok(device),
         Err(unmounted) => Err(Difference::Format(unmounted.fault)),
     }
@@ -138,11 +145,12 @@ pub fn new_volume<H: Host>(alloc: Global, patience: Patience) -> Result<TrialDev
 fn format<H: Host>(
     alloc: Global,
     device: TrialDevice,
+    layout: Layout,
     patience: Patience,
 ) -> Result<TrialDevice, Unmounted> {
-    match H::format(alloc, device, NODES) {
+    match H::format(alloc, device, layout, NODES) {
         Err(unmounted) if comes_again(unmounted.fault, patience) => {
-            H::format(alloc, unmounted.device, NODES)
+            H::format(alloc, unmounted.device, layout, NODES)
         }
         formatted => formatted,
     }

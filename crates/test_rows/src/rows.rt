@@ -13,6 +13,6 @@ mod step;
 pub use aftermath::{Aftermath, Left, Look, Mark, Sequel};
 pub use call::{Call, in_order};
 pub use choices::Choices;
-pub use row::{Placed, Row};
+pub use row::{Layout, Placed, Row};
 pub use sheet::Sheet;
 pub use step::Step;

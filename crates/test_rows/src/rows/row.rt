@@ -12,6 +12,8 @@ use std::alloc::Global;
 pub struct Row<'a> {
     pub name: &'a str,
     pub(crate) steps: Vec<Placed>,
+    /// The layout of its volume.
+    pub(crate) layout: Layout,
     /// Whether it needs each change to be kept in its turn.
     pub(crate) unshared: bool,
     /// How many of the steps are `tries`.
@@ -20,6 +22,25 @@ pub struct Row<'a> {
     pub(crate) orders: usize,
     /// What a crash may leave.
     pub(crate) aftermath: Aftermath,
+}
+
+/// The layout of a volume.
+#[derive(Clone, Copy)]
+pub enum Layout {
+    /// Of version 2.
+    Small,
+    /// Of version 3.
+    Large,
+}
+
+impl Layout {
+    /// How many sectors the volume of a row has.
+    pub fn sectors(self) -> u32 {
+        match self {
+            Layout::Small => 256,
+            Layout::Large => 600,
+        }
+    }
 }
 
 /// A step, and its line.
@@ -35,6 +56,7 @@ impl<'a> Row<'a> {
         Row {
             name,
             steps: Vec::new(alloc),
+            layout: Layout::Small,
             unshared: false,
             tried: 0,
             orders: 1,

@@ -5,7 +5,7 @@ use super::call::Call;
 use super::choices::Choices;
 use super::cuts::add_cuts;
 use super::records::{Filling, Records, read_words};
-use super::row::Row;
+use super::row::{Layout, Row};
 use crate::fault::Fault;
 use crate::number::{decimal, hexadecimal};
 use crate::player::Place;
@@ -128,6 +128,10 @@ pub fn add_steps(
         "meets" => row.meet(alloc, line, call_of(alloc, records, words, None)?),
         "looks" => add_look(alloc, records, words, &mut row.aftermath),
         "goes" => add_sequel(alloc, records, words, &mut row.aftermath),
+        "large" => {
+            row.layout = Layout::Large;
+            Ok(())
+        }
         "unshared" => {
             row.unshared = true;
             Ok(())

@@ -19,7 +19,7 @@ use std::alloc::Global;
 /// Has the device of a row crash and fail as the row says.
 pub fn crash<H: Host>(alloc: Global, row: &Row<'_>) -> Result<Tally, Differs> {
     expect_one_mount(row)?;
-    let volume = placed(0, new_volume::<H>(alloc, Patience::None))?;
+    let volume = placed(0, new_volume::<H>(alloc, row.layout, Patience::None))?;
     let mut trial = Trial::new(alloc, row, disk_of(volume));
     trial.go::<H>()?;
     Ok(trial.tally)
