@@ -1,7 +1,7 @@
 #!/usr/bin/env python3
-"""Drives `nfs41d` and nfs-ganesha in turns, each by 1, 4 and 16 processes at once, and prints how
-many requests a second all of them make, the 50th and the 99th percentile of their times, and how
-often `nfs41d` syncs its volume for one.
+"""Drives `nfs41d`, on a volume of layout 2 and on one of layout 3, and nfs-ganesha in turns, each by
+1, 4 and 16 processes at once, and prints how many requests a second all of them make, the 50th and
+the 99th percentile of their times, and how often `nfs41d` syncs its volume for one.
 
     scripts/many_side_by_side.py [ROUNDS] [SECONDS] [FOLDER]
 
@@ -29,7 +29,7 @@ import side_by_side
 OPERATIONS = "null getattr read write_unstable write_sync mkdir_rmdir".split()
 PROCESSES = (1, 4, 16)
 DAEMON = os.environ.get("NFS41D") or side_by_side.TOP / "crates/nfs41d/out/nfs41d"
-DAEMON_NAME = "nfs41d"
+DAEMON_NAME = "nfs41d, layout "
 ALONE = "nfs41 serve"
 OTHER = "nfs-ganesha"
 
@@ -38,9 +38,11 @@ SYNCS = re.compile(r'nfs41_device_calls_total{call="sync"} (\d+)')
 Figures = collections.namedtuple("Figures", "rate half most syncs")
 
 
-def start_nfs41d(folder):
+def start_nfs41d(folder, layout):
     """Returns the process, its port, and where it serves metrics."""
-    volume = side_by_side.format_volume(folder, "nfs41d")
+    volume = f"{folder}/layout{layout}.img"
+    size = ["65536", "16000"] if layout == 2 else ["256M"]
+    subprocess.run([DAEMON, "format", volume, *size], check=True, stdout=subprocess.DEVNULL)
     metrics = f"127.0.0.1:{side_by_side.free_port()}"
     words = [DAEMON, volume, "127.0.0.1:0", "--quiet", "--metrics", metrics]
     return *side_by_side.start_serving(words), f"http://{metrics}/metrics"
@@ -109,7 +111,7 @@ def tell(count, figures):
         }
         for name, (rate, half, most, syncs) in medians.items():
             ratio = rate / medians[OTHER].rate
-            counted = f"{syncs:.2f}" if name == DAEMON_NAME else ""
+            counted = f"{syncs:.2f}" if name.startswith(DAEMON_NAME) else ""
             print(f"| {count} | `{operation}` | {name} | {rate:.0f} ({ratio:.2f})", end="")
             print(f" | {half:.1f} | {most:.1f} | {counted} |")
 
@@ -119,7 +121,7 @@ def compare(where, rounds, seconds):
     folder = tempfile.mkdtemp(dir=where)
     load = side_by_side.build_load(folder)
     servers = {
-        DAEMON_NAME: start_nfs41d(folder),
+        **{f"{DAEMON_NAME}{layout}": start_nfs41d(folder, layout) for layout in (2, 3)},
         ALONE: side_by_side.start_nfs41(folder, rounds),
         OTHER: side_by_side.start_ganesha(folder),
     }
