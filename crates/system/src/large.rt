@@ -23,8 +23,15 @@ const MOST_BY_DEFAULT: u32 = 1_048_576;
 
 const FEWEST_BY_DEFAULT: u32 = 16;
 
-/// At most what a node takes in memory, when a mount reads it.
-const BYTES_PER_NODE: u64 = 1_024;
+/// What a node with its name takes in memory while a mount reads it, if its access control list is
+/// short: 1,125 bytes were measured.
+const BYTES_PER_NODE: u64 = 1_200;
+
+/// What each sector of a file or a directory takes.
+const BYTES_PER_BLOCK: u64 = 8;
+
+/// A mount has two bits for each sector.
+const SECTORS_PER_BYTE: u64 = 4;
 
 /// One sector more than a volume can have: those of 16 TiB.
 const ONE_MORE: u64 = 1 << 32;
@@ -69,11 +76,13 @@ impl LargeSize {
         }
     }
 
-    /// At most how many MiB a server takes for a volume with all its nodes: for the nodes, and a bit
-    /// for each sector.
-    fn memory(self) -> u64 {
-        let bytes = u64::from(self.nodes) * BYTES_PER_NODE + u64::from(self.sectors) / 8;
-        bytes.div_ceil(1 << 20)
+    /// How many MiB a server takes for a volume, if it has all its nodes: while it is empty of data,
+    /// and once it is full.
+    fn memory(self) -> (u64, u64) {
+        let sectors = u64::from(self.sectors);
+        let nodes = u64::from(self.nodes) * BYTES_PER_NODE + sectors / SECTORS_PER_BYTE;
+        let full = nodes + sectors * BYTES_PER_BLOCK;
+        (nodes.div_ceil(1 << 20), full.div_ceil(1 << 20))
     }
 }
 
@@ -123,13 +132,12 @@ where
     let identity = identity(rt)?;
     let mut device = FileDevice::create(rt, rt.alloc(), file, size.sectors)?;
     format_large_device(rt.alloc(), &mut device, size, identity)?;
+    let (nodes, full) = size.memory();
     Ok(writeln!(
         out,
-        "formatted: layout 3, {} sectors, {} nodes, a log of {} sectors; at most {} MiB of memory",
-        size.sectors,
-        size.nodes,
-        size.log,
-        size.memory()
+        "formatted: layout 3, {} sectors, {} nodes, a log of {} sectors; {nodes} MiB of memory for all \
+         nodes, {full} MiB once it is full",
+        size.sectors, size.nodes, size.log,
     )?)
 }
 
