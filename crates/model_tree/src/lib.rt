@@ -10,6 +10,7 @@ pub mod acl_laws;
 pub mod limits;
 pub mod maps;
 pub mod node;
+pub mod seat_edits;
 pub mod seats;
 pub mod stamps;
 pub mod status;

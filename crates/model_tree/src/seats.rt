@@ -2,9 +2,6 @@
 
 ghost use Rattle.std.specs.Prelude.{◌≡◌, ◌≤◌, ◌<◌, ◌^◌, length};
 
-/// How many places a volume has for seats.
-pub const SEATS: usize = 5;
-
 /// The most bytes that the result in a seat has.
 pub const MAX_HELD_RESULT: usize = 16_360;
 
@@ -37,14 +34,14 @@ pub struct Seat {
     ghost principal_fits: { principal < 2 ^ 32 },
     ghost owned: { length owner.items ≤ 1024 },
     ghost some: { 1 ≤ length slots.items },
-    ghost few: { length slots.items ≤ 2 },
+    ghost few: { length slots.items ≤ 8 },
 }
 
 /// The places for seats, of which any may be free.
 #[derive(Drop)]
 pub struct Seats {
     pub places: Vec<Option<Seat>>,
-    ghost five: { length places.items ≡ 5 },
+    ghost few: { length places.items ≤ 64 },
 }
 
 /// What becomes of a place.
@@ -58,11 +55,4 @@ pub enum SeatEdit {
     Takes(Seat),
     /// The seat in it holds this reply for a slot.
     Holds { slot: usize, held: HeldReply },
-}
-
-/// What becomes of the places: one edit for each.
-#[derive(Drop)]
-pub struct SeatEdits {
-    pub list: Vec<SeatEdit>,
-    ghost five: { length list.items ≡ 5 },
 }

@@ -1,9 +1,9 @@
 -- Edits of seats: what changes when a session is made or ends, and when a reply is held.
-use Rattle.std.specs.Prelude.{◌<◌, ℕ, Bool, true, false, ◌&&◌, List, [], ◌∷◌, length, map, Option, None, Some}
+use Rattle.std.specs.Prelude.{◌≤◌, ◌<◌, ℕ, Bool, true, false, ◌&&◌, List, [], ◌∷◌, length, map, Option, None, Some}
 use Rattle.std.specs.Option.{option_map}
 use Rattle.model_tree.specs.Seats.Seats.{HeldReply, Seat, Seats, AreOfRuns, with_held}
 use Rattle.model_tree.specs.Seats.SeatViews.{held_view, seat_view}
-use Rattle.model_tree.specs.declared.seats.SeatEdits as code
+use Rattle.model_tree.specs.declared.seat_edits.SeatEdits as code
 use Rattle.model_tree.specs.declared.seats.SeatEdit as code_edit
 use Rattle.model_tree.specs.declared.seats.SeatEdit.TheVariants as kinds
 
@@ -31,16 +31,18 @@ abbrev pub HasSlot : (slot : ℕ) → Option Seat → Type 0
 HasSlot slot None = ⊥
 HasSlot slot (Some seat) = slot < length seat.slots
 
-abbrev pub CanEdit : SeatEdit → Option Seat → Type 0
-CanEdit Stays place = Unit {0}
-CanEdit Frees place = Unit {0}
-CanEdit (Takes seat) place = Unit {0}
-CanEdit (Holds slot held) place = HasSlot slot place
+-- and a seat has at most as many slots as a place has room for
+abbrev pub CanEdit : (slots : ℕ) → SeatEdit → Option Seat → Type 0
+CanEdit slots Stays place = Unit {0}
+CanEdit slots Frees place = Unit {0}
+CanEdit slots (Takes seat) place = length seat.slots ≤ slots
+CanEdit slots (Holds slot held) place = HasSlot slot place
 
-abbrev pub CanEditAll : List SeatEdit → Seats → Type 0
-CanEditAll [] seats = Unit {0}
-CanEditAll (edit ∷ edits) [] = ⊥
-CanEditAll (edit ∷ edits) (place ∷ seats) = CanEdit edit place × CanEditAll edits seats
+abbrev pub CanEditAll : (slots : ℕ) → List SeatEdit → Seats → Type 0
+CanEditAll slots [] seats = Unit {0}
+CanEditAll slots (edit ∷ edits) [] = ⊥
+CanEditAll slots (edit ∷ edits) (place ∷ seats) =
+    CanEdit slots edit place × CanEditAll slots edits seats
 
 -- nothing changes
 abbrev pub stays : SeatEdit → Bool
@@ -53,9 +55,10 @@ abbrev pub all_stay : List SeatEdit → Bool
 all_stay [] = true
 all_stay (edit ∷ edits) = stays edit && all_stay edits
 
--- edits that can be done in a volume that was mounted `run` times
-pub record AreEdits (run : ℕ) (edits : List SeatEdit) (seats : Seats) : Type 0 where
-  pub can : CanEditAll edits seats
+-- edits that can be done in a volume that was mounted `run` times, and whose places have room for
+-- `slots` slots each
+pub record AreEdits (run slots : ℕ) (edits : List SeatEdit) (seats : Seats) : Type 0 where
+  pub can : CanEditAll slots edits seats
   pub of_runs : AreOfRuns run (edited_all edits seats)
 
 -- What the code's edits represent

@@ -22,7 +22,7 @@ pub record Seat : Type 0 where
 abbrev pub Seats : Type 0
 Seats = List (Option Seat)
 
--- the five places of a volume that keeps no session
+-- the five places of a volume of layout version 1 or 2 that keeps no session
 abbrev pub no_seats : Seats
 no_seats = None ∷ None ∷ None ∷ None ∷ None ∷ []
 
