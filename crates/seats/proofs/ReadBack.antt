@@ -1,17 +1,20 @@
 -- What is read from the sectors of seats is what was encoded there.
-use Rattle.std.proofs.Common.{◌≡◌, ◌≤◌, ◌<◌, ◌+◌, ◌-◌, ◌*◌, ◌/◌, ◌%◌, ℕ, zero, suc, Bool, true, false, ◌==◌, if◌then◌else◌, List, [], ◌∷◌, ◌++◌, Option, Some, None, length, get_or, take, drop, replicate, refl, ap, ap₂, ◌∙◌, arith, eq-eqb}
-use Rattle.std.specs.Prelude.{IsTrue, slice_index, Result, Err}
+use Rattle.std.proofs.Common.{◌≡◌, ◌≤◌, ◌+◌, ◌-◌, ◌*◌, ℕ, zero, suc, Bool, true, false, ◌==◌, if◌then◌else◌, List, [], ◌∷◌, ◌++◌, Option, Some, None, length, get_or, take, drop, replicate, refl, sym, ap, ◌∙◌, arith, eq-eqb}
+use Rattle.std.specs.Prelude.{slice_index, Result, Err}
 use Rattle.std.specs.Int.{w32, from_be_bytes}
 use Rattle.std.specs.List.{AllByRecursion}
 use Rattle.std.proofs.lemmas.Bool.{ne_eqb}
 use Rattle.std.proofs.lemmas.List.{take_at}
+use Rattle.std.proofs.lemmas.List.FromFn.{fill_by_all}
 use Rattle.std.proofs.lemmas.Nat.{from_be_bytes-to_be_bytes_4}
 use Rattle.model_tree.specs.Seats.Seats.{HeldReply, Seat, Seats}
 use Rattle.seats.specs.declared.fault.SeatFault.{SeatFault}
-use Rattle.seats.specs.Encoding.{AreSectorsOf, ArePlaces, HoldPlace, IsHeld, IsSeatPlace, IsSeat, IsSlot, held_prefix, is_determined, seat_sector, seats_sector, slot_text}
+use Rattle.seats.specs.Encoding.{AreSectorsOf, HoldPlace, IsHeld, IsSeatPlace, IsSeat, IsSlot, held_prefix, is_determined, slot_at, slot_text}
 use Rattle.seats.specs.Reading.{SeatsReadBack, held_in, seat_from, seat_in, seats_in, slot_in, slots_in, taken_from, text_from}
+use Rattle.seats.specs.Sizes.{place_sectors}
 use Rattle.seats.proofs.Parts.{body_of, text_apart, free_sector}
-use Rattle.seats.proofs.Sectors.{number_zero, mark_there, session_there, principal_there, count_there, owner_there, head_there, first_there, second_there}
+use Rattle.seats.proofs.Places.{place_held}
+use Rattle.seats.proofs.Sectors.{number_zero, mark_there, session_there, principal_there, count_there, owner_there, head_there, slot_at_is, slot_there}
 
 -- Slots
 
@@ -56,14 +59,12 @@ length_fits (Some held) is =
     ap (λ (text : List ℕ). from_be_bytes w32 (drop 12 text)) (text_apart held) ∙ from_be_bytes-to_be_bytes_4 (length held.result) (omega (arith, is.result)) in
     omega (arith, is.result)
 
-slots-back : (slots : List (Option HeldReply)) (first second : List ℕ) → 1 ≤ length slots → length slots ≤ 2 → AllByRecursion IsSlot slots
-    → first ≡ slot_text (get_or slots 0 None) → second ≡ slot_text (get_or slots 1 None)
-    → (if length slots == 2 then slot_in first ∷ slot_in second ∷ [] else slot_in first ∷ []) ≡ slots
-slots-back [] first second some few all a b = absurd (omega arith)
-slots-back (x ∷ []) first second some few all a b = ap (λ (s : Option HeldReply). s ∷ []) (ap slot_in a ∙ slot-back x all.0)
-slots-back (x ∷ y ∷ []) first second some few all a b =
-    ap₂ (λ (s t : Option HeldReply). s ∷ t ∷ []) (ap slot_in a ∙ slot-back x all.0) (ap slot_in b ∙ slot-back y all.1.0)
-slots-back (x ∷ y ∷ z ∷ slots) first second some few all a b = absurd (omega arith)
+slots-back : (room : ℕ) (seat : Seat) (is : IsSeat room seat) (sectors : ℕ → List ℕ) → AreSectorsOf room sectors (Some seat) → slots_in (length seat.slots) sectors ≡ seat.slots
+slots-back room seat is sectors encoded =
+    sym (fill_by_all (λ (slot : ℕ). slot_in (text_from sectors (1 + 4 * slot))) seat.slots (length seat.slots) None refl
+    (λ slot low.
+    sym (ap slot_in (slot_there room seat is sectors encoded slot (omega (arith, low, is.few)))
+    ∙ slot-back (slot_at slot seat) (slot_at_is room seat is sectors encoded slot))))
 
 -- Places
 
@@ -71,16 +72,15 @@ pub same_seat : (session owner : List ℕ) (principal : ℕ) (slots : List (Opti
     → (let made : Seat = record { session = session; owner = owner; principal = principal; slots = slots } in made ≡ seat)
 same_seat session owner principal slots seat a b c d = rw (a, b, c, d) refl
 
-taken-back : (seat : Seat) (sectors : ℕ → List ℕ) → IsSeat seat → AreSectorsOf sectors (Some seat) → taken_from sectors ≡ seat
-taken-back seat sectors is encoded =
-    let head = head_there seat is sectors encoded in
-    let count : from_be_bytes w32 (drop 24 (sectors 0)) ≡ length seat.slots = ap (λ (h : List ℕ). from_be_bytes w32 (drop 24 h)) head ∙ count_there seat is in
+taken-back : (room : ℕ) (seat : Seat) (sectors : ℕ → List ℕ) → room ≤ 8 → IsSeat room seat → AreSectorsOf room sectors (Some seat) → taken_from sectors ≡ seat
+taken-back room seat sectors few is encoded =
+    let head = head_there room seat is sectors encoded in
+    let count : from_be_bytes w32 (drop 24 (sectors 0)) ≡ length seat.slots = ap (λ (h : List ℕ). from_be_bytes w32 (drop 24 h)) head ∙ count_there room few seat is in
     same_seat (take 16 (drop 4 (sectors 0))) (take (from_be_bytes w32 (drop 28 (sectors 0))) (drop 32 (sectors 0))) (from_be_bytes w32 (drop 20 (sectors 0))) (slots_in (from_be_bytes w32 (drop 24 (sectors 0))) sectors) seat
-    (ap (λ (h : List ℕ). take 16 (drop 4 h)) head ∙ session_there seat is)
-    (ap (λ (h : List ℕ). take (from_be_bytes w32 (drop 28 h)) (drop 32 h)) head ∙ owner_there seat is)
-    (ap (λ (h : List ℕ). from_be_bytes w32 (drop 20 h)) head ∙ principal_there seat is)
-    (ap (λ (n : ℕ). slots_in n sectors) count
-    ∙ slots-back seat.slots (text_from sectors 1) (text_from sectors 5) is.some is.few is.slots (first_there seat is sectors encoded) (second_there seat is sectors encoded))
+    (ap (λ (h : List ℕ). take 16 (drop 4 h)) head ∙ session_there room few seat is)
+    (ap (λ (h : List ℕ). take (from_be_bytes w32 (drop 28 h)) (drop 32 h)) head ∙ owner_there room few seat is)
+    (ap (λ (h : List ℕ). from_be_bytes w32 (drop 20 h)) head ∙ principal_there room few seat is)
+    (ap (λ (n : ℕ). slots_in n sectors) count ∙ slots-back room seat is sectors encoded)
 
 pub place_none : (sectors : ℕ → List ℕ) → (slice_index (sectors 0) 0 ≡ 83 → ⊥) → seat_in sectors ≡ None
 unfolding seat_in
@@ -95,8 +95,8 @@ place_some sectors e =
     ap (λ (b : Bool). if b then Some (taken_from sectors) else None) same
 
 -- the sectors of a taken place are all determined
-pub all_taken : (whole : Bool) (seat : Seat) (sectors : ℕ → List ℕ) → HoldPlace whole sectors (Some seat) → AreSectorsOf sectors (Some seat)
-all_taken whole seat sectors encoded k few = encoded k few refl
+pub all_taken : (room : ℕ) (whole : Bool) (seat : Seat) (sectors : ℕ → List ℕ) → HoldPlace room whole sectors (Some seat) → AreSectorsOf room sectors (Some seat)
+all_taken room whole seat sectors encoded k few = encoded k few refl
 
 -- the first sector of a place is
 first_determined : (whole : Bool) (place : Option Seat) → is_determined whole 0 place ≡ true
@@ -105,57 +105,39 @@ first_determined false None = refl
 first_determined whole (Some seat) = refl
 
 -- the sectors of a free place begin with no S
-pub no_mark : (whole : Bool) (sectors : ℕ → List ℕ) → HoldPlace whole sectors None → slice_index (sectors 0) 0 ≡ 83 → ⊥
-no_mark whole sectors encoded e =
+pub no_mark : (room : ℕ) (whole : Bool) (sectors : ℕ → List ℕ) → HoldPlace room whole sectors None → slice_index (sectors 0) 0 ≡ 83 → ⊥
+no_mark room whole sectors encoded e =
     let zeros : sectors 0 ≡ replicate 4096 0 = encoded 0 (omega arith) (first_determined whole None) ∙ free_sector 0 in
     let none : slice_index (sectors 0) 0 ≡ 0 = ap (λ (s : List ℕ). slice_index s 0) zeros in
     absurd (omega arith)
 
-pub place-back : (whole : Bool) (place : Option Seat) (sectors : ℕ → List ℕ) → IsSeatPlace place → HoldPlace whole sectors place → seat_in sectors ≡ place
-place-back whole None sectors is encoded = place_none sectors (no_mark whole sectors encoded)
-place-back whole (Some seat) sectors is encoded =
-    let all = all_taken whole seat sectors encoded in
-    let mark : slice_index (sectors 0) 0 ≡ 83 = ap (λ (h : List ℕ). slice_index h 0) (head_there seat is sectors all) ∙ mark_there seat is in
-    place_some sectors mark ∙ ap (λ (s : Seat). Some s) (taken-back seat sectors is all)
+pub place-back : (room : ℕ) (whole : Bool) (place : Option Seat) (sectors : ℕ → List ℕ) → room ≤ 8 → IsSeatPlace room place → HoldPlace room whole sectors place → seat_in sectors ≡ place
+place-back room whole None sectors few is encoded = place_none sectors (no_mark room whole sectors encoded)
+place-back room whole (Some seat) sectors few is encoded =
+    let all = all_taken room whole seat sectors encoded in
+    let mark : slice_index (sectors 0) 0 ≡ 83 = ap (λ (h : List ℕ). slice_index h 0) (head_there room seat is sectors all) ∙ mark_there room few seat is in
+    place_some sectors mark ∙ ap (λ (s : Seat). Some s) (taken-back room seat sectors few is all)
 
 -- if no seat has these sectors, no place has them
-pub no_place : (sectors : ℕ → List ℕ) → slice_index (sectors 0) 0 ≡ 83 → ((seat : Seat) → IsSeat seat → AreSectorsOf sectors (Some seat) → ⊥)
-    → (whole : Bool) (place : Option Seat) → IsSeatPlace place → HoldPlace whole sectors place → ⊥
-no_place sectors mark none whole None is encoded = no_mark whole sectors encoded mark
-no_place sectors mark none whole (Some seat) is encoded = none seat is (all_taken whole seat sectors encoded)
+pub no_place : (room : ℕ) (sectors : ℕ → List ℕ) → slice_index (sectors 0) 0 ≡ 83 → ((seat : Seat) → IsSeat room seat → AreSectorsOf room sectors (Some seat) → ⊥)
+    → (whole : Bool) (place : Option Seat) → IsSeatPlace room place → HoldPlace room whole sectors place → ⊥
+no_place room sectors mark none whole None is encoded = no_mark room whole sectors encoded mark
+no_place room sectors mark none whole (Some seat) is encoded = none seat is (all_taken room whole seat sectors encoded)
 
 -- All places
 
-five-back : (a b c d e : Option Seat) (seats : Seats) → length seats ≡ 5 → a ≡ get_or seats 0 None → b ≡ get_or seats 1 None → c ≡ get_or seats 2 None → d ≡ get_or seats 3 None → e ≡ get_or seats 4 None
-    → a ∷ b ∷ c ∷ d ∷ e ∷ [] ≡ seats
-five-back a b c d e [] len at_a at_b at_c at_d at_e = absurd (omega arith)
-five-back a b c d e (p ∷ []) len at_a at_b at_c at_d at_e = absurd (omega arith)
-five-back a b c d e (p ∷ q ∷ []) len at_a at_b at_c at_d at_e = absurd (omega arith)
-five-back a b c d e (p ∷ q ∷ r ∷ []) len at_a at_b at_c at_d at_e = absurd (omega arith)
-five-back a b c d e (p ∷ q ∷ r ∷ s ∷ []) len at_a at_b at_c at_d at_e = absurd (omega arith)
-five-back a b c d e (p ∷ q ∷ r ∷ s ∷ t ∷ u ∷ seats) len at_a at_b at_c at_d at_e = absurd (omega arith)
-five-back a b c d e (p ∷ q ∷ r ∷ s ∷ t ∷ []) len at_a at_b at_c at_d at_e = rw (at_a, at_b, at_c, at_d, at_e) refl
-
-place_is : (seats : Seats) (k : ℕ) → AllByRecursion IsSeatPlace seats → IsSeatPlace (get_or seats k None)
-place_is [] k all = tt
-place_is (place ∷ seats) zero all = all.0
-place_is (place ∷ seats) (suc k) all = place_is seats k all.1
-
-module _ (whole : Bool) (seats : Seats) (sectors : ℕ → List ℕ) (are : ArePlaces seats)
-    (encoded : (n : ℕ) → n < 45 → IsTrue (is_determined whole (n % 9) (get_or seats (n / 9) None)) → sectors n ≡ seats_sector n seats) where
-  one-back : (place first : ℕ) → place < 5 → first ≡ 9 * place → seat_from sectors first ≡ get_or seats place None
-  one-back place first few e = place-back whole (get_or seats place None) (λ (k : ℕ). sectors (first + k)) (place_is seats place are.each)
-      (λ k h is.
-      let rest : (first + k) % 9 ≡ k = omega arith in
-      let of : (first + k) / 9 ≡ place = omega arith in
-      encoded (first + k) (omega arith) (ap₂ (λ (i j : ℕ). is_determined whole i (get_or seats j None)) rest of ∙ is)
-      ∙ ap₂ (λ (i j : ℕ). seat_sector i (get_or seats j None)) rest of)
+pub place_is : (room : ℕ) (seats : Seats) (k : ℕ) → AllByRecursion (IsSeatPlace room) seats → IsSeatPlace room (get_or seats k None)
+place_is room [] k all = tt
+place_is room (place ∷ seats) zero all = all.0
+place_is room (place ∷ seats) (suc k) all = place_is room seats k all.1
 
 pub seats-back : SeatsReadBack
 unfolding seats_in
-seats-back whole seats sectors are encoded = five-back (seat_from sectors 0) (seat_from sectors 9) (seat_from sectors 18) (seat_from sectors 27) (seat_from sectors 36) seats are.five
-    (one-back whole seats sectors are encoded 0 0 (omega arith) (omega arith)) (one-back whole seats sectors are encoded 1 9 (omega arith) (omega arith)) (one-back whole seats sectors are encoded 2 18 (omega arith) (omega arith))
-    (one-back whole seats sectors are encoded 3 27 (omega arith) (omega arith)) (one-back whole seats sectors are encoded 4 36 (omega arith) (omega arith))
+seats-back sizes whole seats sectors fits are encoded =
+    sym (fill_by_all (λ (place : ℕ). seat_from sectors (place_sectors sizes * place)) seats sizes.places None are.count
+    (λ place low.
+    sym (place-back sizes.slots whole (get_or seats place None) (λ (k : ℕ). sectors (place_sectors sizes * place + k)) fits.few_slots
+    (place_is sizes.slots seats place are.each) (place_held sizes seats whole sectors encoded place low))))
 
 -- a result has only one fault
 pub err_is : {A : Type 0} (x y : SeatFault) → (let r : Result A SeatFault = Err x in r ≡ Err y) → x ≡ y

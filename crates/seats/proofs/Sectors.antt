@@ -1,5 +1,5 @@
 -- What the sectors of a seat hold: its numbers, and the texts of its slots.
-use Rattle.std.proofs.Common.{◌≡◌, ◌≤◌, ◌<◌, ◌+◌, ◌-◌, ◌/◌, ◌%◌, ℕ, zero, suc, List, [], ◌∷◌, ◌++◌, Option, Some, None, length, get_or, take, drop, replicate, refl, sym, ap, ap₂, ◌∙◌, arith, append_assoc}
+use Rattle.std.proofs.Common.{◌≡◌, ◌≤◌, ◌<◌, ◌+◌, ◌-◌, ◌*◌, ◌/◌, ◌%◌, ℕ, zero, suc, List, [], ◌∷◌, ◌++◌, Option, Some, None, length, get_or, take, drop, replicate, refl, sym, ap, ap₂, ◌∙◌, arith, append_assoc}
 use Rattle.std.specs.Prelude.{codes, slice_index}
 use Rattle.std.specs.Int.{w32, to_be_bytes, from_be_bytes}
 use Rattle.std.specs.List.{AllByRecursion, flat_map}
@@ -102,7 +102,7 @@ unfolding head_sector
 head_apart seat = ap (λ (rest : List ℕ). codes "SESS" ++ rest)
     (regroup seat.session (to_be_bytes w32 seat.principal) (to_be_bytes w32 (length seat.slots)) (to_be_bytes w32 (length seat.owner)) seat.owner (replicate (1024 - length seat.owner) 0) (replicate 3040 0))
 
-module _ (seat : Seat) (is : IsSeat seat) where
+module _ (room : ℕ) (few_slots : room ≤ 8) (seat : Seat) (is : IsSeat room seat) where
   pub mark_there : slice_index (head_sector seat) 0 ≡ 83
   mark_there = ap (λ (head : List ℕ). slice_index head 0) (head_apart seat)
 
@@ -121,7 +121,7 @@ module _ (seat : Seat) (is : IsSeat seat) where
   pub count_there : from_be_bytes w32 (drop 24 (head_sector seat)) ≡ length seat.slots
   count_there =
       ap (from_be_bytes w32) (sym (drop-drop 4 20 (head_sector seat)) ∙ ap (drop 4) from_numbers)
-      ∙ from_be_bytes-to_be_bytes_4 (length seat.slots) (omega (arith, is.few))
+      ∙ from_be_bytes-to_be_bytes_4 (length seat.slots) (omega (arith, few_slots, is.few))
 
   pub length_there : from_be_bytes w32 (drop 28 (head_sector seat)) ≡ length seat.owner
   length_there =
@@ -140,24 +140,27 @@ slot_is [] k all = tt
 slot_is (slot ∷ slots) zero all = all.0
 slot_is (slot ∷ slots) (suc k) all = slot_is slots k all.1
 
-module _ (seat : Seat) (is : IsSeat seat) (sectors : ℕ → List ℕ) (encoded : AreSectorsOf sectors (Some seat)) where
+module _ (room : ℕ) (seat : Seat) (is : IsSeat room seat) (sectors : ℕ → List ℕ) (encoded : AreSectorsOf room sectors (Some seat)) where
   pub head_there : sectors 0 ≡ head_sector seat
   head_there = encoded 0 (omega arith) ∙ first_sector seat
 
   pub slot_at_is : (k : ℕ) → IsSlot (slot_at k seat)
-  slot_at_is k = slot_is seat.slots k is.slots
+  slot_at_is k = slot_is seat.slots k is.each
 
-  there : (k : ℕ) → 0 < k → k < 9 → sectors k ≡ part_of ((k - 1) % 4) (slot_text (slot_at ((k - 1) / 4) seat))
-  there k some few = encoded k few ∙ slot_sector_at k seat some
+  -- a part of a slot
+  there : (slot part n : ℕ) → slot < room → part < 4 → n ≡ 1 + 4 * slot + part → sectors n ≡ part_of part (slot_text (slot_at slot seat))
+  there slot part n low few e =
+      let rest : (n - 1) % 4 ≡ part = omega arith in
+      let of : (n - 1) / 4 ≡ slot = omega arith in
+      encoded n (omega arith) ∙ slot_sector_at n seat (omega arith)
+      ∙ ap₂ (λ (i j : ℕ). part_of i (slot_text (slot_at j seat))) rest of
 
   joined : (text : List ℕ) (first : ℕ) → sectors first ≡ part_of 0 text → sectors (first + 1) ≡ part_of 1 text → sectors (first + 2) ≡ part_of 2 text → sectors (first + 3) ≡ part_of 3 text
       → length text ≡ 16384 → text_from sectors first ≡ text
   joined text first a b c d len = ap₂ (λ (x y : List ℕ). x ++ y) (ap₂ (λ (x y : List ℕ). x ++ y) (ap₂ (λ (x y : List ℕ). x ++ y) a b) c) d ∙ parts_whole text len
 
-  pub first_there : text_from sectors 1 ≡ slot_text (slot_at 0 seat)
-  first_there = joined (slot_text (slot_at 0 seat)) 1 (there 1 (omega arith) (omega arith)) (there 2 (omega arith) (omega arith)) (there 3 (omega arith) (omega arith)) (there 4 (omega arith) (omega arith))
-      (length-slot_text (slot_at 0 seat) (slot_at_is 0))
-
-  pub second_there : text_from sectors 5 ≡ slot_text (slot_at 1 seat)
-  second_there = joined (slot_text (slot_at 1 seat)) 5 (there 5 (omega arith) (omega arith)) (there 6 (omega arith) (omega arith)) (there 7 (omega arith) (omega arith)) (there 8 (omega arith) (omega arith))
-      (length-slot_text (slot_at 1 seat) (slot_at_is 1))
+  pub slot_there : (slot : ℕ) → slot < room → text_from sectors (1 + 4 * slot) ≡ slot_text (slot_at slot seat)
+  slot_there slot low = joined (slot_text (slot_at slot seat)) (1 + 4 * slot)
+      (there slot 0 (1 + 4 * slot) low (omega arith) (omega arith)) (there slot 1 (1 + 4 * slot + 1) low (omega arith) (omega arith))
+      (there slot 2 (1 + 4 * slot + 2) low (omega arith) (omega arith)) (there slot 3 (1 + 4 * slot + 3) low (omega arith) (omega arith))
+      (length-slot_text (slot_at slot seat) (slot_at_is slot))

@@ -1,3 +1,4 @@
 pub mod Padding
+pub mod Sizes
 pub mod Reading
 pub mod Encoding

@@ -1,10 +1,13 @@
 -- What sectors say about seats, whatever their bytes: nothing is checked. For sectors in which
 -- seats are encoded, it is these seats: so they encode at most one list of seats. Of a free place only
 -- the first sector is looked at.
-use Rattle.std.specs.Prelude.{◌≡◌, ◌<◌, ◌+◌, ◌/◌, ◌%◌, ◌==◌, ◌++◌, ℕ, Bool, List, [], ◌∷◌, Option, Some, None, IsTrue, drop, slice_index, slice_index_or, take, if◌then◌else◌}
+use Rattle.std.specs.Prelude.{◌≡◌, ◌+◌, ◌*◌, ◌==◌, ◌++◌, ℕ, Bool, List, Option, Some, None, drop, map, slice_index, take, if◌then◌else◌}
+use Rattle.std.specs.List.{range_with_len}
 use Rattle.std.specs.Int.{w32, from_be_bytes}
 use Rattle.model_tree.specs.Seats.Seats.{HeldReply, Seat, Seats}
-use Rattle.seats.specs.Encoding.{ArePlaces, is_determined, seats_sector}
+use Rattle.seats.specs.Encoding.{ArePlaces, HoldPlaces}
+use Rattle.seats.specs.Sizes.{AreSizes, place_sectors}
+use Rattle.seats.specs.declared.sizes.SeatSizes.{SeatSizes}
 
 abbrev pub held_in : List ℕ → HeldReply
 held_in text = record {
@@ -21,12 +24,10 @@ abbrev pub text_from : (ℕ → List ℕ) → (first : ℕ) → List ℕ
 text_from sectors first =
     sectors first ++ sectors (first + 1) ++ sectors (first + 2) ++ sectors (first + 3)
 
--- one slot, or two
+-- the first `count` slots, from sector 1 on
 abbrev pub slots_in : (count : ℕ) → (ℕ → List ℕ) → List (Option HeldReply)
 slots_in count sectors =
-    if count == 2
-    then slot_in (text_from sectors 1) ∷ slot_in (text_from sectors 5) ∷ []
-    else slot_in (text_from sectors 1) ∷ []
+    map (λ slot. slot_in (text_from sectors (1 + 4 * slot))) (range_with_len 0 count)
 
 abbrev pub head_in : List ℕ → List (Option HeldReply) → Seat
 head_in head slots = record {
@@ -47,17 +48,15 @@ seat_in sectors = if slice_index (sectors 0) 0 == 83 then Some (taken_from secto
 abbrev pub seat_from : (ℕ → List ℕ) → (first : ℕ) → Option Seat
 seat_from sectors first = seat_in (λ k. sectors (first + k))
 
--- nine sectors for each place
-unfoldable pub seats_in : (ℕ → List ℕ) → Seats
-seats_in sectors =
-    seat_from sectors 0 ∷ seat_from sectors 9 ∷ seat_from sectors 18 ∷ seat_from sectors 27
-    ∷ seat_from sectors 36 ∷ []
+-- the seats of all places
+unfoldable pub seats_in : SeatSizes → (ℕ → List ℕ) → Seats
+seats_in sizes sectors =
+    map (λ place. seat_from sectors (place_sectors sizes * place))
+    (range_with_len 0 sizes.places)
 
 -- The law
 abbrev pub SeatsReadBack : Type 0
 SeatsReadBack =
-    (whole : Bool) (seats : Seats) (sectors : ℕ → List ℕ) → ArePlaces seats
-    → ((n : ℕ) → n < 45
-    → IsTrue (is_determined whole (n % 9) (slice_index_or seats (n / 9) None))
-    → sectors n ≡ seats_sector n seats)
-    → seats_in sectors ≡ seats
+    (sizes : SeatSizes) (whole : Bool) (seats : Seats) (sectors : ℕ → List ℕ)
+    → AreSizes sizes → ArePlaces sizes seats → HoldPlaces sizes whole sectors seats
+    → seats_in sizes sectors ≡ seats

@@ -1,6 +1,6 @@
 //! Reading the sectors of a seat.
 
-ghost use Rattle.std.specs.Prelude.{◌≡◌, ◌<◌, ◌+◌, ◌≤◌, ℕ, length, map, vec_len, Bool, Option, Some, IfOk, IsErrOf, IsTrue, ◌↔◌};
+ghost use Rattle.std.specs.Prelude.{◌≡◌, ◌<◌, ◌+◌, ◌*◌, ◌≤◌, ℕ, length, map, vec_len, Bool, Option, Some, IfOk, IsErrOf, IsTrue, ◌↔◌};
 ghost use Rattle.std.specs.Option.{option_map};
 ghost use Rattle.model_tree.specs.Seats.Seats as kept;
 ghost use Rattle.model_tree.specs.Seats.SeatViews.{held_view, seat_view, place_view};
@@ -9,7 +9,7 @@ ghost use Rattle.seats.specs.Reading.{taken_from, text_from, seat_in};
 ghost use Rattle.seats.specs.Reading as total;
 
 use crate::fault::SeatFault;
-use crate::writing::{OWNER, RESULT, SLOT_SECTORS, seat_sector};
+use crate::writing::{OWNER, RESULT, SLOT_PARTS, seat_sector};
 use model_tree::seats::{HeldReply, MAX_HELD_RESULT, Seat};
 use sector::{SIZE, u32_at};
 use std::alloc::Global;
@@ -38,7 +38,7 @@ fn slot_in(
     if len > MAX_HELD_RESULT {
         return Err(SeatFault::NotSeat);
     }
-    let text = sectors[first..first + SLOT_SECTORS].as_flattened();
+    let text = sectors[first..first + SLOT_PARTS].as_flattened();
     let result = Vec::from_slice(alloc, &text[RESULT..RESULT + len])?;
     Ok(Some(HeldReply {
         number: u32_at(head, 4),
@@ -47,34 +47,35 @@ fn slot_in(
     }))
 }
 
-/// The slots, one or two, that the sectors of a seat would encode.
+/// The first `count` slots that the sectors of a seat would encode.
 fn slots_in(
     alloc: Global,
     sectors: &[[u8; SIZE]],
     count: u32,
 ) -> Result<Vec<Option<HeldReply>>, SeatFault>
-    requires { length sectors.now ≡ 9 }
+    requires few { count ≤ 8 }
+    requires sectors { 1 + 4 * count ≤ length sectors.now }
     ensures value { IfOk result (λ slots. map (option_map held_view) slots.items
         ≡ total.slots_in count (sector_of sectors.now)) }
-    ensures some { IfOk result (λ slots. 1 ≤ vec_len slots) }
-    ensures few { IfOk result (λ slots. vec_len slots ≤ 2) }
-    ensures err { IsErrOf result SeatFault.NotSeat → (seat : kept.Seat) → IsSeat seat
-        → ¬ AreSectorsOf (sector_of sectors.now) (Some seat) }
+    ensures count { IfOk result (λ slots. vec_len slots ≡ count) }
+    ensures err { IsErrOf result SeatFault.NotSeat → (room : ℕ) (seat : kept.Seat) → count ≤ room
+        → IsSeat room seat → ¬ AreSectorsOf room (sector_of sectors.now) (Some seat) }
 {
     let mut slots = Vec::new(alloc);
-    slots.push(slot_in(alloc, sectors, 1)?)?;
-    if count == 2 {
-        slots.push(slot_in(alloc, sectors, 5)?)?;
+    for slot in 0..count as usize {
+        slots.push(slot_in(alloc, sectors, 1 + SLOT_PARTS * slot)?)?;
     }
     Ok(slots)
 }
 
 /// The seat that these sectors would encode, whatever the bytes between its fields are.
-fn taken_in(alloc: Global, sectors: &[[u8; SIZE]]) -> Result<Seat, SeatFault>
-    requires { length sectors.now ≡ 9 }
+fn taken_in(alloc: Global, sectors: &[[u8; SIZE]], room: u32) -> Result<Seat, SeatFault>
+    requires few { room ≤ 8 }
+    requires sectors { length sectors.now ≡ 1 + 4 * room }
     ensures value { IfOk result (λ seat. seat_view seat ≡ taken_from (sector_of sectors.now)) }
-    ensures err { IsErrOf result SeatFault.NotSeat → (seat : kept.Seat) → IsSeat seat
-        → ¬ AreSectorsOf (sector_of sectors.now) (Some seat) }
+    ensures fits { IfOk result (λ seat. vec_len seat.slots ≤ room) }
+    ensures err { IsErrOf result SeatFault.NotSeat → (seat : kept.Seat) → IsSeat room seat
+        → ¬ AreSectorsOf room (sector_of sectors.now) (Some seat) }
 {
     let head = &sectors[0];
     let count = u32_at(head, 24);
@@ -82,7 +83,7 @@ fn taken_in(alloc: Global, sectors: &[[u8; SIZE]]) -> Result<Seat, SeatFault>
     if count == 0 {
         return Err(SeatFault::NotSeat);
     }
-    if count > 2 {
+    if count > room {
         return Err(SeatFault::NotSeat);
     }
     if len > MAX_OWNER {
@@ -101,16 +102,18 @@ fn taken_in(alloc: Global, sectors: &[[u8; SIZE]]) -> Result<Seat, SeatFault>
 }
 
 /// The place that these sectors would encode, whatever the bytes between its fields are.
-fn place_in(alloc: Global, sectors: &[[u8; SIZE]]) -> Result<Option<Seat>, SeatFault>
-    requires { length sectors.now ≡ 9 }
+fn place_in(alloc: Global, sectors: &[[u8; SIZE]], room: u32) -> Result<Option<Seat>, SeatFault>
+    requires few { room ≤ 8 }
+    requires sectors { length sectors.now ≡ 1 + 4 * room }
     ensures value { IfOk result (λ place. place_view place ≡ seat_in (sector_of sectors.now)) }
+    ensures fits { IfOk result (λ place. IsSeatPlace room (place_view place)) }
     ensures err { IsErrOf result SeatFault.NotSeat → (whole : Bool) (place : Option kept.Seat)
-        → IsSeatPlace place → ¬ HoldPlace whole (sector_of sectors.now) place }
+        → IsSeatPlace room place → ¬ HoldPlace room whole (sector_of sectors.now) place }
 {
     if sectors[0][0] != b'S' {
         return Ok(None);
     }
-    let seat = taken_in(alloc, sectors)?;
+    let seat = taken_in(alloc, sectors, room)?;
     Ok(Some(seat))
 }
 
@@ -123,9 +126,10 @@ fn is_determined(whole: bool, k: usize, place: &Option<Seat>) -> bool
 }
 
 /// Whether these sectors are those of the place, as far as they are determined.
-fn are_sectors_of(sectors: &[[u8; SIZE]], whole: bool, place: &Option<Seat>) -> bool
-    requires { length sectors.now ≡ 9 }
-    ensures { IsTrue result ↔ HoldPlace whole (sector_of sectors.now) (place_view place.now) }
+fn are_sectors_of(sectors: &[[u8; SIZE]], room: u32, whole: bool, place: &Option<Seat>) -> bool
+    requires { length sectors.now ≡ 1 + 4 * room }
+    ensures { IsTrue result
+        ↔ HoldPlace room whole (sector_of sectors.now) (place_view place.now) }
 {
     for (k, sector) in sectors.iter().enumerate() {
         if is_determined(whole, k, place) && *sector != seat_sector(place, k) {
@@ -135,8 +139,8 @@ fn are_sectors_of(sectors: &[[u8; SIZE]], whole: bool, place: &Option<Seat>) -> 
     true
 }
 
-/// The place for a seat that has these nine sectors. Of a free place all are zero if places are
-/// freed as a whole, and else the first.
+/// The place for a seat that has these sectors, with room for `room` slots. Of a free place all are
+/// zero if places are freed as a whole, and else the first.
 ///
 /// # Errors
 /// `NotSeat` exactly if no place has them: whatever is read is written again, and has to give each
@@ -144,17 +148,19 @@ fn are_sectors_of(sectors: &[[u8; SIZE]], whole: bool, place: &Option<Seat>) -> 
 pub fn read_seat(
     alloc: Global,
     sectors: &[[u8; SIZE]],
+    room: u32,
     whole: bool,
 ) -> Result<Option<Seat>, SeatFault>
-    requires { length sectors.now ≡ 9 }
-    ensures fits { IfOk result (λ place. IsSeatPlace (place_view place)) }
+    requires few { room ≤ 8 }
+    requires sectors { length sectors.now ≡ 1 + 4 * room }
+    ensures fits { IfOk result (λ place. IsSeatPlace room (place_view place)) }
     ensures found { IfOk result (λ place.
-        HoldPlace whole (sector_of sectors.now) (place_view place)) }
+        HoldPlace room whole (sector_of sectors.now) (place_view place)) }
     ensures not_seat { IsErrOf result SeatFault.NotSeat → (place : Option kept.Seat)
-        → IsSeatPlace place → ¬ HoldPlace whole (sector_of sectors.now) place }
+        → IsSeatPlace room place → ¬ HoldPlace room whole (sector_of sectors.now) place }
 {
-    let place = place_in(alloc, sectors)?;
-    if !are_sectors_of(sectors, whole, &place) {
+    let place = place_in(alloc, sectors, room)?;
+    if !are_sectors_of(sectors, room, whole, &place) {
         return Err(SeatFault::NotSeat);
     }
     Ok(place)

@@ -7,6 +7,7 @@ ghost use Rattle.seats.specs.Padding.{padded};
 ghost use Rattle.seats.specs.Encoding.{head_prefix, held_prefix, part_of, slot_at, slot_text};
 ghost use Rattle.seats.specs.Encoding as encoded;
 
+use crate::sizes::SLOT_SECTORS;
 use model_tree::seats::{HeldReply, Seat};
 use sector::{SIZE, put_bytes, put_u32, put_zeros};
 
@@ -15,8 +16,8 @@ pub(crate) const OWNER: usize = 32;
 
 pub(crate) const RESULT: usize = 24;
 
-/// How many sectors a slot has.
-pub(crate) const SLOT_SECTORS: usize = 4;
+/// How many sectors a slot has, as a count of parts.
+pub(crate) const SLOT_PARTS: usize = SLOT_SECTORS as usize;
 
 fn zeros() -> [u8; SIZE]
     ensures { result ≡ replicate SIZE 0 }
@@ -56,7 +57,7 @@ fn first_part(held: &HeldReply) -> [u8; SIZE]
 
 fn later_part(held: &HeldReply, part: usize) -> [u8; SIZE]
     requires some { 0 < part }
-    requires part { part < SLOT_SECTORS }
+    requires part { part < SLOT_PARTS }
     ensures { result ≡ part_of part (slot_text (Some (held_view held.now))) }
 {
     let mut sector = [0; SIZE];
@@ -67,7 +68,7 @@ fn later_part(held: &HeldReply, part: usize) -> [u8; SIZE]
 
 /// One of the four sectors of a slot that holds this reply.
 pub fn slot_sector(held: &HeldReply, part: usize) -> [u8; SIZE]
-    requires { part < SLOT_SECTORS }
+    requires { part < SLOT_PARTS }
     ensures { result ≡ part_of part (slot_text (Some (held_view held.now))) }
 {
     if part == 0 {
@@ -99,7 +100,7 @@ fn head_sector(seat: &Seat) -> [u8; SIZE]
 
 /// One of the four sectors of what is held for a slot.
 fn part_of_held(held: &Option<HeldReply>, part: usize) -> [u8; SIZE]
-    requires { part < SLOT_SECTORS }
+    requires { part < SLOT_PARTS }
     ensures { result ≡ part_of part (slot_text (option_map held_view held.now)) }
 {
     match held {
@@ -110,7 +111,7 @@ fn part_of_held(held: &Option<HeldReply>, part: usize) -> [u8; SIZE]
 
 /// One of the four sectors of a slot of a seat.
 fn part_of_slot(seat: &Seat, slot: usize, part: usize) -> [u8; SIZE]
-    requires { part < SLOT_SECTORS }
+    requires { part < SLOT_PARTS }
     ensures { result ≡ part_of part (slot_text (slot_at slot (seat_view seat.now))) }
 {
     match seat.slots.get(slot) {
@@ -119,20 +120,18 @@ fn part_of_slot(seat: &Seat, slot: usize, part: usize) -> [u8; SIZE]
     }
 }
 
-/// One of the nine sectors of a place that this seat has.
+/// Sector `k` of a place that this seat has.
 pub fn taken_sector(seat: &Seat, k: usize) -> [u8; SIZE]
-    requires { k < 9 }
     ensures { result ≡ encoded.seat_sector k (Some (seat_view seat.now)) }
 {
     if k == 0 {
         return head_sector(seat);
     }
-    part_of_slot(seat, (k - 1) / SLOT_SECTORS, (k - 1) % SLOT_SECTORS)
+    part_of_slot(seat, (k - 1) / SLOT_PARTS, (k - 1) % SLOT_PARTS)
 }
 
-/// One of the nine sectors of a place for a seat.
+/// Sector `k` of a place for a seat.
 pub fn seat_sector(place: &Option<Seat>, k: usize) -> [u8; SIZE]
-    requires { k < 9 }
     ensures { result ≡ encoded.seat_sector k (place_view place.now) }
 {
     match place {
