@@ -32,26 +32,30 @@ end_to_end g fits =
 module _ (g : Geometry) where
   limits_of_test : IsTrue (is_within_limits g) → IsWithinLimits g
   limits_of_test is =
-      let a = and_parts (leb 2 g.nodes && leb g.nodes 4194304 && leb 288 g.log && leb g.log 1022 && eqb g.seats 5 && eqb g.slots 2 && leb 1 g.names && leb g.names 1024 && leb 1 g.file_bytes) (leb g.file_bytes (2 ^ 24)) is in
-      let b = and_parts (leb 2 g.nodes && leb g.nodes 4194304 && leb 288 g.log && leb g.log 1022 && eqb g.seats 5 && eqb g.slots 2 && leb 1 g.names && leb g.names 1024) (leb 1 g.file_bytes) a.0 in
-      let d = and_parts (leb 2 g.nodes && leb g.nodes 4194304 && leb 288 g.log && leb g.log 1022 && eqb g.seats 5 && eqb g.slots 2 && leb 1 g.names) (leb g.names 1024) b.0 in
-      let e = and_parts (leb 2 g.nodes && leb g.nodes 4194304 && leb 288 g.log && leb g.log 1022 && eqb g.seats 5 && eqb g.slots 2) (leb 1 g.names) d.0 in
-      let f = and_parts (leb 2 g.nodes && leb g.nodes 4194304 && leb 288 g.log && leb g.log 1022 && eqb g.seats 5) (eqb g.slots 2) e.0 in
-      let h = and_parts (leb 2 g.nodes && leb g.nodes 4194304 && leb 288 g.log && leb g.log 1022) (eqb g.seats 5) f.0 in
-      let i = and_parts (leb 2 g.nodes && leb g.nodes 4194304 && leb 288 g.log) (leb g.log 1022) h.0 in
-      let j = and_parts (leb 2 g.nodes && leb g.nodes 4194304) (leb 288 g.log) i.0 in
-      let k = and_parts (leb 2 g.nodes) (leb g.nodes 4194304) j.0 in
+      let p11 = and_parts (leb 2 g.nodes && leb g.nodes 4194304 && leb 288 g.log && leb g.log 1022 && leb 1 g.seats && leb g.seats 64 && leb 1 g.slots && leb g.slots 8 && leb 1 g.names && leb g.names 1024 && leb 1 g.file_bytes) (leb g.file_bytes (2 ^ 24)) is in
+      let p10 = and_parts (leb 2 g.nodes && leb g.nodes 4194304 && leb 288 g.log && leb g.log 1022 && leb 1 g.seats && leb g.seats 64 && leb 1 g.slots && leb g.slots 8 && leb 1 g.names && leb g.names 1024) (leb 1 g.file_bytes) p11.0 in
+      let p9 = and_parts (leb 2 g.nodes && leb g.nodes 4194304 && leb 288 g.log && leb g.log 1022 && leb 1 g.seats && leb g.seats 64 && leb 1 g.slots && leb g.slots 8 && leb 1 g.names) (leb g.names 1024) p10.0 in
+      let p8 = and_parts (leb 2 g.nodes && leb g.nodes 4194304 && leb 288 g.log && leb g.log 1022 && leb 1 g.seats && leb g.seats 64 && leb 1 g.slots && leb g.slots 8) (leb 1 g.names) p9.0 in
+      let p7 = and_parts (leb 2 g.nodes && leb g.nodes 4194304 && leb 288 g.log && leb g.log 1022 && leb 1 g.seats && leb g.seats 64 && leb 1 g.slots) (leb g.slots 8) p8.0 in
+      let p6 = and_parts (leb 2 g.nodes && leb g.nodes 4194304 && leb 288 g.log && leb g.log 1022 && leb 1 g.seats && leb g.seats 64) (leb 1 g.slots) p7.0 in
+      let p5 = and_parts (leb 2 g.nodes && leb g.nodes 4194304 && leb 288 g.log && leb g.log 1022 && leb 1 g.seats) (leb g.seats 64) p6.0 in
+      let p4 = and_parts (leb 2 g.nodes && leb g.nodes 4194304 && leb 288 g.log && leb g.log 1022) (leb 1 g.seats) p5.0 in
+      let p3 = and_parts (leb 2 g.nodes && leb g.nodes 4194304 && leb 288 g.log) (leb g.log 1022) p4.0 in
+      let p2 = and_parts (leb 2 g.nodes && leb g.nodes 4194304) (leb 288 g.log) p3.0 in
+      let p1 = and_parts (leb 2 g.nodes) (leb g.nodes 4194304) p2.0 in
       record {
-        min_nodes = leb-true 2 g.nodes k.0;
-        max_nodes = leb-true g.nodes 4194304 k.1;
-        min_log = leb-true 288 g.log j.1;
-        max_log = leb-true g.log 1022 i.1;
-        seats = eqb-true g.seats 5 h.1;
-        slots = eqb-true g.slots 2 f.1;
-        min_names = leb-true 1 g.names e.1;
-        max_names = leb-true g.names 1024 d.1;
-        min_file_bytes = leb-true 1 g.file_bytes b.1;
-        max_file_bytes = leb-true g.file_bytes (2 ^ 24) a.1;
+        min_nodes = leb-true 2 g.nodes p1.0;
+        max_nodes = leb-true g.nodes 4194304 p1.1;
+        min_log = leb-true 288 g.log p2.1;
+        max_log = leb-true g.log 1022 p3.1;
+        min_seats = leb-true 1 g.seats p4.1;
+        max_seats = leb-true g.seats 64 p5.1;
+        min_slots = leb-true 1 g.slots p6.1;
+        max_slots = leb-true g.slots 8 p7.1;
+        min_names = leb-true 1 g.names p8.1;
+        max_names = leb-true g.names 1024 p9.1;
+        min_file_bytes = leb-true 1 g.file_bytes p10.1;
+        max_file_bytes = leb-true g.file_bytes (2 ^ 24) p11.1;
       }
 
   test_of_limits : IsWithinLimits g → IsTrue (is_within_limits g)
@@ -60,8 +64,10 @@ module _ (g : Geometry) where
     le-leb g.nodes 4194304 is.max_nodes,
     le-leb 288 g.log is.min_log,
     le-leb g.log 1022 is.max_log,
-    eq-eqb g.seats 5 is.seats,
-    eq-eqb g.slots 2 is.slots,
+    le-leb 1 g.seats is.min_seats,
+    le-leb g.seats 64 is.max_seats,
+    le-leb 1 g.slots is.min_slots,
+    le-leb g.slots 8 is.max_slots,
     le-leb 1 g.names is.min_names,
     le-leb g.names 1024 is.max_names,
     le-leb 1 g.file_bytes is.min_file_bytes,

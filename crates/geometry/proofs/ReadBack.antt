@@ -40,8 +40,8 @@ module _ (s : Superblock) (restarts : ℕ) (is : IsSuperblock s) where
       (from_be_bytes-to_be_bytes_4 g.sectors is.fits.sectors)
       (from_be_bytes-to_be_bytes_4 g.nodes (omega (arith, is.fits.limits.max_nodes)))
       (from_be_bytes-to_be_bytes_4 g.log (omega (arith, is.fits.limits.max_log)))
-      (from_be_bytes-to_be_bytes_2 g.seats (omega (arith, is.fits.limits.seats)))
-      (from_be_bytes-to_be_bytes_2 g.slots (omega (arith, is.fits.limits.slots)))
+      (from_be_bytes-to_be_bytes_2 g.seats (omega (arith, is.fits.limits.max_seats)))
+      (from_be_bytes-to_be_bytes_2 g.slots (omega (arith, is.fits.limits.max_slots)))
       (from_be_bytes-to_be_bytes_4 g.names (omega (arith, is.fits.limits.max_names)))
       (from_be_bytes-to_be_bytes_8 g.file_bytes (omega (arith, is.fits.limits.max_file_bytes)))
 

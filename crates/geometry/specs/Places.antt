@@ -18,8 +18,10 @@ pub record IsWithinLimits (g : Geometry) : Type 0 where
   pub max_nodes : g.nodes ≤ 4194304
   pub min_log : 288 ≤ g.log
   pub max_log : g.log ≤ 1022
-  pub seats : g.seats ≡ 5
-  pub slots : g.slots ≡ 2
+  pub min_seats : 1 ≤ g.seats
+  pub max_seats : g.seats ≤ 64
+  pub min_slots : 1 ≤ g.slots
+  pub max_slots : g.slots ≤ 8
   pub min_names : 1 ≤ g.names
   pub max_names : g.names ≤ 1024
   pub min_file_bytes : 1 ≤ g.file_bytes
@@ -41,8 +43,9 @@ pub record Fits (g : Geometry) : Type 0 where
 abbrev pub is_within_limits : Geometry → Bool
 is_within_limits g =
     nat_le 2 g.nodes && nat_le g.nodes 4194304 && nat_le 288 g.log && nat_le g.log 1022
-    && (g.seats == 5) && (g.slots == 2) && nat_le 1 g.names && nat_le g.names 1024
-    && nat_le 1 g.file_bytes && nat_le g.file_bytes (2 ^ 24)
+    && nat_le 1 g.seats && nat_le g.seats 64 && nat_le 1 g.slots && nat_le g.slots 8
+    && nat_le 1 g.names && nat_le g.names 1024 && nat_le 1 g.file_bytes
+    && nat_le g.file_bytes (2 ^ 24)
 
 unfoldable pub fits : Geometry → Bool
 fits g =

@@ -19,11 +19,11 @@ pub const MIN_LOG: u32 = 288;
 /// The most sectors of a log: a commit record has room for this many targets.
 pub const MAX_LOG: u32 = 1_022;
 
-/// The number of seats of a volume, the only one so far.
-pub const SEATS: u16 = 5;
+/// The most seats of a volume.
+pub const MAX_SEATS: u16 = 64;
 
-/// The number of slots of a seat, the only one so far.
-pub const SLOTS: u16 = 2;
+/// The most slots of a seat.
+pub const MAX_SLOTS: u16 = 8;
 
 /// The most names of a directory.
 pub const MAX_NAMES: u32 = 1_024;
@@ -78,8 +78,10 @@ impl Geometry {
             && self.nodes <= MAX_NODES
             && MIN_LOG <= self.log
             && self.log <= MAX_LOG
-            && self.seats == SEATS
-            && self.slots == SLOTS
+            && 1 <= self.seats
+            && self.seats <= MAX_SEATS
+            && 1 <= self.slots
+            && self.slots <= MAX_SLOTS
             && 1 <= self.names
             && self.names <= MAX_NAMES
             && 1 <= self.file_bytes

@@ -6,7 +6,8 @@ mod laws;
 mod superblock;
 
 pub use geometry::{
-    Geometry, MAX_FILE_BYTES, MAX_LOG, MAX_NAMES, MAX_NODES, MIN_LOG, MIN_NODES, SEATS, SLOTS,
+    Geometry, MAX_FILE_BYTES, MAX_LOG, MAX_NAMES, MAX_NODES, MAX_SEATS, MAX_SLOTS, MIN_LOG,
+    MIN_NODES,
 };
 pub use laws::{end_to_end, fits_is_tested, reads_back};
 pub use superblock::Superblock;
