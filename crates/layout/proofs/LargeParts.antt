@@ -1,5 +1,5 @@
 -- Version 3: its first sector and its parts.
-use Rattle.std.proofs.Common.{◌≡◌, ◌≤◌, ◌<◌, ◌+◌, ◌-◌, ◌/◌, ◌%◌, ◌&&◌, ℕ, true, false, Option, None, get_or, inl, inr, refl, arith, leb, ltb}
+use Rattle.std.proofs.Common.{◌≡◌, ◌≤◌, ◌<◌, ◌+◌, ◌-◌, ◌&&◌, ℕ, true, false, Option, None, inl, inr, refl, arith, leb, ltb}
 use Rattle.std.proofs.lemmas.Bool.{and_parts, leb-true, ltb-true, or_cases}
 use Rattle.geometry.specs.Encoding as geometry
 use Rattle.geometry.specs.Encoding.{IsSuperblock}
@@ -7,8 +7,9 @@ use Rattle.geometry.specs.Places.{Fits, log_start, seats_sectors, seats_start}
 use Rattle.geometry.specs.declared.geometry.Geometry.{Geometry}
 use Rattle.geometry.specs.declared.superblock.Superblock.{Superblock}
 use Rattle.model_tree.specs.Seats.Seats.{Seats}
-use Rattle.seats.specs.Encoding.{is_determined}
-use Rattle.layout.specs.Large.{is_of_seats}
+use Rattle.seats.specs.Encoding.{is_determined_in}
+use Rattle.seats.specs.Sizes.{all_sectors}
+use Rattle.layout.specs.Large.{is_of_seats, large_sizes}
 use Rattle.layout.specs.LargeLaws.{LargeFirst}
 use Rattle.layout.specs.Stands.{HasRegion, IsBeside}
 use Rattle.layout.specs.Superblock as layout
@@ -20,16 +21,16 @@ pub large_first : LargeFirst
 unfolding layout.superblock geometry.superblock
 large_first s run = refl
 
--- five seats of nine sectors
-pub seats_45 : (g : Geometry) → Fits g → seats_sectors g ≡ 45
-seats_45 g fits = rw (fits.limits.seats, fits.limits.slots) refl
+abbrev seats_of : Geometry → ℕ
+seats_of g = all_sectors (large_sizes g)
 
 -- a sector of seats lies between the data region and the log
 pub of_seats : (g : Geometry) (seats : Seats) (n : ℕ) → Fits g → is_of_seats g seats n ≡ true → (seats_start g ≤ n) × (n < log_start g)
 of_seats g seats n fits is =
-    let both = and_parts (leb (seats_start g) n && ltb n (seats_start g + 45)) (is_determined false ((n - seats_start g) % 9) (get_or seats ((n - seats_start g) / 9) None)) is in
-    let ends = and_parts (leb (seats_start g) n) (ltb n (seats_start g + 45)) both.0 in
-    (leb-true (seats_start g) n ends.0, omega (arith, ltb-true n (seats_start g + 45) ends.1, seats_45 g fits, fits.room))
+    let both = and_parts (leb (seats_start g) n && ltb n (seats_start g + seats_of g)) (is_determined_in (large_sizes g) false (n - seats_start g) seats) is in
+    let ends = and_parts (leb (seats_start g) n) (ltb n (seats_start g + seats_of g)) both.0 in
+    let all : seats_of g ≡ seats_sectors g = refl in
+    (leb-true (seats_start g) n ends.0, omega (arith, ltb-true n (seats_start g + seats_of g) ends.1, all, fits.room))
 
 module _ (s : Superblock) (mark : Option ℕ) (seats : Seats) (is : IsSuperblock s) where
   abbrev g : Geometry

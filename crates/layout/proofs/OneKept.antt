@@ -2,7 +2,7 @@
 use Rattle.std.proofs.Common.{ℕ, ◌≡◌, Option, sym, ap, ◌∙◌, subst}
 use Rattle.disk.specs.Moments.{Image}
 use Rattle.layout.specs.CachedNodeLaws.{OneKept}
-use Rattle.layout.specs.Stands.{Kept, StandsAs, TreeStands, seats_at, version_by}
+use Rattle.layout.specs.Stands.{AreKept, Kept, StandsAs, TreeStands, Version, seats_at, sizes_by, version_by}
 use Rattle.layout.specs.declared.versions.VersionNumber.{VersionNumber}
 use Rattle.layout.proofs.FirstLaws.{one_tree}
 use Rattle.layout.proofs.KeptLaws.{VersionParts, same_kept, seats_by, version_parts}
@@ -15,8 +15,11 @@ module _ (size nodes : ℕ) (image : Image) (run : ℕ) (kept : Kept) (stands : 
   pub in_its : TreeStands (version_by its.number its.mark kept.seats) size nodes image run kept.tree
   in_its = subst (λ version. TreeStands version size nodes image run kept.tree) its.same stands.stands
 
+  in_keeps : AreKept (sizes_by its.number) run kept.seats
+  in_keeps = subst (λ (version : Version). AreKept version.sizes run kept.seats) its.same stands.keeps
+
   pub seats_told : seats_at its.number image ≡ kept.seats
-  seats_told = seats_by its.number its.mark size nodes image run kept its.is_number its.may stands.keeps in_its
+  seats_told = seats_by its.number its.mark size nodes image run kept its.is_number its.may in_keeps in_its
 
 -- two have one version
 pub one_version : (size other_size nodes other_nodes run other_run : ℕ) (image : Image) (kept other : Kept)

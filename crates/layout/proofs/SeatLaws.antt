@@ -1,19 +1,22 @@
 -- The seats that a volume keeps, and the sectors that hold them.
-use Rattle.std.proofs.Common.{◌≡◌, ◌≤◌, ◌<◌, ◌+◌, ◌-◌, ◌/◌, ◌%◌, ◌==◌, ◌&&◌, ◌||◌, ℕ, zero, suc, Bool, true, false, List, Option, None, Some, get_or, leb, ltb, eqb, if◌then◌else◌, ne_eqb, refl, sym, ap, ◌∙◌, subst, arith}
+use Rattle.std.proofs.Common.{◌≡◌, ◌≤◌, ◌<◌, ◌+◌, ◌-◌, ◌/◌, ◌%◌, ◌==◌, ◌&&◌, ◌||◌, ℕ, zero, suc, Bool, true, false, List, Option, None, Some, get_or, replicate, leb, ltb, eqb, if◌then◌else◌, ne_eqb, refl, sym, ap, ◌∙◌, subst, arith}
 use Rattle.std.specs.Prelude.{IsTrue}
 use Rattle.std.proofs.lemmas.Bool.{and_parts, eqb-true, le-leb, le-ltb, lt-ltb, ltb-true}
 use mathlib.Core.Bool.{or-true}
 use Rattle.disk.specs.Moments.{Image}
 use Rattle.disk.specs.Calls as calls
 use Rattle.disk.specs.Calls.{zero_sector}
-use Rattle.model_tree.specs.Seats.Seats.{Seats, has_seat, no_seats}
+use Rattle.model_tree.specs.Seats.Seats.{Seats, SeatsApart, has_seat, no_seats}
 use Rattle.seats.specs.Encoding as encoded
-use Rattle.seats.specs.Encoding.{ArePlaces, is_determined, seat_sector, seats_sector}
+use Rattle.seats.specs.Encoding.{ArePlaces, is_determined_in, seat_sector, seats_sector}
+use Rattle.seats.specs.Sizes.{AreSizes, all_sectors, place_sectors}
+use Rattle.seats.specs.declared.sizes.SeatSizes.{SeatSizes}
+use Rattle.seats.proofs.Places.{free_place, free_places}
 use Rattle.seats.proofs.ReadBack.{seats-back}
 use Rattle.geometry.specs.Places.{Fits, seats_start}
 use Rattle.geometry.specs.declared.geometry.Geometry.{Geometry}
-use Rattle.layout.specs.Large.{is_of_seats}
-use Rattle.layout.specs.Stands.{AreKept, HasRegion, HoldSeats, IsMark, IsNumber, MayHaveSeats, frees_whole, is_seat_sector, is_spare_in, mark_held, seats_at, seats_from, size_by, spare_by, spare_in, version_by}
+use Rattle.layout.specs.Large.{is_of_seats, large_sizes}
+use Rattle.layout.specs.Stands.{AreKept, HasRegion, HoldSeats, IsMark, IsNumber, MayHaveSeats, five_places, free_seats, frees_whole, is_seat_sector, is_spare_in, mark_held, seats_at, seats_from, size_by, sizes_by, spare_by, spare_in, version_by}
 use Rattle.layout.proofs.FirstLaws.{is_before, region_at_start}
 use Rattle.layout.proofs.LargeParts.{region_at_end}
 use Rattle.layout.specs.declared.versions.VersionNumber.{VersionNumber}
@@ -33,12 +36,27 @@ free_at (suc (suc (suc zero))) = refl
 free_at (suc (suc (suc (suc zero)))) = refl
 free_at (suc (suc (suc (suc (suc i))))) = refl
 
-pub seats_free : (n : ℕ) → seats_sector n no_seats ≡ zero_sector
+pub seats_free : (n : ℕ) → seats_sector five_places n no_seats ≡ zero_sector
 seats_free n = ap (seat_sector (n % 9)) (free_at (n / 9)) ∙ free_sector (n % 9)
+
+pub large_seats_free : (sizes : SeatSizes) (n : ℕ) → seats_sector sizes n (replicate sizes.places None) ≡ zero_sector
+large_seats_free sizes n = ap (seat_sector (n % place_sectors sizes)) (free_place sizes.places (n / place_sectors sizes)) ∙ free_sector (n % place_sectors sizes)
+
+-- How many places there are
+
+pub sizes_are : (number : VersionNumber) → IsNumber number → AreSizes (sizes_by number)
+sizes_are numbers.One is = record { some_places = omega arith; few_places = omega arith; some_slots = omega arith; few_slots = omega arith }
+sizes_are numbers.Two is = record { some_places = omega arith; few_places = omega arith; some_slots = omega arith; few_slots = omega arith }
+sizes_are (numbers.Three s) is = record {
+  some_places = is.fits.limits.min_seats;
+  few_places = is.fits.limits.max_seats;
+  some_slots = is.fits.limits.min_slots;
+  few_slots = is.fits.limits.max_slots;
+}
 
 -- The spare sectors
 
-pub spare_seats : (seats : Seats) (mark : Option ℕ) (n : ℕ) → (n ≡ 147 → ⊥) → spare_by seats mark n ≡ seats_sector (n - 100) seats
+pub spare_seats : (seats : Seats) (mark : Option ℕ) (n : ℕ) → (n ≡ 147 → ⊥) → spare_by seats mark n ≡ seats_sector five_places (n - 100) seats
 spare_seats seats mark n other = rw (ne_eqb n 147 other) refl
 
 pub spare_other : (mark : Option ℕ) (n : ℕ) → (n ≡ 147 → ⊥) → spare_by no_seats mark n ≡ zero_sector
@@ -49,7 +67,7 @@ either_free true sector free = refl
 either_free false sector free = free
 
 pub spare_none : (n : ℕ) → spare_by no_seats None n ≡ zero_sector
-spare_none n = either_free (n == 147) (seats_sector (n - 100) no_seats) (seats_free (n - 100))
+spare_none n = either_free (n == 147) (seats_sector five_places (n - 100) no_seats) (seats_free (n - 100))
 
 -- sector 147
 
@@ -66,21 +84,31 @@ mark_spare (numbers.Three s) nodes (Some moved) seats is = absurd is
 
 -- sectors of seats
 
-pub within_seats : (number : VersionNumber) (n : ℕ) (seats : Seats) → IsTrue (is_seat_sector number n seats) → n < 45
-within_seats number n seats is = ltb-true n 45 (and_parts (ltb n 45) (is_determined (frees_whole number) (n % 9) (get_or seats (n / 9) None)) is).0
+module _ (number : VersionNumber) (n : ℕ) (seats : Seats) where
+  abbrev sizes : SeatSizes
+  sizes = sizes_by number
 
-pub seat_determined : (number : VersionNumber) (n : ℕ) (seats : Seats) → IsTrue (is_seat_sector number n seats) → IsTrue (is_determined (frees_whole number) (n % 9) (get_or seats (n / 9) None))
-seat_determined number n seats is = (and_parts (ltb n 45) (is_determined (frees_whole number) (n % 9) (get_or seats (n / 9) None)) is).1
+  abbrev is_in : Bool
+  is_in = is_determined_in sizes (frees_whole number) n seats
 
-pub is_seat : (number : VersionNumber) (n : ℕ) (seats : Seats) → n < 45 → IsTrue (is_determined (frees_whole number) (n % 9) (get_or seats (n / 9) None)) → IsTrue (is_seat_sector number n seats)
-is_seat number n seats low is = rw (lt-ltb n 45 low, is) refl
+  pub within_seats : IsTrue (is_seat_sector number n seats) → n < all_sectors (sizes_by number)
+  within_seats is = ltb-true n (all_sectors sizes) (and_parts (ltb n (all_sectors sizes)) is_in is).0
+
+  pub seat_determined : IsTrue (is_seat_sector number n seats) → IsTrue (is_determined_in (sizes_by number) (frees_whole number) n seats)
+  seat_determined is = (and_parts (ltb n (all_sectors sizes)) is_in is).1
+
+  pub is_seat : n < all_sectors (sizes_by number) → IsTrue (is_determined_in (sizes_by number) (frees_whole number) n seats) → IsTrue (is_seat_sector number n seats)
+  is_seat low is = rw (lt-ltb n (all_sectors sizes) low, is) refl
 
 -- in version 3 they are after the data region
 module _ (g : Geometry) where
-  pub of_large_seats : (seats : Seats) (n : ℕ) → n < 45 → IsTrue (is_determined false (n % 9) (get_or seats (n / 9) None)) → is_of_seats g seats (seats_start g + n) ≡ true
+  abbrev all : ℕ
+  all = all_sectors (large_sizes g)
+
+  pub of_large_seats : (seats : Seats) (n : ℕ) → n < all_sectors (large_sizes g) → IsTrue (is_determined_in (large_sizes g) false n seats) → is_of_seats g seats (seats_start g + n) ≡ true
   of_large_seats seats n low is = rw (
     le-leb (seats_start g) (seats_start g + n) (omega arith),
-    lt-ltb (seats_start g + n) (seats_start g + 45) (omega (arith, low)),
+    lt-ltb (seats_start g + n) (seats_start g + all) (omega (arith, low)),
     (let e : seats_start g + n - seats_start g ≡ n = omega arith in e),
     is,
   ) refl
@@ -89,17 +117,20 @@ module _ (g : Geometry) where
   behind_nodes fits = omega (arith, fits.room)
 
 pub seat_is_spare : (number : VersionNumber) (n : ℕ) (seats : Seats) → IsTrue (is_seat_sector number n seats) → IsTrue (is_spare_in number seats (seats_from number + n))
-seat_is_spare numbers.One n seats is = is_before (100 + n) (omega arith) (omega (arith, within_seats numbers.One n seats is))
-seat_is_spare numbers.Two n seats is = is_before (100 + n) (omega arith) (omega (arith, within_seats numbers.Two n seats is))
+seat_is_spare numbers.One n seats is = is_before (100 + n) (omega arith) (let low : n < 45 = within_seats numbers.One n seats is in omega arith)
+seat_is_spare numbers.Two n seats is = is_before (100 + n) (omega arith) (let low : n < 45 = within_seats numbers.Two n seats is in omega arith)
 seat_is_spare (numbers.Three s) n seats is =
     rw (of_large_seats s.geometry seats n (within_seats (numbers.Three s) n seats is) (seat_determined (numbers.Three s) n seats is))
     (or-true (leb 98 (seats_start s.geometry + n) && ltb (seats_start s.geometry + n) 148))
 
-pub seat_spare : (number : VersionNumber) (mark : Option ℕ) (n : ℕ) (seats : Seats) → IsNumber number → MayHaveSeats number mark seats → n < 45
-    → spare_in number mark seats (seats_from number + n) ≡ seats_sector n seats
+pub seat_spare : (number : VersionNumber) (mark : Option ℕ) (n : ℕ) (seats : Seats) → IsNumber number → MayHaveSeats number mark seats → n < all_sectors (sizes_by number)
+    → spare_in number mark seats (seats_from number + n) ≡ seats_sector (sizes_by number) n seats
 seat_spare numbers.One mark n seats is may low =
-    ap (λ (s : Seats). spare_by s mark (100 + n)) (sym may) ∙ (spare_seats seats mark (100 + n) (λ e. omega (arith, e, low)) ∙ ap (λ (k : ℕ). seats_sector k seats) (omega arith))
-seat_spare numbers.Two mark n seats is may low = spare_seats seats mark (100 + n) (λ e. omega (arith, e, low)) ∙ ap (λ (k : ℕ). seats_sector k seats) (omega arith)
+    let few : n < 45 = low in
+    ap (λ (s : Seats). spare_by s mark (100 + n)) (sym may) ∙ (spare_seats seats mark (100 + n) (λ e. omega (arith, e, few)) ∙ ap (λ (k : ℕ). seats_sector five_places k seats) (omega arith))
+seat_spare numbers.Two mark n seats is may low =
+    let few : n < 45 = low in
+    spare_seats seats mark (100 + n) (λ e. omega (arith, e, few)) ∙ ap (λ (k : ℕ). seats_sector five_places k seats) (omega arith)
 seat_spare (numbers.Three s) mark n seats is may low =
     let first = seats_start s.geometry in
     rw (le-ltb (first + n) 148 (omega (arith, behind_nodes s.geometry is.fits)), (let e : first + n - first ≡ n = omega arith in e)) refl
@@ -110,8 +141,8 @@ pub holds_seats : (number : VersionNumber) (mark : Option ℕ) (seats : Seats) (
 holds_seats number mark seats image is may spare n within =
     spare (seats_from number + n) (seat_is_spare number n seats within) ∙ seat_spare number mark n seats is may (within_seats number n seats within)
 
-pub seats_held : (number : VersionNumber) (seats : Seats) (image : Image) → ArePlaces seats → HoldSeats number image seats → seats_at number image ≡ seats
-seats_held number seats image places holds = seats-back (frees_whole number) seats (λ n. image (seats_from number + n)) places
+pub seats_held : (number : VersionNumber) (seats : Seats) (image : Image) → IsNumber number → ArePlaces (sizes_by number) seats → HoldSeats number image seats → seats_at number image ≡ seats
+seats_held number seats image is_number places holds = seats-back (sizes_by number) (frees_whole number) seats (λ n. image (seats_from number + n)) (sizes_are number is_number) places
     (λ n low is. holds n (is_seat number n seats low is))
 
 -- the parts of a volume
@@ -129,14 +160,30 @@ version_region (numbers.Three s) mark seats size nodes is sized =
 none_seated : (id : List ℕ) → has_seat id no_seats ≡ true → ⊥
 none_seated id has = cc
 
-pub no_seats_kept : (run : ℕ) → AreKept run no_seats
+pub no_seats_kept : (run : ℕ) → AreKept five_places run no_seats
 no_seats_kept run = record {
-  places = record { five = refl; each = (tt, (tt, (tt, (tt, (tt, tt))))) };
+  places = record { count = refl; each = (tt, (tt, (tt, (tt, (tt, tt))))) };
   of_runs = record { apart = tt; made = λ id has. absurd (none_seated id has) };
 }
 
-pub kept_later : (run later : ℕ) (seats : Seats) → run ≤ later → AreKept run seats → AreKept later seats
-kept_later run later seats rises kept = record {
+free_apart : (count : ℕ) → SeatsApart (replicate count None)
+free_apart zero = tt
+free_apart (suc count) = free_apart count
+
+none_free : (count : ℕ) (id : List ℕ) → has_seat id (replicate count None) ≡ false
+none_free zero id = refl
+none_free (suc count) id = none_free count id
+
+pub free_seats_kept : (number : VersionNumber) (run : ℕ) → AreKept (sizes_by number) run (free_seats number)
+free_seats_kept number run =
+    let sizes = sizes_by number in
+    record {
+      places = free_places sizes;
+      of_runs = record { apart = free_apart sizes.places; made = λ id has. absurd (let none = none_free sizes.places id in cc) };
+    }
+
+pub kept_later : (sizes : SeatSizes) (run later : ℕ) (seats : Seats) → run ≤ later → AreKept sizes run seats → AreKept sizes later seats
+kept_later sizes run later seats rises kept = record {
   places = kept.places;
   of_runs = record {
     apart = kept.of_runs.apart;

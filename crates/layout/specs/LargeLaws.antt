@@ -13,9 +13,9 @@ use Rattle.layout.specs.FreshLaws.{root_fields}
 use Rattle.layout.specs.Large.{rest_of}
 use Rattle.layout.specs.Stands.{HasRegion, TreeStands}
 use Rattle.layout.specs.Superblock as layout
-use Rattle.layout.specs.Versions.{version_by}
+use Rattle.layout.specs.Versions.{free_seats, version_by}
 use Rattle.layout.specs.declared.versions.VersionNumber.TheVariants.{Three}
-use Rattle.model_tree.specs.Seats.Seats.{Seats, no_seats}
+use Rattle.model_tree.specs.Seats.Seats.{Seats}
 use Rattle.model_tree.specs.Trees.Fresh.{fresh_tree}
 
 -- its first sector is the encoding of the superblock with the restart count
@@ -45,5 +45,5 @@ pub record IsLargeFresh (s : Superblock) (image : Image) : Type 0 where
 abbrev pub LargeFresh : Type 0
 LargeFresh =
     (s : Superblock) (image : Image) → IsSuperblock s → IsLargeFresh s image
-    → TreeStands (version_by (Three s) None no_seats) s.geometry.sectors s.geometry.nodes image 0
-    fresh_tree
+    → TreeStands (version_by (Three s) None (free_seats (Three s))) s.geometry.sectors
+    s.geometry.nodes image 0 fresh_tree

@@ -9,13 +9,14 @@ use Rattle.model_tree.specs.Trees.Stamp.{stamp}
 use Rattle.model_tree.specs.Trees.Tree.{Tree}
 use Rattle.model_tree.specs.Trees.WellFormed.{IsWellFormed, IsBefore}
 use Rattle.seats.specs.Encoding.{ArePlaces}
+use Rattle.seats.specs.declared.sizes.SeatSizes.{SeatSizes}
 use Rattle.layout.specs.CachedNodes.{CachedNode, cached_nodes_in, tree_in}
 use Rattle.layout.specs.Laid.{AreLaid}
 use Rattle.layout.specs.Marks.{mark_in, named}
 use Rattle.layout.specs.Superblock.{superblock}
-use Rattle.layout.specs.Versions.{Version, IsNumber, IsVersion, MayHaveSeats, current_version, end_of, version_by}
+use Rattle.layout.specs.Versions.{Version, IsNumber, IsVersion, MayHaveSeats, current_version, end_of, free_seats, sizes_by, version_by}
 unfoldable pub use Rattle.layout.specs.Versions.{mark_sector}
-pub use Rattle.layout.specs.Versions.{Version, IsVersion, By, IsMark, IsNumber, MayHaveSeats, HoldSeats, current_version, data_end_by, end_of, form_by, frees_whole, is_before_nodes, is_seat_sector, limits_by, log_by, mark_fields, mark_held, marking_by, moved_by, number_of_version, rest_by, seats_at, seats_from, served, served_number, size_by, spare_by, spare_in, is_spare_in, version_1, version_2, version_by}
+pub use Rattle.layout.specs.Versions.{Version, IsVersion, By, IsMark, IsNumber, MayHaveSeats, HoldSeats, current_version, data_end_by, end_of, five_places, form_by, free_seats, frees_whole, is_before_nodes, is_seat_sector, limits_by, log_by, mark_fields, mark_held, marking_by, moved_by, number_of_version, rest_by, seats_at, seats_from, served, served_number, size_by, sizes_by, spare_by, spare_in, is_spare_in, version_1, version_2, version_by}
 
 -- how often each sector is marked: by the bitmap in two sectors, or by the nodes that name it
 abbrev pub marked_by : Marking → (nodes : ℕ) → Image → List (Option CachedNode) → (n : ℕ) → ℕ
@@ -24,8 +25,8 @@ marked_by AsNamed nodes image cached_nodes n = named n cached_nodes
 
 -- the seats of a volume that was mounted `run` times: they can be encoded, no two are of the same
 -- session, and each session was made in one of these runs
-pub record AreKept (run : ℕ) (seats : Seats) : Type 0 where
-  pub places : ArePlaces seats
+pub record AreKept (sizes : SeatSizes) (run : ℕ) (seats : Seats) : Type 0 where
+  pub places : ArePlaces sizes seats
   pub of_runs : AreOfRuns run seats
 
 -- each node has the form of its place
@@ -84,15 +85,18 @@ pub record Kept : Type 0 where
   pub tree : Tree
   pub seats : Seats
 
--- a tree with no seats beside it
+-- a tree with no seats beside it: in versions 1 and 2, and in each
 abbrev pub bare : Tree → Kept
 bare tree = record { tree = tree; seats = no_seats }
+
+abbrev pub bare_in : VersionNumber → Tree → Kept
+bare_in number tree = record { tree = tree; seats = free_seats number }
 
 -- Its sectors represent both, in one of the versions
 pub record StandsAs (size nodes : ℕ) (image : Image) (run : ℕ) (kept : Kept) : Type 0 where
   pub version : Version
   pub is_version : IsVersion nodes version kept.seats
-  pub keeps : AreKept run kept.seats
+  pub keeps : AreKept version.sizes run kept.seats
   pub stands : TreeStands version size nodes image run kept.tree
 
 -- They represent both in the version of this number, with no mark
@@ -100,5 +104,5 @@ pub record StandsNow (number : VersionNumber) (size nodes : ℕ) (image : Image)
     (kept : Kept) : Type 0 where
   pub is_number : IsNumber number
   pub may : MayHaveSeats number None kept.seats
-  pub keeps : AreKept run kept.seats
+  pub keeps : AreKept (sizes_by number) run kept.seats
   pub stands : TreeStands (version_by number None kept.seats) size nodes image run kept.tree

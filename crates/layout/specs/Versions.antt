@@ -10,7 +10,7 @@ use Rattle.inode.specs.declared.node.Form.{Form}
 use Rattle.inode.specs.declared.node.Form.TheVariants as forms
 use Rattle.journal.specs.Layout.{log_at_start}
 use Rattle.journal.specs.declared.layout.LogArea.{LogArea}
-use Rattle.layout.specs.Large.{is_large_spare, large_spare, rest_of}
+use Rattle.layout.specs.Large.{is_large_spare, large_sizes, large_spare, rest_of}
 use Rattle.layout.specs.Superblock.{is_size, no_rest}
 use Rattle.layout.specs.declared.versions.Marking.{Marking}
 use Rattle.layout.specs.declared.versions.Marking.TheVariants.{InSectors, AsNamed}
@@ -19,8 +19,10 @@ use Rattle.layout.specs.declared.versions.VersionNumber.TheVariants.{One, Two, T
 use Rattle.model_tree.specs.Seats.Seats.{Seats, no_seats}
 use Rattle.model_tree.specs.Trees.Limits.{limits_of}
 use Rattle.model_tree.specs.declared.limits.Limits.{Limits}
-use Rattle.seats.specs.Encoding.{is_determined, seats_sector}
+use Rattle.seats.specs.Encoding.{is_determined_in, seats_sector}
 use Rattle.seats.specs.Reading.{seats_in}
+use Rattle.seats.specs.Sizes.{all_sectors}
+use Rattle.seats.specs.declared.sizes.SeatSizes.{SeatSizes}
 
 -- What versions of the layout differ in
 pub record Version : Type 0 where
@@ -34,6 +36,8 @@ pub record Version : Type 0 where
   pub marking : Marking
   pub data_end : (size : ℕ) → ℕ
   pub log : (size : ℕ) → LogArea
+  -- how many places there are for seats, and the slots of each
+  pub sizes : SeatSizes
   -- the form of a node's sector at each place of the table
   pub form : (place : ℕ) → Form
   -- which sectors are neither of a bitmap, of the node table nor of the data region, as far as what
@@ -95,6 +99,20 @@ log_by One size = log_at_start size
 log_by Two size = log_at_start size
 log_by (Three s) size = log_area s.geometry
 
+-- the places for seats: five with room for two slots each, or as many as the superblock says
+
+abbrev pub five_places : SeatSizes
+five_places = record { places = 5; slots = 2 }
+
+abbrev pub sizes_by : VersionNumber → SeatSizes
+sizes_by One = five_places
+sizes_by Two = five_places
+sizes_by (Three s) = large_sizes s.geometry
+
+-- all of them free
+abbrev pub free_seats : VersionNumber → Seats
+free_seats number = let sizes = sizes_by number in replicate sizes.places None
+
 -- The mark of a migration from version 1 to version 2: `MIGR`, how many places of the table have
 -- nodes of form two, and zeros
 
@@ -128,7 +146,7 @@ is_before_nodes sector = nat_le 100 sector && nat_lt sector 148
 
 abbrev pub spare_by : Seats → (mark : Option ℕ) → (sector : ℕ) → List ℕ
 spare_by seats mark sector =
-    if sector == 147 then mark_held mark else seats_sector (sector - 100) seats
+    if sector == 147 then mark_held mark else seats_sector five_places (sector - 100) seats
 
 abbrev pub is_spare_in : VersionNumber → Seats → (sector : ℕ) → Bool
 is_spare_in One seats sector = is_before_nodes sector
@@ -149,6 +167,7 @@ version_by number mark seats = record {
   marking = marking_by number;
   data_end = data_end_by number;
   log = log_by number;
+  sizes = sizes_by number;
   form = form_by number mark;
   is_spare = is_spare_in number seats;
   spare = spare_in number mark seats;
@@ -220,18 +239,18 @@ frees_whole One = true
 frees_whole Two = true
 frees_whole (Three s) = false
 
--- which of their 45 sectors are determined
+-- which of their sectors are determined
 abbrev pub is_seat_sector : VersionNumber → (n : ℕ) → Seats → Bool
 is_seat_sector number n seats =
-    nat_lt n 45
-    && is_determined (frees_whole number) (n % 9) (slice_index_or seats (n / 9) None)
+    nat_lt n (all_sectors (sizes_by number))
+    && is_determined_in (sizes_by number) (frees_whole number) n seats
 
 -- the sectors hold these seats
 abbrev pub HoldSeats : VersionNumber → Image → Seats → Type 0
 HoldSeats number image seats =
     (n : ℕ) → IsTrue (is_seat_sector number n seats)
-    → image (seats_from number + n) ≡ seats_sector n seats
+    → image (seats_from number + n) ≡ seats_sector (sizes_by number) n seats
 
 -- the seats that the sectors encode, whatever they hold
 abbrev pub seats_at : VersionNumber → Image → Seats
-seats_at number image = seats_in (λ n. image (seats_from number + n))
+seats_at number image = seats_in (sizes_by number) (λ n. image (seats_from number + n))

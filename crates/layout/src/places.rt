@@ -6,11 +6,11 @@ pub const BITMAP: u32 = 98;
 /// The first of the spare sectors: the seats of persistent sessions, then zeros, then the mark.
 pub const SPARE: u32 = 100;
 
-/// How many sectors the place of a seat has: the first one, and those of its slots.
-pub const PLACE_SECTORS: u32 = 9;
+/// How many seats versions 1 and 2 have room for.
+pub const SEATS: u32 = 5;
 
-/// How many sectors a slot of a seat has.
-pub const SLOT_SECTORS: u32 = 4;
+/// How many slots each of them has room for.
+pub const SEAT_SLOTS: u32 = 2;
 
 /// The first sector after the seats; those from it up to the mark are zero.
 pub const BEHIND_SEATS: u32 = 145;

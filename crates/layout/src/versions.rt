@@ -5,12 +5,13 @@ ghost use Rattle.layout.specs.Versions as marks;
 ghost use Rattle.layout.specs.Versions.{IsMark, mark_fields, mark_held, version_by};
 ghost use Rattle.model_tree.specs.Seats.Seats.{no_seats};
 
-use crate::places::{NODES, SPARE};
+use crate::places::{NODES, SEAT_SLOTS, SEATS, SPARE};
 use disk::SECTOR;
 use geometry::Superblock;
 use inode::Form;
 use journal::LogArea;
 use model_tree::limits::Limits;
+use seats::SeatSizes;
 use sector::{put_bytes, put_u32, put_zeros};
 
 /// The bytes that a mark begins with.
@@ -39,7 +40,8 @@ pub enum Marking {
 impl VersionNumber {
     ghost use Rattle.std.specs.Prelude.{◌≡◌, ◌≤◌, ◌+◌};
     ghost use Rattle.layout.specs.Versions.{IsNumber, data_end_by, limits_by, log_by, marking_by};
-    ghost use Rattle.layout.specs.Versions.{frees_whole, number_of_version, seats_from, served};
+    ghost use Rattle.layout.specs.Versions.{frees_whole, number_of_version, seats_from, served, sizes_by};
+    ghost use Rattle.seats.specs.Sizes.{AreSizes};
 
     /// The version in which `nfs41` makes volumes.
     pub const CURRENT: VersionNumber = VersionNumber::Two;
@@ -94,6 +96,24 @@ impl VersionNumber {
         match self {
             VersionNumber::One | VersionNumber::Two => SPARE,
             VersionNumber::Three(superblock) => superblock.geometry.seats_start(),
+        }
+    }
+
+    /// How many places there are for seats, and the slots of each.
+    pub fn seat_sizes(self) -> SeatSizes
+        requires { IsNumber self }
+        ensures value { result ≡ sizes_by self }
+        ensures sizes { AreSizes result }
+    {
+        match self {
+            VersionNumber::One | VersionNumber::Two => SeatSizes {
+                places: SEATS,
+                slots: SEAT_SLOTS,
+            },
+            VersionNumber::Three(superblock) => SeatSizes {
+                places: superblock.geometry.seats as u32,
+                slots: superblock.geometry.slots as u32,
+            },
         }
     }
 

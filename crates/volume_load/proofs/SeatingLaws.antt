@@ -1,23 +1,25 @@
 -- What the sectors of seats hold, and which seats a volume may keep.
-use Rattle.std.proofs.Common.{◌≡◌, ◌≤◌, ◌<◌, ◌+◌, ◌-◌, ◌*◌, ◌/◌, ◌%◌, ◌^◌, ℕ, zero, suc, Bool, true, false, List, [], ◌∷◌, Option, Some, None, if◌then◌else◌, length, get_or, drop, take, map, is_some, eqb, refl, sym, ap, ap₂, subst, ◌∙◌, arith}
+use Rattle.std.proofs.Common.{◌≡◌, ◌≤◌, ◌<◌, ◌+◌, ◌-◌, ◌*◌, ◌/◌, ◌%◌, ◌^◌, ℕ, zero, suc, Bool, true, false, List, [], ◌∷◌, Option, Some, None, if◌then◌else◌, length, get_or, replicate, drop, take, map, is_some, eqb, inl, inr, refl, sym, ap, ap₂, subst, ◌∙◌, arith}
 use Rattle.std.specs.Prelude.{IsTrue}
-use Rattle.std.proofs.lemmas.Bool.{and_parts, eqb-true, false≢true}
-use Rattle.std.proofs.lemmas.List.{ext_get_or, get_or-map, length-map, length-drop, take_all, drop-map}
+use Rattle.std.proofs.lemmas.Bool.{cases_lt, and_parts, eqb-true, false≢true}
+use Rattle.std.proofs.lemmas.List.{get_or-replicate, get_or-map, length-map, length-drop, take_all, drop-map}
 use Rattle.std.proofs.Math.Seq.{drop-cons}
 use Rattle.disk.specs.Moments.{Image}
 use Rattle.model_tree.specs.declared.seats.Seat as seats
-use Rattle.model_tree.specs.Seats.SeatViews.{place_view}
+use Rattle.model_tree.specs.Seats.SeatViews.{place_view, seat_view}
 use Rattle.model_tree.specs.Seats.Seats.{Seat, Seats, SeatsApart, has_seat, is_seat_of, no_seats, seat_of}
 use Rattle.model_tree.proofs.Facts.BytesLaws.{bytes_same}
 use Rattle.seats.specs.Encoding.{ArePlaces, HoldPlace, IsSeatPlace, is_determined, seat_sector}
 use Rattle.directory.proofs.Places.{bytes_eq-true}
 use Rattle.sector.specs.Written.{each_at}
-use Rattle.layout.specs.Stands.{HoldSeats, IsNumber, frees_whole, seats_from, size_by}
+use Rattle.layout.specs.Stands.{HoldSeats, IsNumber, five_places, frees_whole, seats_from, size_by, sizes_by}
 use Rattle.layout.specs.declared.versions.VersionNumber.{VersionNumber}
 use Rattle.layout.specs.declared.versions.VersionNumber.TheVariants as numbers
 use Rattle.layout.proofs.FirstLaws.{sized_parts}
-use Rattle.layout.proofs.LargeParts.{seats_45}
-use Rattle.layout.proofs.SeatLaws.{is_seat, seats_held}
+use Rattle.seats.specs.Sizes.{all_sectors, place_sectors}
+use Rattle.seats.specs.declared.sizes.SeatSizes.{SeatSizes}
+use Rattle.seats.proofs.Places.{part_of_place, place_of_part, places_held, within_places}
+use Rattle.layout.proofs.SeatLaws.{is_seat, seat_determined, seats_held, within_seats}
 use Rattle.volume_load.specs.Seating.{AreMade, IsOfRuns, at_place}
 
 -- The places that the code holds
@@ -34,33 +36,47 @@ count_viewed places = length-map places place_view
 -- The sectors of all places hold each place
 
 module _ (number : VersionNumber) (image : Image) where
-  pub hold_one : (seats : Seats) (place : ℕ) → place < 5 → HoldSeats number image seats → HoldPlace (frees_whole number) (at_place (seats_from number) image place) (get_or seats place None)
+  abbrev sizes : SeatSizes
+  sizes = sizes_by number
+
+  abbrev w : ℕ
+  w = place_sectors sizes
+
+  pub hold_one : (seats : Seats) (place : ℕ) → place < sizes.places → HoldSeats number image seats → HoldPlace sizes.slots (frees_whole number) (at_place sizes (seats_from number) image place) (get_or seats place None)
   hold_one seats place few holds k h is =
-      let at : (9 * place + k) % 9 ≡ k = omega arith in
-      let its : (9 * place + k) / 9 ≡ place = omega arith in
+      let at = part_of_place w place k h in
+      let its = place_of_part w place k h in
       let whole = ap₂ (λ (n p : ℕ). is_determined (frees_whole number) n (get_or seats p None)) at its in
-      holds (9 * place + k) (is_seat number (9 * place + k) seats (omega arith) (whole ∙ is)) ∙ ap₂ (λ (n p : ℕ). seat_sector n (get_or seats p None)) at its
+      holds (w * place + k) (is_seat number (w * place + k) seats (within_places w sizes.places place k few h) (whole ∙ is)) ∙ ap₂ (λ (n p : ℕ). seat_sector n (get_or seats p None)) at its
+
+  -- and if they hold each, they hold all
+  pub holds_all : (seats : Seats) → ((place : ℕ) → place < sizes.places → HoldPlace sizes.slots (frees_whole number) (at_place sizes (seats_from number) image place) (get_or seats place None)) → HoldSeats number image seats
+  holds_all seats each n is =
+      places_held sizes seats (frees_whole number) (λ m. image (seats_from number + m)) each n (within_seats number n seats is) (seat_determined number n seats is)
 
   -- so they hold at most one list of seats
-  pub one_seats : (a b : Seats) → ArePlaces a → ArePlaces b → HoldSeats number image a → HoldSeats number image b → a ≡ b
-  one_seats a b first second holds other = sym (seats_held number a image first holds) ∙ seats_held number b image second other
+  pub one_seats : (a b : Seats) → IsNumber number → ArePlaces (sizes_by number) a → ArePlaces (sizes_by number) b → HoldSeats number image a → HoldSeats number image b → a ≡ b
+  one_seats a b is first second holds other = sym (seats_held number a image is first holds) ∙ seats_held number b image is second other
 
-pub place_of : (seats : Seats) (place : ℕ) → place < 5 → ArePlaces seats → IsSeatPlace (get_or seats place None)
-place_of seats place few are = each_at IsSeatPlace seats place None are.each (omega (arith, are.five))
+pub place_of : (sizes : SeatSizes) (seats : Seats) (place : ℕ) → place < sizes.places → ArePlaces sizes seats → IsSeatPlace sizes.slots (get_or seats place None)
+place_of sizes seats place few are = each_at (IsSeatPlace sizes.slots) seats place None are.each (omega (arith, are.count))
 
 -- they lie within the volume
-pub seats_within : (number : VersionNumber) (size nodes : ℕ) → IsNumber number → IsTrue (size_by number size nodes) → seats_from number + 45 ≤ size
-seats_within numbers.One size nodes is sized = omega (arith, (let parts = sized_parts size nodes sized in parts.room))
-seats_within numbers.Two size nodes is sized = omega (arith, (let parts = sized_parts size nodes sized in parts.room))
+pub seats_within : (number : VersionNumber) (size nodes : ℕ) → IsNumber number → IsTrue (size_by number size nodes) → seats_from number + all_sectors (sizes_by number) ≤ size
+seats_within numbers.One size nodes is sized = let low : 145 ≤ size = omega (arith, (let parts = sized_parts size nodes sized in parts.room)) in low
+seats_within numbers.Two size nodes is sized = let low : 145 ≤ size = omega (arith, (let parts = sized_parts size nodes sized in parts.room)) in low
 seats_within (numbers.Three s) size nodes is sized =
     let both = and_parts (eqb s.geometry.sectors size) (eqb s.geometry.nodes nodes) sized in
-    omega (arith, eqb-true s.geometry.sectors size both.0, is.fits.room, seats_45 s.geometry is.fits)
+    let all : all_sectors (sizes_by (numbers.Three s)) ≡ s.geometry.seats * (1 + 4 * s.geometry.slots) = refl in
+    omega (arith, eqb-true s.geometry.sectors size both.0, is.fits.room, all)
 
 -- and their sectors have numbers of four bytes
-pub seats_fit : (number : VersionNumber) → IsNumber number → seats_from number + 45 < 2 ^ 32
-seats_fit numbers.One is = omega arith
-seats_fit numbers.Two is = omega arith
-seats_fit (numbers.Three s) is = omega (arith, is.fits.room, is.fits.sectors, seats_45 s.geometry is.fits)
+pub seats_fit : (number : VersionNumber) → IsNumber number → seats_from number + all_sectors (sizes_by number) < 2 ^ 32
+seats_fit numbers.One is = let low : 145 < 2 ^ 32 = omega arith in low
+seats_fit numbers.Two is = let low : 145 < 2 ^ 32 = omega arith in low
+seats_fit (numbers.Three s) is =
+    let all : all_sectors (sizes_by (numbers.Three s)) ≡ s.geometry.seats * (1 + 4 * s.geometry.slots) = refl in
+    omega (arith, is.fits.room, is.fits.sectors, all)
 
 -- Seats of distinct sessions
 
@@ -122,13 +138,37 @@ made_each run (Some seat ∷ seats) each id has = made_by run id seat seats (is_
 
 -- Free places
 
-free_at : (k : ℕ) → get_or no_seats k None ≡ None
-free_at zero = refl
-free_at (suc zero) = refl
-free_at (suc (suc zero)) = refl
-free_at (suc (suc (suc zero))) = refl
-free_at (suc (suc (suc (suc zero)))) = refl
-free_at (suc (suc (suc (suc (suc k))))) = refl
+pub all_free : (seats : Seats) → ((k : ℕ) → k < length seats → get_or seats k None ≡ None) → seats ≡ replicate (length seats) None
+all_free [] none = refl
+all_free (place ∷ seats) none =
+    ap₂ (λ (one : Option Seat) (others : Seats). one ∷ others) (none 0 (omega arith)) (all_free seats (λ k h. none (suc k) (omega arith)))
 
-pub all_free : (seats : Seats) → length seats ≡ 5 → ((k : ℕ) → k < 5 → get_or seats k None ≡ None) → seats ≡ no_seats
-all_free seats five none = ext_get_or None seats no_seats five (λ k h. none k (omega (arith, five)) ∙ sym (free_at k))
+-- a seat is in none of them
+pub not_free : (seats : Seats) (k : ℕ) (seat : Seat) → k < length seats → get_or seats k None ≡ Some seat → seats ≡ replicate (length seats) None → ⊥
+not_free seats k seat within there free =
+    let none : get_or seats k None ≡ None = ap (λ (l : Seats). get_or l k None) free ∙ get_or-replicate (length seats) k None None within in
+    let no : None ≡ Some seat = sym none ∙ there in
+    cc
+
+pub some_there : (places : List (Option seats.Seat)) (i : ℕ) (place : Option seats.Seat) → i < length places → place ≡ get_or places i place → is_some place ≡ true
+    → map place_view places ≡ replicate (length (map place_view places)) None → ⊥
+some_there places i None low is some free = false≢true some
+some_there places i (Some seat) low is some free =
+    not_free (map place_view places) i (seat_view seat) (omega (arith, low, count_viewed places)) (view_at places i (Some seat) low is) free
+
+-- the places up to this one are free
+pub none_yet : (places : List (Option seats.Seat)) (i : ℕ) (place : Option seats.Seat) → i < length places → place ≡ get_or places i place → is_some place ≡ false
+    → ((k : ℕ) → k < i → get_or (map place_view places) k None ≡ None) → (k : ℕ) → k < i + 1 → get_or (map place_view places) k None ≡ None
+none_yet places i (Some seat) low is none before k below = absurd (false≢true (sym none))
+none_yet places i None low is none before k below = elim (cases_lt k i) [
+  | inl earlier ↦ before k earlier
+  | inr last ↦ (let here : k ≡ i = omega (arith, below, last) in ap (λ (n : ℕ). get_or (map place_view places) n None) here ∙ view_at places i None low is)
+]
+
+-- with five places they are those of a volume that keeps none
+pub five_free : (its : SeatSizes) (seats : Seats) → its ≡ five_places → ArePlaces its seats → seats ≡ replicate (length seats) None → seats ≡ no_seats
+five_free its seats five are free =
+    free ∙ ap (λ (n : ℕ). replicate n None) (are.count ∙ ap (λ (of : SeatSizes). of.places) five)
+
+pub none_free : (seats : Seats) → seats ≡ no_seats → seats ≡ replicate (length seats) None
+none_free seats is = is ∙ ap (λ (n : ℕ). replicate n None) (sym (ap (λ (l : Seats). length l) is))

@@ -11,7 +11,7 @@ use Rattle.layout.specs.Laid.{AreLaid, AreNumbered}
 use Rattle.layout.specs.Marks.{named, mark_in, mark_by}
 use Rattle.layout.specs.declared.versions.Marking.{Marking}
 use Rattle.layout.specs.declared.versions.Marking.TheVariants.{InSectors, AsNamed}
-use Rattle.layout.specs.Stands.{marked_by, HoldSeats, AreKept, HaveForms, IsLaid, IsMark, IsNumber, MayHaveSeats, data_end_by, form_by, mark_held, marking_by, version_by}
+use Rattle.layout.specs.Stands.{marked_by, HoldSeats, AreKept, HaveForms, IsLaid, IsMark, IsNumber, MayHaveSeats, data_end_by, form_by, mark_held, marking_by, version_by, sizes_by}
 use Rattle.layout.specs.declared.versions.VersionNumber.{VersionNumber}
 use Rattle.model_tree.specs.Seats.Seats.{Seats}
 use Rattle.layout.proofs.CachedNodeLaws.{cached_nodes-back}
@@ -104,7 +104,7 @@ marks_are InSectors word form image nodes count cached_nodes places small found 
     marks_laid nodes count image places (small refl) (record { count_is = found.len; low_shows = shown.0; high_shows = shown.1 })
 marks_are AsNamed word form image nodes count cached_nodes places small found shown = λ n. sym (found.marks n)
 
-module _ (word : Type 0) (number : VersionNumber) (run : ℕ) (mark : Option ℕ) (seats : Seats) (image : Image) (size nodes count : ℕ) (cached_nodes : List (Option CachedNode)) (places : List Bool) (is_number : IsNumber number) (sized : data_end_by number size ≡ 148 + nodes + count) (small : marking_by number ≡ InSectors → count ≤ 65536) (marked : IsMark number nodes mark) (may : MayHaveSeats number mark seats) (keeps : AreKept run seats)
+module _ (word : Type 0) (number : VersionNumber) (run : ℕ) (mark : Option ℕ) (seats : Seats) (image : Image) (size nodes count : ℕ) (cached_nodes : List (Option CachedNode)) (places : List Bool) (is_number : IsNumber number) (sized : data_end_by number size ≡ 148 + nodes + count) (small : marking_by number ≡ InSectors → count ≤ 65536) (marked : IsMark number nodes mark) (may : MayHaveSeats number mark seats) (keeps : AreKept (sizes_by number) run seats)
     (found : IsFound word (form_by number mark) image nodes count cached_nodes places) (apart : AreNumbered cached_nodes) (shown : word → ShowMarks (marking_by number) image places) (there : word → image 147 ≡ mark_held mark) (holds : word → HoldSeats number image seats) (spare : word → AreSpare (zeros_from number) image) where
   known : AreCached nodes (mark_by (148 + nodes) places) cached_nodes
   known =
@@ -162,7 +162,7 @@ module _ (word : Type 0) (number : VersionNumber) (run : ℕ) (mark : Option ℕ
       laid = laid w;
       forms = forms;
       within = λ n h. same w n ∙ (let each = each_mark (148 + nodes) places 0 in each.within n (omega (arith, found.len)));
-      spare = spare_there number nodes mark seats image is_number marked may keeps.places.five (there w) (holds w) (spare w);
+      spare = spare_there number nodes mark seats image is_number marked may keeps.places (there w) (holds w) (spare w);
     };
     read = λ w. let all = laid w in sym (cached_nodes-back image nodes cached_nodes found.many all.held);
   }

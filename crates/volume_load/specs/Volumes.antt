@@ -9,7 +9,7 @@ use Rattle.model_tree.specs.Trees.Tree.{Tree}
 use Rattle.layout.specs.Known.{AreCached}
 use Rattle.layout.specs.Marks.{mark_by}
 use Rattle.layout.specs.Stands.{Version, AreKept, HaveForms, IsLaid, IsMark, MayHaveSeats, TreeStands}
-use Rattle.layout.specs.Stands.{data_end_by, version_by}
+use Rattle.layout.specs.Stands.{data_end_by, sizes_by, version_by}
 
 -- no node has more blocks than a file may have
 abbrev pub AreFew : List (Option CachedNode) → Type 0
@@ -26,7 +26,7 @@ pub record IsRead (word : Type 0) (size nodes : ℕ) (number : VersionNumber) (r
     (places : List Bool) : Type 0 where
   pub marked : IsMark number nodes mark
   pub may : MayHaveSeats number mark seats
-  pub keeps : AreKept run seats
+  pub keeps : AreKept (sizes_by number) run seats
   pub known : AreCached nodes (mark_by (148 + nodes) places) cached_nodes
   pub forms : HaveForms (version_by number mark seats) cached_nodes
   pub few : AreFew cached_nodes

@@ -1,24 +1,24 @@
 //! The seats of persistent sessions.
 
-ghost use Rattle.std.specs.Prelude.{◌≡◌, ◌≤◌, ◌<◌, ◌+◌, ◌*◌, ◌^◌, ◌↔◌, ◌⊎◌, ℕ, Option, true};
-ghost use Rattle.std.specs.Prelude.{IfOk, IsErrOf, IsTrue, length, map, slice_index_or, []};
+ghost use Rattle.std.specs.Prelude.{◌≡◌, ◌≤◌, ◌<◌, ◌+◌, ◌*◌, ◌^◌, ◌↔◌, ◌⊎◌, ℕ, Option, None, false, true};
+ghost use Rattle.std.specs.Prelude.{IfOk, IsErrOf, IsTrue, length, map, replicate, slice_index_or, []};
 ghost use Rattle.layout.specs.Health.{FailsOrStays};
-ghost use Rattle.layout.specs.Stands.{HoldSeats, IsNumber, MayHaveSeats, seats_from};
+ghost use Rattle.layout.specs.Stands.{HoldSeats, IsNumber, MayHaveSeats, five_places, seats_from, sizes_by};
 ghost use Rattle.model_tree.specs.Seats.Seats as model;
 ghost use Rattle.model_tree.specs.Seats.Seats.{SeatsApart, AreOfRuns, has_seat, no_seats};
 ghost use Rattle.model_tree.specs.Seats.SeatViews.{place_view, seats_view};
 ghost use Rattle.volume_load.specs.Seating.{AreMade, IsOfRuns, MayStand, at_place};
 ghost use Rattle.seats.specs.Encoding.{ArePlaces, HoldPlace, IsSeatPlace};
+ghost use Rattle.seats.specs.Sizes.{AreSizes, all_sectors, place_sectors};
 
 use crate::fault::ScanFault;
 use crate::sectors::fetch;
 use byteorder::{BigEndian, ByteOrder};
 use disk::SECTOR;
-use layout::places::PLACE_SECTORS;
 use layout::sectors::Sectors;
 use layout::versions::VersionNumber;
-use model_tree::seats::{SEATS, Seat, Seats};
-use seats::read_seat;
+use model_tree::seats::{Seat, Seats};
+use seats::{SeatSizes, read_seat};
 use std::alloc::Global;
 
 /// The sectors of a place. The seats begin at sector `first`.
@@ -26,24 +26,29 @@ fn fetch_place<S: Sectors>(
     alloc: Global,
     sectors: &mut S,
     first: u32,
+    sizes: SeatSizes,
     place: u32,
 ) -> Result<Vec<[u8; SECTOR]>, ScanFault>
-    requires place { place < 5 }
-    requires fits { first + 45 < 2 ^ 32 }
-    requires within { first + 45 ≤ S.size (S.kept sectors.old) }
-    ensures count { IfOk result (λ content. length content.items ≡ 9) }
-    ensures content { S.keeps_word → IfOk result (λ content. (k : ℕ) → k < 9
+    // The place is one of the volume's
+    requires sizes { AreSizes sizes }
+    requires place { place < sizes.places }
+    requires fits { first + all_sectors sizes < 2 ^ 32 }
+    requires within { first + all_sectors sizes ≤ S.size (S.kept sectors.old) }
+    // What is read
+    ensures count { IfOk result (λ content. length content.items ≡ place_sectors sizes) }
+    ensures content { S.keeps_word → IfOk result (λ content. (k : ℕ) → k < place_sectors sizes
         → slice_index_or content.items k []
-        ≡ at_place first (S.image (S.kept sectors.old)) place k) }
+        ≡ at_place sizes first (S.image (S.kept sectors.old)) place k) }
     ensures damaged { ¬ IsErrOf result ScanFault.Damaged }
     // It only reads
     ensures kept { S.kept sectors.new ≡ S.kept sectors.old }
     ensures health { FailsOrStays (S.health sectors.old) (S.health sectors.new)
         (IsErrOf result ScanFault.Device) }
 {
-    let mut content = Vec::with_capacity(alloc, PLACE_SECTORS as usize)?;
-    for k in 0..PLACE_SECTORS {
-        let sector = fetch(sectors, first + (PLACE_SECTORS * place + k))?;
+    let count = sizes.place_sectors();
+    let mut content = Vec::with_capacity(alloc, count as usize)?;
+    for k in 0..count {
+        let sector = fetch(sectors, first + (count * place + k))?;
         content.push(sector)?;
     }
     Ok(content)
@@ -55,26 +60,30 @@ fn read_place<S: Sectors>(
     alloc: Global,
     sectors: &mut S,
     first: u32,
+    sizes: SeatSizes,
     whole: bool,
     place: u32,
 ) -> Result<Option<Seat>, ScanFault>
-    requires place { place < 5 }
-    requires fits { first + 45 < 2 ^ 32 }
-    requires within { first + 45 ≤ S.size (S.kept sectors.old) }
-    ensures fits { IfOk result (λ seat. IsSeatPlace (place_view seat)) }
-    ensures found { S.keeps_word → IfOk result (λ seat.
-        HoldPlace whole (at_place first (S.image (S.kept sectors.old)) place) (place_view seat)) }
+    // The place is one of the volume's
+    requires sizes { AreSizes sizes }
+    requires place { place < sizes.places }
+    requires fits { first + all_sectors sizes < 2 ^ 32 }
+    requires within { first + all_sectors sizes ≤ S.size (S.kept sectors.old) }
+    // What is read
+    ensures fits { IfOk result (λ seat. IsSeatPlace sizes.slots (place_view seat)) }
+    ensures found { S.keeps_word → IfOk result (λ seat. HoldPlace sizes.slots whole
+        (at_place sizes first (S.image (S.kept sectors.old)) place) (place_view seat)) }
     // If it fails
     ensures damaged { S.keeps_word → IsErrOf result ScanFault.Damaged
-        → (seat : Option model.Seat) → IsSeatPlace seat
-        → ¬ HoldPlace whole (at_place first (S.image (S.kept sectors.old)) place) seat }
+        → (seat : Option model.Seat) → IsSeatPlace sizes.slots seat → ¬ HoldPlace sizes.slots whole
+        (at_place sizes first (S.image (S.kept sectors.old)) place) seat }
     // It only reads
     ensures kept { S.kept sectors.new ≡ S.kept sectors.old }
     ensures health { FailsOrStays (S.health sectors.old) (S.health sectors.new)
         (IsErrOf result ScanFault.Device) }
 {
-    let content = fetch_place(alloc, sectors, first, place)?;
-    let seat = read_seat(alloc, &content, whole)?;
+    let content = fetch_place(alloc, sectors, first, sizes, place)?;
+    let seat = read_seat(alloc, &content, sizes.slots, whole)?;
     Ok(seat)
 }
 
@@ -85,23 +94,25 @@ fn read_places<S: Sectors>(
     number: VersionNumber,
 ) -> Result<Seats, ScanFault>
     requires number { IsNumber number }
-    requires within { seats_from number + 45 ≤ S.size (S.kept sectors.old) }
-    ensures fits { IfOk result (λ seats. ArePlaces (seats_view seats)) }
+    requires within { seats_from number + all_sectors (sizes_by number)
+        ≤ S.size (S.kept sectors.old) }
+    ensures fits { IfOk result (λ seats. ArePlaces (sizes_by number) (seats_view seats)) }
     ensures found { S.keeps_word → IfOk result (λ seats.
         HoldSeats number (S.image (S.kept sectors.old)) (seats_view seats)) }
     // If it fails
     ensures damaged { S.keeps_word → IsErrOf result ScanFault.Damaged → (seats : model.Seats)
-        → ArePlaces seats → ¬ HoldSeats number (S.image (S.kept sectors.old)) seats }
+        → ArePlaces (sizes_by number) seats → ¬ HoldSeats number (S.image (S.kept sectors.old)) seats }
     // It only reads
     ensures kept { S.kept sectors.new ≡ S.kept sectors.old }
     ensures health { FailsOrStays (S.health sectors.old) (S.health sectors.new)
         (IsErrOf result ScanFault.Device) }
 {
     let first = number.seats_from();
+    let sizes = number.seat_sizes();
     let whole = number.frees_whole();
-    let mut places = Vec::with_capacity(alloc, SEATS)?;
-    for place in 0..SEATS as u32 {
-        let seat = read_place(alloc, sectors, first, whole, place)?;
+    let mut places = Vec::with_capacity(alloc, sizes.places as usize)?;
+    for place in 0..sizes.places {
+        let seat = read_place(alloc, sectors, first, sizes, whole, place)?;
         places.push(seat)?;
     }
     Ok(Seats { places })
@@ -167,7 +178,8 @@ fn are_of_runs(seats: &Seats, run: u32) -> bool
 
 /// Whether no place has a seat.
 fn is_free(seats: &Seats) -> bool
-    ensures { IsTrue result ↔ (seats_view seats.now ≡ no_seats) }
+    ensures { IsTrue result
+        ↔ (seats_view seats.now ≡ replicate (length (seats_view seats.now)) None) }
 {
     for place in &seats.places {
         if place.is_some() {
@@ -179,8 +191,9 @@ fn is_free(seats: &Seats) -> bool
 
 /// Whether a volume of this version with this mark may keep seats; otherwise it keeps none.
 pub(crate) fn may_keep(number: VersionNumber, mark: Option<u32>) -> bool
-    ensures { (seats : model.Seats)
+    ensures may { (seats : model.Seats)
         → MayHaveSeats number mark seats ↔ ((result ≡ true) ⊎ (seats ≡ no_seats)) }
+    ensures five { result ≡ false → sizes_by number ≡ five_places }
 {
     match number {
         VersionNumber::One => false,
@@ -198,14 +211,20 @@ pub(crate) fn read_seats<S: Sectors>(
     run: u32,
     may_keep: bool,
 ) -> Result<Seats, ScanFault>
+    // Versions 1 and 2 have five places
     requires number { IsNumber number }
-    requires within { seats_from number + 45 ≤ S.size (S.kept sectors.old) }
-    ensures stands { IfOk result (λ seats. MayStand run may_keep (seats_view seats)) }
+    requires five { may_keep ≡ false → sizes_by number ≡ five_places }
+    requires within { seats_from number + all_sectors (sizes_by number)
+        ≤ S.size (S.kept sectors.old) }
+    // What is read
+    ensures stands { IfOk result
+        (λ seats. MayStand (sizes_by number) run may_keep (seats_view seats)) }
     ensures found { S.keeps_word → IfOk result (λ seats.
         HoldSeats number (S.image (S.kept sectors.old)) (seats_view seats)) }
     // If it fails
     ensures damaged { S.keeps_word → IsErrOf result ScanFault.Damaged → (seats : model.Seats)
-        → MayStand run may_keep seats → ¬ HoldSeats number (S.image (S.kept sectors.old)) seats }
+        → MayStand (sizes_by number) run may_keep seats
+        → ¬ HoldSeats number (S.image (S.kept sectors.old)) seats }
     // It only reads
     ensures kept { S.kept sectors.new ≡ S.kept sectors.old }
     ensures health { FailsOrStays (S.health sectors.old) (S.health sectors.new)

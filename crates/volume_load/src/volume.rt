@@ -5,7 +5,7 @@ ghost use Rattle.freemap.specs.Places.{ShowsPlaces};
 ghost use Rattle.layout.specs.CachedNodes as layout;
 ghost use Rattle.layout.specs.Health.{FailsOrStays};
 ghost use Rattle.layout.specs.Stands.{AreKept, IsLaid, IsMark, IsNumber, MayHaveSeats};
-ghost use Rattle.layout.specs.Stands.{data_end_by, marking_by, size_by, version_by};
+ghost use Rattle.layout.specs.Stands.{data_end_by, marking_by, size_by, sizes_by, version_by};
 ghost use Rattle.model_tree.specs.Seats.Seats as model;
 ghost use Rattle.model_tree.specs.Seats.SeatViews.{seats_view};
 ghost use Rattle.volume_load.specs.Sectors.{AreBits, AreSpare, HaveBits, ShowMarks, zeros_from};
@@ -159,7 +159,8 @@ pub fn read_volume<S: Sectors>(
     // If it fails
     ensures damaged { S.keeps_word → IsErrOf result ScanFault.Damaged
         → (mark : Option ℕ) (seats : model.Seats) (cached_nodes : List (Option layout.CachedNode))
-        → IsMark number nodes mark → MayHaveSeats number mark seats → AreKept run seats
+        → IsMark number nodes mark → MayHaveSeats number mark seats
+        → AreKept (sizes_by number) run seats
         → IsLaid (version_by number mark seats) size nodes (S.image (S.kept sectors.old))
         cached_nodes
         → ¬ AreFew cached_nodes }

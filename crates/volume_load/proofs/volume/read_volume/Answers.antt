@@ -3,10 +3,11 @@ use Rattle.std.specs.Prelude.{Err}
 use Rattle.std.proofs.lemmas.Bool.{false≢true}
 use Rattle.std.proofs.lemmas.List.{length-replicate}
 use Rattle.layout.specs.Laid.{AreNumbered}
-use Rattle.layout.specs.Stands.{HoldSeats, IsLaid, data_end_by, form_by, mark_held, marking_by, seats_from, version_by}
+use Rattle.layout.specs.Stands.{HoldSeats, IsLaid, data_end_by, form_by, mark_held, marking_by, seats_from, sizes_by, version_by}
 use Rattle.layout.specs.declared.versions.Marking.{Marking}
 use Rattle.layout.proofs.SeatLaws.{holds_seats}
 use Rattle.model_tree.specs.Seats.SeatViews.{seats_view}
+use Rattle.seats.specs.Sizes.{all_sectors}
 use Rattle.volume_load.specs.declared.fault.ScanFault.{ScanFault}
 use Rattle.volume_load.specs.Seating.{MayStand}
 use Rattle.volume_load.specs.Sectors.{AreSpare, HaveBits, ShowMarks, zeros_from}
@@ -68,7 +69,7 @@ returns-in_err-check_bitmap-clause-damaged g c = λ word is other seats cached_n
 pub returns-in_err-check_spare-clause-damaged : goal.returns-in_err-check_spare-clause-damaged
 returns-in_err-check_spare-clause-damaged g c = λ word is other seats cached_nodes one may keeps there few.
     let kept = c.in_ok-check_bitmap.ensures.kept ∙ c.in_ok-cached_nodes.ensures.kept ∙ c.in_ok-mark.ensures.kept in
-    let zeros = zeros_there c.args.number other seats (g.S.Sectors.image (g.S.Sectors.kept c.args.sectors.now)) may keeps.places.five there.spare in
+    let zeros = zeros_there c.args.number other seats (g.S.Sectors.image (g.S.Sectors.kept c.args.sectors.now)) may keeps.places there.spare in
     c.in_err-check_spare.ensures.damaged word (ap (λ (e : ScanFault). Err e) (same_fault c.from_residual-in_err-check_spare.result c.in_err-check_spare.field-0.0 c.from_residual-in_err-check_spare.ensures.1 is))
     (subst (λ (first : ℕ). AreSpare first (g.S.Sectors.image (g.S.Sectors.kept c.check_bitmap.new.sectors))) (sym c.zeros_from.ensures)
     (subst (λ moved. AreSpare (zeros_from c.args.number) (g.S.Sectors.image moved)) (sym kept) zeros))
@@ -80,14 +81,14 @@ returns-in_err-seats-clause-damaged g c = λ word is other seats cached_nodes on
     let image = g.S.Sectors.image (g.S.Sectors.kept c.args.sectors.now) in
     let kept = c.in_ok-check_spare.ensures.kept ∙ c.in_ok-check_bitmap.ensures.kept ∙ c.in_ok-cached_nodes.ensures.kept ∙ c.in_ok-mark.ensures.kept in
     let here = laid_here number mark other seats image c.args.size c.args.nodes cached_nodes (omega arith) c.in_ok-mark.ensures.marked (c.in_ok-mark.ensures.found word) one may there in
-    let stands : MayStand c.args.run c.may_keep.result seats = record { kept = keeps; none = (c.may_keep.ensures seats).0 here.may } in
+    let stands : MayStand (sizes_by number) c.args.run c.may_keep.result seats = record { kept = keeps; none = (c.may_keep.ensures.may seats).0 here.may } in
     c.in_err-seats.ensures.damaged word (ap (λ (e : ScanFault). Err e) (same_fault c.from_residual-in_err-seats.result c.in_err-seats.field-0.0 c.from_residual-in_err-seats.ensures.1 is)) seats stands
     (subst (λ moved. HoldSeats number (g.S.Sectors.image moved) seats) (sym kept) (holds_seats number other seats image c.requires.number may there.spare))
 
 pub read_seats-requires-clause-within : goal.read_seats-requires-clause-within
 read_seats-requires-clause-within g c =
     let within = seats_within c.args.number c.args.size c.args.nodes c.requires.number c.requires.sized in
-    subst (λ kept. seats_from c.args.number + 45 ≤ g.S.Sectors.size kept) (sym (c.in_ok-check_spare.ensures.kept ∙ c.in_ok-check_bitmap.ensures.kept ∙ c.in_ok-cached_nodes.ensures.kept ∙ c.in_ok-mark.ensures.kept))
+    subst (λ kept. seats_from c.args.number + all_sectors (sizes_by c.args.number) ≤ g.S.Sectors.size kept) (sym (c.in_ok-check_spare.ensures.kept ∙ c.in_ok-check_bitmap.ensures.kept ∙ c.in_ok-cached_nodes.ensures.kept ∙ c.in_ok-mark.ensures.kept))
     (omega (arith, within, c.requires.size))
 
 pub returns-clause-found : goal.returns-clause-found
@@ -108,7 +109,7 @@ returns-clause-found g c =
     let fourth = c.in_ok-check_spare.ensures.kept ∙ third in
     let seats = seats_view c.in_ok-seats.seats in
     let stands = c.in_ok-seats.ensures.stands in
-    let may = (c.may_keep.ensures seats).1 stands.none in
+    let may = (c.may_keep.ensures.may seats).1 stands.none in
     let holds = subst (λ kept. keeps → HoldSeats number (g.S.Sectors.image kept) seats) fourth c.in_ok-seats.ensures.found in
     let spare = subst (λ kept. keeps → AreSpare (zeros_from number) (g.S.Sectors.image kept)) third
     (subst (λ (n : ℕ). keeps → AreSpare n (g.S.Sectors.image (g.S.Sectors.kept c.check_bitmap.new.sectors))) c.zeros_from.ensures c.in_ok-check_spare.ensures.found) in
