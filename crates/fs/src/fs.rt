@@ -6,8 +6,10 @@ ghost use Rattle.volume.specs.Views.{volume_state};
 
 use crate::fault::FsFault;
 use disk::Device;
+use layout::versions::VersionNumber;
 use model_tree::limits::Limits;
-use model_tree::seats::{SeatEdits, Seats};
+use model_tree::seat_edits::SeatEdits;
+use model_tree::seats::Seats;
 use std::alloc::Global;
 use std::num::NonZeroUsize;
 use volume::{Checked, FormatFault, MountFault, Room, Unmounted, Volume};
@@ -47,6 +49,8 @@ impl<D: Device> Fs<D> {
     ghost use Rattle.volume.specs.VolumeState.{KeepsRecent, MakesAtMost, checkpoint_cost, flush_cost};
     ghost use Rattle.volume.specs.MountAnswers.{FindsSeats, MountGivesBack};
     ghost use Rattle.volume.specs.Rooms.{IsLeftOf};
+    ghost use Rattle.volume.specs.SeatUpdates.{slots_by};
+    ghost use Rattle.layout.specs.Versions.{IsServed};
 
     /// Makes the device a new volume of `nodes` nodes, with an empty root: `volume::format`.
     ///
@@ -154,6 +158,14 @@ impl<D: Device> Fs<D> {
         ensures { result ≡ (fs_of self.now).volume.run }
     {
         self.volume.restart_count()
+    }
+
+    /// The version in which its volume is served.
+    pub fn version(&self) -> VersionNumber
+        ensures version { result ≡ (fs_of self.now).volume.version }
+        ensures served { IsServed result }
+    {
+        self.volume.version()
     }
 
     /// The limits of its volume.
@@ -277,7 +289,8 @@ impl<D: Device> Fs<D> {
     ///
     /// Memory, and nothing changed; Device if the device failed, and Down from then on.
     pub fn put_seats(&mut self, edits: &SeatEdits) -> Result<(), FsFault>
-        requires { D.keeps_word → AreEdits (fs_of self.old).volume.run (edits_view edits.now)
+        requires { D.keeps_word → AreEdits (fs_of self.old).volume.run
+            (slots_by (fs_of self.old).volume.version) (edits_view edits.now)
             (fs_of self.old).volume.seats }
         ensures volume { AltersFs self.old self.new
             (IsSeats (fs_of self.old).volume

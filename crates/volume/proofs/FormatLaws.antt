@@ -23,11 +23,11 @@ use Rattle.journal.proofs.Outside.{few_outside, logged_at, passed}
 use Rattle.layout.specs.FreshLaws.{IsFresh}
 use Rattle.layout.specs.LargeLaws.{IsLargeFresh}
 use Rattle.layout.specs.Stands as layout
-use Rattle.layout.specs.Stands.{By, IsNumber, MayHaveSeats, bare, current_version, version_by}
+use Rattle.layout.specs.Stands.{By, IsNumber, MayHaveSeats, bare_in, current_version, free_seats, version_by}
 use Rattle.layout.specs.declared.versions.VersionNumber.{VersionNumber}
 use Rattle.layout.specs.declared.versions.VersionNumber.TheVariants.{One, Two, Three}
 use Rattle.layout.proofs.LargeLaws.{large_fresh}
-use Rattle.layout.proofs.SeatLaws.{no_seats_kept, spare_none, version_region}
+use Rattle.layout.proofs.SeatLaws.{free_seats_kept, spare_none, version_region}
 use Rattle.layout.proofs.FirstLaws.{before_nodes}
 use Rattle.layout.specs.Superblock.{is_size}
 use Rattle.layout.proofs.Formatted.{fresh_stands}
@@ -162,19 +162,19 @@ on_ok (Err e) P fine is = absurd (cc)
 
 -- It represents the tree of one empty directory
 
-none_kept : (version : VersionNumber) → MayHaveSeats version None no_seats
+none_kept : (version : VersionNumber) → MayHaveSeats version None (free_seats version)
 none_kept One = refl
 none_kept Two = tt
 none_kept (Three s) = tt
 
-pub fresh_stands_for : (version : VersionNumber) (sectors nodes : ℕ) (image : Image) → IsNumber version → formats.IsFresh version sectors nodes image → StandsFor sectors nodes 0 (bare fresh_tree) image
+pub fresh_stands_for : (version : VersionNumber) (sectors nodes : ℕ) (image : Image) → IsNumber version → formats.IsFresh version sectors nodes image → StandsFor sectors nodes 0 (bare_in version fresh_tree) image
 fresh_stands_for version sectors nodes image number fresh = ∥∥₁_map fresh (λ is. record {
   base = is.0;
   settles = is.1;
   stands = record {
-    version = version_by version None no_seats;
-    is_version = By version None no_seats number tt (none_kept version);
-    keeps = no_seats_kept 0;
+    version = version_by version None (free_seats version);
+    is_version = By version None (free_seats version) number tt (none_kept version);
+    keeps = free_seats_kept version 0;
     stands = is.2;
   };
 })

@@ -17,12 +17,13 @@ use Rattle.layout.specs.Stands as layout
 use Rattle.inode.specs.declared.node.Form.TheVariants.{Two}
 use Rattle.layout.specs.Known.{AreCached}
 use Rattle.layout.specs.Rewriting.{all_second, in_second, second_image, IsLaidSecond}
-use Rattle.layout.specs.Stands.{Kept, MayHaveSeats, Version, marked_by, IsLaid, IsMark, IsNumber, current_version, limits_by, size_by, version_by}
+use Rattle.layout.specs.Stands.{Kept, MayHaveSeats, Version, marked_by, IsLaid, IsMark, IsNumber, current_version, limits_by, size_by, version_by, AreKept, sizes_by}
 use Rattle.layout.specs.Versions.{file_bytes_by}
 use Rattle.layout.specs.declared.versions.Marking.TheVariants.{InSectors, AsNamed}
 use Rattle.layout.specs.declared.versions.VersionNumber.{VersionNumber}
 use Rattle.layout.specs.declared.versions.VersionNumber.TheVariants as numbers
 use Rattle.layout.proofs.MarkOnce.{number_told}
+use Rattle.volume.proofs.StandLaws.{keeps_by}
 use Rattle.layout.proofs.OneKept.{in_its, its}
 use Rattle.layout.proofs.Rewriting.{current_second, known_as_second, laid_as_second, second_at, then_second}
 use Rattle.layout.proofs.SeatLaws.{version_region}
@@ -141,6 +142,7 @@ pub record HeldAs (number : VersionNumber) (size nodes run : ℕ) (image : Image
   pub mark : Option ℕ
   pub marked : IsMark number nodes mark
   pub may : MayHaveSeats number mark kept.seats
+  pub keeps : AreKept (sizes_by number) run kept.seats
   pub stands : layout.TreeStands (version_by number mark kept.seats) size nodes image run kept.tree
 
 pub held_as : (number : VersionNumber) (size nodes run : ℕ) (image : Image) (kept : Kept) → IsNumber number → IsTrue (size_by number size nodes) → image 0 ≡ superblock number size nodes run
@@ -152,6 +154,7 @@ held_as number size nodes run image kept is sized first stands =
       mark = parts.mark;
       marked = subst (λ (n : VersionNumber). IsMark n nodes parts.mark) same parts.is_mark;
       may = subst (λ (n : VersionNumber). MayHaveSeats n parts.mark kept.seats) same parts.may;
+      keeps = keeps_by nodes stands.version kept.seats parts number run same stands.keeps;
       stands = subst (λ (n : VersionNumber). layout.TreeStands (version_by n parts.mark kept.seats) size nodes image run kept.tree) same (in_its size nodes image run kept stands);
     }
 

@@ -13,8 +13,9 @@ use Rattle.journal.specs.Settled.{Settles, AreSame}
 use Rattle.journal.proofs.Images.{put_same, put_other}
 use Rattle.layout.specs.CachedNodes.{node_sector}
 use Rattle.layout.specs.Rewriting.{all_second, IsRewritten, in_form}
+use Rattle.seats.specs.declared.sizes.SeatSizes.{SeatSizes}
 use Rattle.layout.specs.Stands as layout
-use Rattle.layout.specs.Stands.{By, HasRegion, IsMark, IsNumber, Kept, MayHaveSeats, Version, data_end_by, is_spare_in, limits_by, log_by, marking_by, served, size_by, spare_in, version_1, version_by}
+use Rattle.layout.specs.Stands.{By, HasRegion, IsMark, IsNumber, Kept, MayHaveSeats, Version, data_end_by, is_spare_in, limits_by, log_by, marking_by, served, size_by, spare_in, version_1, version_by, sizes_by, AreKept}
 use Rattle.layout.specs.declared.versions.VersionNumber.{VersionNumber}
 use Rattle.layout.specs.declared.versions.VersionNumber.TheVariants.{One, Two, Three}
 use Rattle.layout.proofs.SeatLaws.{kept_later, version_region}
@@ -79,6 +80,11 @@ all_two One nodes mark seats moved place within =
     ∙ ap (λ (past : Bool). let form : Form = if past then forms.One else forms.Two in form) (lt-leb nodes place within)
 all_two Two nodes mark seats moved place within = refl
 all_two (Three s) nodes mark seats moved place within = refl
+
+served_sizes : (version : VersionNumber) → sizes_by (served version) ≡ sizes_by version
+served_sizes One = refl
+served_sizes Two = refl
+served_sizes (Three s) = refl
 
 served_two : (version : VersionNumber) (mark : Option ℕ) (seats : Seats) (place : ℕ) → (version_by (served version) mark seats).form place ≡ forms.Two
 served_two One mark seats place = refl
@@ -161,7 +167,8 @@ module _ (found : Superblock) (base : Image) (number : IsNumber found.version) (
     raised_to : IsRaisedTo mark found kept base raised
     raised_to = record {
       may = may_after found.version found.nodes mark kept.seats moved stood.may;
-      keeps = kept_later found.run (found.run + 1) kept.seats (omega arith) stood.keeps;
+      keeps = subst (λ (sizes : SeatSizes). AreKept sizes (found.run + 1) kept.seats) (sym (served_sizes found.version))
+          (kept_later (sizes_by found.version) found.run (found.run + 1) kept.seats (omega arith) stood.keeps);
       stands = rewritten_stands was is found.sectors found.nodes found.run (found.run + 1) base raised tree stands (omega arith) counted is_rewritten;
       cached_nodes = rewritten_cached_nodes was is found.sectors found.nodes found.run (found.run + 1) base raised tree stands is_rewritten;
     }

@@ -13,10 +13,10 @@ use Rattle.journal.specs.Log.{Log, AnswersByDevice, contents}
 use Rattle.journal.specs.declared.fault.JournalFault.{JournalFault}
 use Rattle.journal.specs.declared.fault.JournalFault.TheVariants as faults
 use Rattle.layout.specs.CachedNodes.{CachedNode, cached_nodes_in, node_sector, tree_of}
-use Rattle.layout.specs.Large.{is_of_seats}
+use Rattle.layout.specs.Large.{is_of_seats, large_sizes}
 use Rattle.layout.specs.Rewriting.{IsRewritten}
 use Rattle.layout.specs.Stands as layout
-use Rattle.layout.specs.Stands.{HaveCurrentForms, HaveForms, HoldSeats, MayHaveSeats, StandsNow, data_end_by, form_by, is_before_nodes, is_spare_in, seats_at, seats_from, spare_by, spare_in, version_by}
+use Rattle.layout.specs.Stands.{HaveCurrentForms, HaveForms, HoldSeats, MayHaveSeats, StandsNow, data_end_by, five_places, form_by, is_before_nodes, is_spare_in, seats_at, seats_from, sizes_by, spare_by, spare_in, version_by}
 use Rattle.layout.specs.Versions.{IsNumber, IsServed}
 use Rattle.layout.specs.declared.versions.VersionNumber.{VersionNumber}
 use Rattle.layout.specs.declared.versions.VersionNumber.TheVariants as numbers
@@ -27,7 +27,9 @@ use Rattle.model_tree.specs.Seats.SeatEdits.{SeatEdit, AreEdits, edited_all}
 use Rattle.model_tree.specs.Seats.Seats.{Seats}
 use Rattle.model_tree.specs.Trees.Tree.{Tree}
 use Rattle.volume.specs.SeatTransactions.{AreUpdates}
-use Rattle.seats.specs.Encoding.{ArePlaces, is_determined, seat_sector, seats_sector}
+use Rattle.volume.specs.SeatUpdates.{slots_by}
+use Rattle.seats.specs.Encoding.{ArePlaces, is_determined, is_determined_in, seat_sector, seats_sector}
+use Rattle.seats.specs.Sizes.{all_sectors}
 use Rattle.volume.specs.Known.{IsServing, kept_in_image}
 use Rattle.volume.proofs.ApplyLaws.{StandsWith}
 use Rattle.volume.proofs.ChangeLaws.{StandsWith-prop}
@@ -53,29 +55,29 @@ may_seat (numbers.Three s) seats served = tt
 -- The sectors of seats, and the others
 
 abbrev Beside : VersionNumber → ℕ → Type 0
-Beside version n = (n < seats_from version) ⊎ (seats_from version + 45 ≤ n)
+Beside version n = (n < seats_from version) ⊎ (seats_from version + all_sectors (sizes_by version) ≤ n)
 
 -- nodes and the data region are behind them, or in version 3 in front of them
 beside_region : (version : VersionNumber) (size n : ℕ) → 148 ≤ n → n < data_end_by version size → Beside version n
-beside_region numbers.One size n low high = inr (omega (arith, low))
-beside_region numbers.Two size n low high = inr (omega (arith, low))
+beside_region numbers.One size n low high = inr (let past : 145 ≤ n = omega (arith, low) in past)
+beside_region numbers.Two size n low high = inr (let past : 145 ≤ n = omega (arith, low) in past)
 beside_region (numbers.Three s) size n low high = inl high
 
 -- the two sectors behind the seats of version 2 are those of no seat
-behind_seats : (seats : Seats) (n : ℕ) → length seats ≡ 5 → 45 ≤ n → n < 47 → seats_sector n seats ≡ seat_sector (n % 9) None
+behind_seats : (seats : Seats) (n : ℕ) → length seats ≡ 5 → 45 ≤ n → n < 47 → seats_sector five_places n seats ≡ seat_sector (n % 9) None
 behind_seats seats n five low high = ap (seat_sector (n % 9)) (get_or_past seats (n / 9) None (omega (arith, five, low)))
 
 -- What the spare sectors hold after the transaction, in each version
-module _ (was is : Seats) (image now : Image) (five_was : length was ≡ 5) (five : length is ≡ 5) where
+module _ (was is : Seats) (image now : Image) where
   abbrev Others : VersionNumber → Type 0
   Others version = (n : ℕ) → Beside version n → now n ≡ image n
 
   abbrev AreSpare : VersionNumber → Seats → Image → Type 0
   AreSpare version seats image = (n : ℕ) → IsTrue (is_spare_in version seats n) → image n ≡ spare_in version None seats n
 
-  second_spare : Others numbers.Two → HoldSeats numbers.Two now is → AreSpare numbers.Two was image → AreSpare numbers.Two is now
-  second_spare others held spare n is_so = let both = before_nodes n is_so in let low = both.0 in let high = both.1 in ⊎_elim
-      (λ (mark : n ≡ 147). others n (inr (omega (arith, mark))) ∙ (spare n is_so ∙ (ap (spare_by was None) mark ∙ sym (ap (spare_by is None) mark))))
+  second_spare : length was ≡ 5 → length is ≡ 5 → Others numbers.Two → HoldSeats numbers.Two now is → AreSpare numbers.Two was image → AreSpare numbers.Two is now
+  second_spare five_was five others held spare n is_so = let both = before_nodes n is_so in let low = both.0 in let high = both.1 in ⊎_elim
+      (λ (mark : n ≡ 147). others n (inr (let past : 145 ≤ n = omega (arith, mark) in past)) ∙ (spare n is_so ∙ (ap (spare_by was None) mark ∙ sym (ap (spare_by is None) mark))))
       (λ (other : n ≡ 147 → ⊥). ⊎_elim
       (λ (seat : n < 145). ap now (let e : n ≡ 100 + (n - 100) = omega (arith, low) in e)
       ∙ (held (n - 100) (is_seat numbers.Two (n - 100) is (omega (arith, seat, low)) (whole ((n - 100) % 9) (get_or is ((n - 100) / 9) None))) ∙ sym (spare_seats is None n other)))
@@ -106,12 +108,12 @@ module _ (was is : Seats) (image now : Image) (five_was : length was ≡ 5) (fiv
     -- the seats that are determined
     seats_spare : (n : ℕ) → IsTrue (is_of_seats s.geometry is n) → now n ≡ spare_in (numbers.Three s) None is n
     seats_spare n there =
-        let determined = is_determined false ((n - first) % 9) (get_or is ((n - first) / 9) None) in
-        let both = and_parts (leb first n && ltb n (first + 45)) determined there in
-        let ends = and_parts (leb first n) (ltb n (first + 45)) both.0 in
+        let behind = first + all_sectors (large_sizes s.geometry) in
+        let both = and_parts (leb first n && ltb n behind) (is_determined_in (large_sizes s.geometry) false (n - first) is) there in
+        let ends = and_parts (leb first n) (ltb n behind) both.0 in
         let low : first ≤ n = leb-true first n ends.0 in
-        let high : n < first + 45 = ltb-true n (first + 45) ends.1 in
-        let within : n - first < 45 = omega (arith, low, high) in
+        let high : n < behind = ltb-true n behind ends.1 in
+        let within : n - first < all_sectors (large_sizes s.geometry) = omega (arith, low, high) in
         let at : n ≡ first + (n - first) = omega (arith, low) in
         ap now at ∙ (held (n - first) (is_seat (numbers.Three s) (n - first) is within both.1)
         ∙ (sym (seat_spare (numbers.Three s) None (n - first) is served tt within) ∙ sym (ap (spare_in (numbers.Three s) None is) at)))
@@ -122,16 +124,16 @@ module _ (was is : Seats) (image now : Image) (five_was : length was ≡ 5) (fiv
       | inr there ↦ seats_spare n there
     ]
 
-  spare_then : (version : VersionNumber) → IsServed version → Others version → HoldSeats version now is → AreSpare version was image → AreSpare version is now
-  spare_then numbers.One served others held spare = absurd served
-  spare_then numbers.Two served others held spare = second_spare others held spare
-  spare_then (numbers.Three s) served others held spare = large_spare s served others held spare
+  spare_then : (version : VersionNumber) → IsServed version → ArePlaces (sizes_by version) was → ArePlaces (sizes_by version) is → Others version → HoldSeats version now is → AreSpare version was image → AreSpare version is now
+  spare_then numbers.One served before after others held spare = absurd served
+  spare_then numbers.Two served before after others held spare = second_spare before.count after.count others held spare
+  spare_then (numbers.Three s) served before after others held spare = large_spare s served others held spare
 
 -- What the sectors hold after the transaction: the same cached nodes and tree, with the edited
 -- seats
 module _ (version : VersionNumber) (served : IsServed version) (nodes run : ℕ) (log : Log) (cached_nodes : List (Option CachedNode)) (edits : List SeatEdit) (updates : List Update) (are : AreUpdates version edits updates)
     (read : cached_nodes ≡ cached_nodes_in nodes (contents log)) (stood : StandsNow version log.size nodes (contents log) run (kept_in_image version (contents log) cached_nodes))
-    (can : AreEdits run edits (seats_at version (contents log))) where
+    (can : AreEdits run (slots_by version) edits (seats_at version (contents log))) where
   abbrev image : Image
   image = contents log
 
@@ -162,7 +164,7 @@ module _ (version : VersionNumber) (served : IsServed version) (nodes run : ℕ)
   holds : HoldSeats version image was
   holds = holds_seats version None was image number stood.may stands.laid.spare
 
-  places : ArePlaces is
+  places : ArePlaces (sizes_by version) is
   places = (are.edited image was stood.keeps.places can.can).places
 
   held : HoldSeats version now is
@@ -186,7 +188,7 @@ module _ (version : VersionNumber) (served : IsServed version) (nodes run : ℕ)
       data_end = refl;
       roomy = λ place within. inr (second_form version place served);
       bitmap = λ n low high. in_front n high;
-      spare = spare_then was is image now stood.keeps.places.five places.five version served (are.others image) held stands.laid.spare;
+      spare = spare_then was is image now version served stood.keeps.places places (are.others image) held stands.laid.spare;
       nodes_are = λ place within. node_is place within ∙ sym (form_stays old_version log.size nodes run image tree place stands within);
       region = λ n low high. are.others image n (beside_region version log.size n (omega (arith, low)) high);
     };
@@ -210,7 +212,7 @@ module _ (version : VersionNumber) (served : IsServed version) (nodes run : ℕ)
 
 -- if a volume serves
 pub seats_behind : (version : VersionNumber) → IsServed version → (nodes run : ℕ) (log : Log) (cached_nodes : List (Option CachedNode)) (edits : List SeatEdit) (updates : List Update) → AreUpdates version edits updates
-    → AreEdits run edits (seats_at version (contents log)) → ∥ IsServing version log nodes run cached_nodes ∥₁
+    → AreEdits run (slots_by version) edits (seats_at version (contents log)) → ∥ IsServing version log nodes run cached_nodes ∥₁
     → StandsWith version nodes run log updates cached_nodes (record { tree = tree_of (contents log) cached_nodes; seats = edited_all edits (seats_at version (contents log)) })
 seats_behind version is_served nodes run log cached_nodes edits updates are can serving =
     ∥∥₁_elim serving (StandsWith-prop version nodes run log updates cached_nodes _) (λ served.

@@ -11,18 +11,18 @@ use Rattle.journal.specs.Settled.{AreSame, Settles}
 use Rattle.journal.specs.declared.layout.LogArea.{LogArea}
 use Rattle.layout.specs.CachedNodes.{cached_nodes_in}
 use Rattle.layout.specs.Stands as layout
-use Rattle.layout.specs.Stands.{By, Kept, StandsNow}
+use Rattle.layout.specs.Stands.{By, Kept, StandsNow, AreKept}
 use Rattle.layout.specs.Superblock.{is_size, superblock}
-use Rattle.layout.specs.Versions.{IsNumber, IsServed, end_of, log_by, number_of_version, rest_by, seats_at, served, size_by, version_by}
+use Rattle.layout.specs.Versions.{IsNumber, IsServed, end_of, log_by, number_of_version, rest_by, seats_at, served, size_by, version_by, sizes_by}
 use Rattle.layout.specs.declared.versions.VersionNumber.{VersionNumber}
 use Rattle.layout.specs.declared.versions.VersionNumber.TheVariants as numbers
 use Rattle.layout.proofs.FirstLaws.{Sized, sized_parts}
-use Rattle.layout.proofs.KeptLaws.{now_told}
+use Rattle.layout.proofs.KeptLaws.{now_told, VersionParts}
 use Rattle.layout.proofs.MarkOnce.{number_told}
 use Rattle.layout.proofs.MarkProofs.{kept_alone, stands_alone}
 use Rattle.layout.proofs.OneKept.{its}
 use Rattle.layout.proofs.SeatLaws.{version_region}
-use Rattle.model_tree.specs.Seats.Seats.{no_seats}
+use Rattle.model_tree.specs.Seats.Seats.{no_seats, Seats}
 use Rattle.model_tree.specs.Trees.Tree.{Tree}
 use Rattle.volume.specs.Stands.{IsBase, VolumeStands}
 
@@ -73,6 +73,12 @@ is_area numbers.Two size number = record { behind = omega arith; beside = λ at_
 is_area (numbers.Three s) size number = large_area s.geometry number.fits
 
 -- the sectors that transactions write end within the volume
+-- what it keeps, it keeps in the version that its first sector gives
+pub keeps_by : (nodes : ℕ) (of : layout.Version) (seats : Seats) (parts : VersionParts nodes of seats) (version : VersionNumber) (run : ℕ) → parts.number ≡ version
+    → AreKept of.sizes run seats → AreKept (sizes_by version) run seats
+keeps_by nodes of seats parts version run same keeps =
+    subst (λ (n : VersionNumber). AreKept (sizes_by n) run seats) same (subst (λ (v : layout.Version). AreKept v.sizes run seats) parts.same keeps)
+
 pub ends_within : (version : VersionNumber) (size nodes : ℕ) → IsNumber version → IsTrue (size_by version size nodes) → (log_by version size).end ≤ size
 ends_within version size nodes number sizes = (version_region version None no_seats size nodes number sizes).within
 

@@ -19,7 +19,7 @@ use Rattle.layout.specs.declared.versions.VersionNumber.{VersionNumber}
 use Rattle.layout.specs.declared.versions.VersionNumber.TheVariants.{One, Two, Three}
 use Rattle.layout.proofs.KeptLaws.{same_kept, version_parts}
 use Rattle.layout.proofs.FirstLaws.{few_nodes}
-use Rattle.layout.proofs.MarkOnce.{stands_told}
+use Rattle.layout.proofs.MarkOnce.{stands_told, number_told}
 use Rattle.layout.proofs.Rewriting.{current_second}
 use Rattle.layout.proofs.SeatLaws.{version_region}
 use Rattle.migration.proofs.Committing.{no_prefix}
@@ -33,7 +33,7 @@ use Rattle.volume.specs.Stands.{StandsForIn}
 use Rattle.volume.specs.Starts.{HasMovedTo, IsCleared, ServesFrom, StandsInServed, is_marked, moved_mark}
 use Rattle.volume.specs.VolumeState.{flush_cost}
 use Rattle.volume.specs.declared.mount.Superblock.{Superblock}
-use Rattle.volume.proofs.StandLaws.{is_number, is_served, placed_on, same_log, settles_placed}
+use Rattle.volume.proofs.StandLaws.{is_number, is_served, placed_on, same_log, settles_placed, keeps_by}
 
 -- In versions 1 and 2 the log is before the sectors that transactions write
 
@@ -229,7 +229,9 @@ module _ (found : Superblock) (mark : Option ℕ) (old : Log) (number : IsNumber
   told kept stands =
       let is = stands_told found.version found.sectors found.nodes old.base found.run kept found.sectors found.nodes found.run number sized holds.first stands
       mark (few_nodes stands.version found.sectors found.nodes stands.stands.region) marked marks in
-      record { may = is.may; keeps = stands.keeps; stands = is.stands }
+      let same = number_told found.version found.sectors found.nodes old.base found.run kept found.sectors found.nodes found.run number sized holds.first stands in
+      let parts = version_parts found.nodes stands.version kept.seats stands.is_version in
+      record { may = is.may; keeps = keeps_by found.nodes stands.version kept.seats parts found.version found.run same stands.keeps; stands = is.stands }
 
   pub has_moved : AllHaveMoved found.version found.nodes then_mark
   has_moved = moved_all found.version found.nodes mark marked

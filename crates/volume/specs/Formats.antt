@@ -10,9 +10,8 @@ use Rattle.layout.specs.CachedNodes.{node_sector}
 use Rattle.journal.specs.Settled.{Settles}
 use Rattle.geometry.specs.Places.{Fits, data_sectors}
 use Rattle.geometry.specs.declared.geometry.Geometry.{Geometry}
-use Rattle.layout.specs.Stands.{TreeStands, log_by, version_by}
+use Rattle.layout.specs.Stands.{TreeStands, log_by, version_by, free_seats}
 use Rattle.layout.specs.declared.versions.VersionNumber.{VersionNumber}
-use Rattle.model_tree.specs.Seats.Seats.{no_seats}
 use Rattle.model_tree.specs.Trees.Fresh.{fresh_tree}
 
 -- the root at place 0, the only place of a new volume that is not zero
@@ -23,7 +22,8 @@ root_update = record { target = node_sector 0; content = inode_sector Two root_f
 abbrev pub IsFresh : VersionNumber → (sectors nodes : ℕ) → Image → Type 0
 IsFresh version sectors nodes image =
     ∥ ((base : Image) × Settles (log_by version sectors) image base
-    × TreeStands (version_by version None no_seats) sectors nodes base 0 fresh_tree) ∥₁
+    × TreeStands (version_by version None (free_seats version)) sectors nodes base 0
+    fresh_tree) ∥₁
 
 -- what a format adds to what a crash may leave: no volume, or the new one
 abbrev pub AddsFresh : VersionNumber → (sectors nodes : ℕ) → (old new : History) → Type 0

@@ -5,7 +5,7 @@ use Rattle.journal.specs.Log.{Log}
 use Rattle.layout.specs.CachedNodes.{CachedNode, tree_of, cached_nodes_in}
 use Rattle.layout.specs.Health.{Health, FailsOrStays}
 use Rattle.layout.specs.Rewriting.{all_second}
-use Rattle.layout.specs.Stands.{AreKept, IsMark, Kept, MayHaveSeats, data_end_by, limits_by, mark_held}
+use Rattle.layout.specs.Stands.{AreKept, IsMark, Kept, MayHaveSeats, data_end_by, limits_by, mark_held, sizes_by}
 use Rattle.model_tree.specs.Seats.Seats.{Seats}
 use Rattle.model_tree.specs.Trees.Stamp.{stamp}
 use Rattle.tree_check.specs.WellFormed.{AreWellFormed}
@@ -37,7 +37,7 @@ pub record AreLoaded (keeps_word : Type 0) (found : Superblock) (image : Image)
       (stamp (found.run + 1) 0) cached_nodes ∥₁
   pub marked : IsMark found.version found.nodes mark
   pub may : MayHaveSeats found.version mark seats
-  pub keeps : AreKept found.run seats
+  pub keeps : AreKept (sizes_by found.version) found.run seats
   pub marks : keeps_word → image 147 ≡ mark_held mark
   pub read : keeps_word → cached_nodes ≡ all_second (cached_nodes_in found.nodes image)
   pub stood : keeps_word → ∥ StandsIn found mark image (read_as image cached_nodes seats) ∥₁

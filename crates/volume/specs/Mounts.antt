@@ -6,7 +6,7 @@ use Rattle.journal.specs.Log.{Log, Costs, IsSettled}
 use Rattle.layout.specs.CachedNodes.{cached_nodes_in}
 use Rattle.layout.specs.Rewriting.{all_second}
 use Rattle.layout.specs.Stands as layout
-use Rattle.layout.specs.Stands.{AreKept, IsMark, IsNumber, Kept, MayHaveSeats, log_by, number_of_version, served, size_by, version_by}
+use Rattle.layout.specs.Stands.{AreKept, IsMark, IsNumber, Kept, MayHaveSeats, log_by, number_of_version, served, size_by, version_by, sizes_by}
 use Rattle.layout.specs.declared.versions.VersionNumber.{VersionNumber}
 use Rattle.layout.specs.declared.versions.VersionNumber.TheVariants as numbers
 use Rattle.migration.specs.Plans.{transactions_for}
@@ -76,7 +76,7 @@ AllHaveMoved (numbers.Three s) nodes mark = IsMark (numbers.Three s) nodes mark
 pub record StandsIn (found : Superblock) (mark : Option ℕ) (base : Image) (kept : Kept)
     : Type 0 where
   pub may : MayHaveSeats found.version mark kept.seats
-  pub keeps : AreKept found.run kept.seats
+  pub keeps : AreKept (sizes_by found.version) found.run kept.seats
   pub stands : layout.TreeStands (version_by found.version mark kept.seats)
       found.sectors found.nodes base found.run kept.tree
 
@@ -85,7 +85,7 @@ pub record StandsIn (found : Superblock) (mark : Option ℕ) (base : Image) (kep
 pub record IsRaisedTo (mark : Option ℕ) (found : Superblock) (kept : Kept) (old new : Image)
     : Type 0 where
   pub may : MayHaveSeats (served found.version) mark kept.seats
-  pub keeps : AreKept (found.run + 1) kept.seats
+  pub keeps : AreKept (sizes_by (served found.version)) (found.run + 1) kept.seats
   pub stands : layout.TreeStands (version_by (served found.version) mark kept.seats)
       found.sectors found.nodes new (found.run + 1) kept.tree
   pub cached_nodes : all_second (cached_nodes_in found.nodes new)

@@ -7,7 +7,7 @@ use Rattle.journal.specs.declared.fault.JournalFault.{JournalFault}
 use Rattle.layout.specs.CachedNodes.{CachedNode, cached_nodes_in}
 use Rattle.layout.specs.Rewriting.{all_second}
 use Rattle.layout.specs.Stands as layout
-use Rattle.layout.specs.Stands.{AreKept, IsMark, IsNumber, Kept, MayHaveSeats, StandsNow, number_of_version, served, version_by}
+use Rattle.layout.specs.Stands.{AreKept, IsMark, IsNumber, Kept, MayHaveSeats, StandsNow, number_of_version, served, version_by, sizes_by}
 use Rattle.layout.specs.declared.versions.VersionNumber.{VersionNumber}
 use Rattle.layout.specs.declared.versions.VersionNumber.TheVariants.{One, Two, Three}
 use Rattle.migration.specs.declared.fault.MigrationFault.{MigrationFault}
@@ -75,7 +75,7 @@ pub record StandsInServed (version : VersionNumber) (mark : Option ℕ) (size no
   pub is_number : IsNumber version
   pub marked : IsMark version nodes mark
   pub may : MayHaveSeats version mark kept.seats
-  pub keeps : AreKept run kept.seats
+  pub keeps : AreKept (sizes_by version) run kept.seats
   pub stands : layout.TreeStands (version_by version mark kept.seats) size nodes base run kept.tree
 
 -- it is held with no mark, with the same cached nodes except for their forms

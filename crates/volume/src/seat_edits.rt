@@ -4,7 +4,7 @@ use crate::fault::VolumeFault;
 use crate::seat_updates::updates_of;
 use crate::volume::Volume;
 use disk::Device;
-use model_tree::seats::SeatEdits;
+use model_tree::seat_edits::SeatEdits;
 
 #[tactic(auto, unfolding(crate::specs::Views::volume_state, crate::specs::Views::volume_failures))]
 impl<D: Device> Volume<D> {
@@ -12,6 +12,7 @@ impl<D: Device> Volume<D> {
     ghost use Rattle.model_tree.specs.Seats.SeatEdits.{AreEdits, edited_all, edits_view};
     ghost use Rattle.volume.specs.Changes.{IsReseated, IsSeats, ending_of};
     ghost use Rattle.volume.specs.Formed.{ShowsTree};
+    ghost use Rattle.volume.specs.SeatUpdates.{slots_by};
     ghost use Rattle.volume.specs.Views.{volume_state, AltersVolume};
     ghost use Rattle.volume.specs.VolumeState.{MakesAtMost, flush_cost};
 
@@ -23,7 +24,8 @@ impl<D: Device> Volume<D> {
     /// [`VolumeFault::Down`]; [`VolumeFault::Memory`], and nothing changed; [`VolumeFault::Device`]
     /// if the device failed.
     pub fn change_seats(&mut self, edits: &SeatEdits) -> Result<(), VolumeFault>
-        requires { D.keeps_word → AreEdits (volume_state self.old).run (edits_view edits.now)
+        requires { D.keeps_word → AreEdits (volume_state self.old).run
+            (slots_by (volume_state self.old).version) (edits_view edits.now)
             (volume_state self.old).seats }
         ensures volume { AltersVolume self.old self.new
             (IsReseated (volume_state self.old)
@@ -54,7 +56,8 @@ impl<D: Device> Volume<D> {
     ///
     /// Those of [`Volume::change_seats`].
     pub fn put_seats(&mut self, edits: &SeatEdits) -> Result<(), VolumeFault>
-        requires { D.keeps_word → AreEdits (volume_state self.old).run (edits_view edits.now)
+        requires { D.keeps_word → AreEdits (volume_state self.old).run
+            (slots_by (volume_state self.old).version) (edits_view edits.now)
             (volume_state self.old).seats }
         ensures volume { AltersVolume self.old self.new
             (IsSeats (volume_state self.old)

@@ -4,15 +4,16 @@ ghost use Rattle.std.specs.Prelude.{◌≡◌, IfOk};
 ghost use Rattle.layout.specs.Versions.{IsNumber};
 ghost use Rattle.model_tree.specs.Seats.SeatEdits.{edits_view};
 ghost use Rattle.volume.specs.SeatTransactions.{AreUpdates};
-ghost use Rattle.volume.specs.SeatUpdates.{updates_from};
+ghost use Rattle.volume.specs.SeatUpdates.{updates_by};
 
 use crate::seat_places::push_edit;
 use disk::Update;
 use layout::versions::VersionNumber;
-use model_tree::seats::SeatEdits;
+use model_tree::seat_edits::SeatEdits;
 use std::alloc::{AllocError, Global};
 
-/// All that the edits write, in the order of their places.
+/// All that the edits write, in the order of their places; an edit past the last one writes
+/// nothing.
 fn all_updates(
     alloc: Global,
     version: VersionNumber,
@@ -20,17 +21,18 @@ fn all_updates(
 ) -> Result<Vec<Update>, AllocError>
     requires { IsNumber version }
     ensures { IfOk result
-        (λ updates. updates.items ≡ updates_from version 0 (edits_view edits.now)) }
+        (λ updates. updates.items ≡ updates_by version (edits_view edits.now)) }
 {
+    let count = edits.list.len().min(version.seat_sizes().places as usize);
     let mut updates = Vec::new(alloc);
-    for (place, edit) in edits.list.iter().enumerate() {
-        push_edit(&mut updates, version, place as u32, edit)?;
+    for place in 0..count {
+        push_edit(&mut updates, version, place as u32, &edits.list[place])?;
     }
     Ok(updates)
 }
 
-/// The transaction of these edits: nine sectors for a place that is taken, and for one that is
-/// freed too, or one in version 3; four for a reply that is held, and none for a place that stays.
+/// The transaction of these edits: all sectors of a place that is taken, and of one that is freed
+/// too, or the first in version 3; four for a reply that is held, and none for a place that stays.
 pub(crate) fn updates_of(
     alloc: Global,
     version: VersionNumber,

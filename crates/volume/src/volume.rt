@@ -240,7 +240,8 @@ impl<D: Device> Volume<D> {
 
     /// The version in which the volume is served.
     pub fn version(&self) -> VersionNumber
-        ensures { result ≡ (volume_state self.now).version }
+        ensures version { result ≡ (volume_state self.now).version }
+        ensures served { IsServed result }
     {
         self.version
     }

@@ -38,7 +38,7 @@ returns-in_err-contents-clause-damaged g c = λ k is kept stands.
     let damaged = only_damaged fault (err_is c.from_residual.result (mount_fault fault) mounts.Damaged told is) in
     let number = c.requires.volume.number in
     let held = held_as found.version found.sectors found.nodes found.run image kept number c.requires.volume.sized (c.requires.base k).first stands in
-    c.in_err-contents.ensures.damaged k (ap (λ x. Err x) damaged) held.mark kept.seats (cached_nodes_in found.nodes image) held.marked held.may stands.keeps held.stands.laid
+    c.in_err-contents.ensures.damaged k (ap (λ x. Err x) damaged) held.mark kept.seats (cached_nodes_in found.nodes image) held.marked held.may held.keeps held.stands.laid
     (held_few found.version held.mark kept.seats found.sectors found.nodes found.run image kept.tree number held.stands)
 
 pub from_cached_nodes-requires-clause-numbered : goal.from_cached_nodes-requires-clause-numbered

@@ -3,9 +3,8 @@ use Rattle.std.specs.Prelude.{IsTrue, Err}
 use Rattle.disk.specs.Moments.{moment}
 use Rattle.journal.specs.Journal.{log_of, journal_failures}
 use Rattle.journal.specs.declared.layout.LogArea.{LogArea}
-use Rattle.journal.specs.Layout.{AreTargets, targets}
+use Rattle.journal.specs.Layout.{AreTargets, max_updates, targets}
 use Rattle.journal.specs.Log.{Log, contents}
-use Rattle.journal.proofs.Journals.{takes_enough}
 use Rattle.layout.specs.Stands.{Kept}
 use Rattle.layout.specs.Versions.{data_end_by, limits_by, log_by, size_by}
 use Rattle.model_tree.specs.Seats.SeatEdits.{edited_all, edits_view}
@@ -15,7 +14,7 @@ use Rattle.volume.specs.Views.{volume_state_by, volume_state, volume_failures}
 use Rattle.volume.proofs.ApplyLaws.{applied_serves, applied_tree, apply_done, apply_refused}
 use Rattle.volume.proofs.FormedLaws.{shows_same}
 use Rattle.volume.proofs.SeatingLaws.{seats_behind, up_applied}
-use Rattle.volume.proofs.SeatPlaces.{seats_below}
+use Rattle.volume.proofs.SeatPlaces.{few_enough, seats_below}
 use Rattle.volume.proofs.ServeLaws.{flush_costs, is_err_of}
 use Rattle.volume.proofs.StandLaws.{is_number, placed_on}
 use Rattle.volume.proofs.KeepLaws.{left}
@@ -56,9 +55,9 @@ returns-in_err-apply-clause-volume g c =
     let up : old.is_down ≡ false = sym c.is_down.ensures ∙ c.if-is_down.false in
     let held = volume_state_by volume.version volume.limits volume.run volume.table old in
     let after : Kept = record { tree = held.tree; seats = edited_all (edits_view c.args.edits.now) held.seats } in
-    let few : length c.in_ok-updates.updates.items ≤ 48 = (let most = c.in_ok-updates.ensures.few in omega (arith, most)) in
+    let few : length c.in_ok-updates.updates.items ≤ max_updates old.area = few_enough volume.version old.area old.size _ (is_number volume.version volume.served) volume.placed c.in_ok-updates.ensures.few in
     rw told (apply_refused g.D.Device.keeps_word volume.version volume.limits volume.run volume.table old new after _ _ fault c.in_err-apply.ensures.safe volume.placed up
-    (λ many. (let bound = (c.in_err-apply.ensures.too_many up).0 (ap (λ x. Err x) many) in omega (arith, bound, few, takes_enough volume.store.journal))) c.in_err-apply.ensures.answers c.in_err-apply.ensures.refuses)
+    (λ many. (let bound = (c.in_err-apply.ensures.too_many up).0 (ap (λ x. Err x) many) in omega (arith, bound, few))) c.in_err-apply.ensures.answers c.in_err-apply.ensures.refuses)
 
 pub returns-in_err-apply-clause-brief : goal.returns-in_err-apply-clause-brief
 unfolding volume_state
@@ -89,7 +88,7 @@ invariant_of-self g c =
     let did = c.apply.ensures in
     let size : old.size ≡ new.size = sym did.safe.size in
     let up : old.is_down ≡ false = sym c.is_down.ensures ∙ c.if-is_down.false in
-    let few : length updates ≤ 48 = (let most = c.in_ok-updates.ensures.few in omega (arith, most)) in
+    let few : length updates ≤ max_updates old.area = few_enough version old.area old.size _ (is_number version volume.served) volume.placed c.in_ok-updates.ensures.few in
     record {
       bounded = volume.bounded;
       served = volume.served;
@@ -101,7 +100,7 @@ invariant_of-self g c =
       placed = placed_on version new.area old.area new.size old.size did.safe.area did.safe.size volume.placed;
       serves = λ k is_up.
           let has = up_applied g.D.Device.keeps_word old new _ _ _ c.apply.result did.ok did.answers did.refuses
-          (λ many. (let bound = (did.too_many up).0 many in omega (arith, bound, few, takes_enough volume.store.journal))) is_up in
+          (λ many. (let bound = (did.too_many up).0 many in omega (arith, bound, few))) is_up in
           applied_serves g.D.Device.keeps_word version volume.limits volume.run volume.table volume.table old new updates after 0 0 did.safe volume.placed (omega arith) is_up has
           (λ kept. volume.serves kept up)
           (λ kept. seats_behind version volume.served nodes volume.run old volume.table edits updates c.in_ok-updates.ensures (c.requires kept) (volume.serves kept up)) k;
