@@ -32,10 +32,10 @@ stay_all zero seats = refl
 stay_all (suc count) [] = refl
 stay_all (suc count) (place ∷ seats) = ap (λ (rest : Seats). place ∷ rest) (stay_all count seats)
 
-pub can_stay : (count : ℕ) (seats : Seats) → count ≡ length seats → CanEditAll (replicate count Stays) seats
-can_stay zero seats e = tt
-can_stay (suc count) [] e = absurd (omega (arith, e))
-can_stay (suc count) (place ∷ seats) e = (tt, can_stay count seats (omega (arith, e)))
+pub can_stay : (slots count : ℕ) (seats : Seats) → count ≡ length seats → CanEditAll slots (replicate count Stays) seats
+can_stay slots zero seats e = tt
+can_stay slots (suc count) [] e = absurd (omega (arith, e))
+can_stay slots (suc count) (place ∷ seats) e = (tt, can_stay slots count seats (omega (arith, e)))
 
 -- One
 
@@ -92,30 +92,31 @@ module _ (id : List ℕ) where
         ap (λ (rest : Seats). Some seat ∷ rest) (edits_there count seats i (omega (arith, e)) apart.1 (omega arith) here)
         ∙ ap (λ (b : Bool). cond b (edited_seat edit (Some seat)) (Some seat) ∷ map (edited_if id edit) seats) (sym (other_first seat seats apart.0 (is_there seats i (omega arith) here)))
 
-    can_there : (count : ℕ) (seats : Seats) (i : ℕ) → count ≡ length seats → i < length seats → CanEdit edit (get_or seats i None) → CanEditAll (set (replicate count Stays) i edit) seats
-    can_there count [] i e within can = absurd (omega arith)
-    can_there zero (place ∷ seats) i e within can = absurd (omega (arith, e))
-    can_there (suc count) (place ∷ seats) zero e within can = (can, can_stay count seats (omega (arith, e)))
-    can_there (suc count) (place ∷ seats) (suc i) e within can = (tt, can_there count seats i (omega (arith, e)) (omega arith) can)
+    can_there : (slots count : ℕ) (seats : Seats) (i : ℕ) → count ≡ length seats → i < length seats → CanEdit slots edit (get_or seats i None)
+        → CanEditAll slots (set (replicate count Stays) i edit) seats
+    can_there slots count [] i e within can = absurd (omega arith)
+    can_there slots zero (place ∷ seats) i e within can = absurd (omega (arith, e))
+    can_there slots (suc count) (place ∷ seats) zero e within can = (can, can_stay slots count seats (omega (arith, e)))
+    can_there slots (suc count) (place ∷ seats) (suc i) e within can = (tt, can_there slots count seats i (omega (arith, e)) (omega arith) can)
 
     -- the place is found, or there is none
     pub edits_found : (count : ℕ) (seats : Seats) (i : ℕ) → count ≡ length seats → SeatsApart seats → position (is_place_of id) seats ≡ Some i
-        → ((seat : Seat) → seat_of id seats ≡ Some seat → CanEdit edit (Some seat)) → EditsOne id edit seats (set (replicate count Stays) i edit)
+        → ((slots : ℕ) (seat : Seat) → seat_of id seats ≡ Some seat → CanEdit slots edit (Some seat)) → EditsOne id edit seats (set (replicate count Stays) i edit)
     edits_found count seats i e apart found can =
         let at = position-Some (is_place_of id) seats i None found in
         record {
           edited = edits_there count seats i e apart at.0 at.1;
-          can = can_there count seats i e at.0 (by_place (get_or seats i None) (seat_there seats i apart at.0 at.1) at.1);
+          can = λ slots. can_there slots count seats i e at.0 (by_place slots (get_or seats i None) (seat_there seats i apart at.0 at.1) at.1);
         }
       where
-        by_place : (place : Option Seat) → seat_of id seats ≡ place → is_place_of id place ≡ true → CanEdit edit place
-        by_place None is here = absurd (true≢false (sym here))
-        by_place (Some seat) is here = can seat is
+        by_place : (slots : ℕ) (place : Option Seat) → seat_of id seats ≡ place → is_place_of id place ≡ true → CanEdit slots edit place
+        by_place slots None is here = absurd (true≢false (sym here))
+        by_place slots (Some seat) is here = can slots seat is
 
     pub edits_none : (count : ℕ) (seats : Seats) → count ≡ length seats → position (is_place_of id) seats ≡ None → EditsOne id edit seats (replicate count Stays)
     edits_none count seats e missing = record {
       edited = stay_all count seats ∙ sym (untouched seats (false_from_ne_true (has_seat id seats) (λ has. none_placed seats (position-None (is_place_of id) seats missing) has)));
-      can = can_stay count seats e;
+      can = λ slots. can_stay slots count seats e;
     }
       where
         none_placed : (seats : Seats) → ((k : ℕ) (d : Option Seat) → k < length seats → is_place_of id (get_or seats k d) ≡ false) → has_seat id seats ≡ true → ⊥

@@ -1,5 +1,5 @@
 -- Edits that are made one after the other.
-use Rattle.std.proofs.Common.{◌≡◌, ℕ, ◌+◌, ◌<◌, ◌&&◌, List, [], ◌∷◌, ◌++◌, length, map, get_or, set, Option, refl, sym, ap, ◌∙◌, arith}
+use Rattle.std.proofs.Common.{◌≡◌, ℕ, suc, ◌+◌, ◌<◌, ◌≤◌, ◌&&◌, List, [], ◌∷◌, ◌++◌, length, map, get_or, set, Option, refl, sym, ap, ◌∙◌, arith}
 use Rattle.std.specs.List.{list_all, enumerate_from}
 use Rattle.std.proofs.lemmas.List.FromFn.{get_or-enumerate_from}
 use Rattle.model_tree.specs.declared.seats.SeatEdit.{SeatEdit as Edit}
@@ -18,6 +18,18 @@ edited_more [] edit [] d within = absurd (omega arith)
 edited_more [] edit (place ∷ seats) d within = refl
 edited_more (first ∷ edits) edit [] d within = absurd (omega arith)
 edited_more (first ∷ edits) edit (place ∷ seats) d within = ap (λ (rest : Seats). edited_seat first place ∷ rest) (edited_more edits edit seats d (omega arith))
+
+-- one past the last place
+pub edited_past : (edits : List SeatEdit) (edit : SeatEdit) (seats : Seats) → length seats ≤ length edits → edited_all (edits ++ edit ∷ []) seats ≡ edited_all edits seats
+edited_past [] edit [] past = refl
+edited_past [] edit (place ∷ seats) past = absurd (omega arith)
+edited_past (first ∷ edits) edit [] past = refl
+edited_past (first ∷ edits) edit (place ∷ seats) past = ap (λ (rest : Seats). edited_seat first place ∷ rest) (edited_past edits edit seats (omega arith))
+
+pub length_edited : (edits : List SeatEdit) (seats : Seats) → length (edited_all edits seats) ≡ length seats
+length_edited [] seats = refl
+length_edited (edit ∷ edits) [] = refl
+length_edited (edit ∷ edits) (place ∷ seats) = ap suc (length_edited edits seats)
 
 -- with their places
 

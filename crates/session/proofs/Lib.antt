@@ -13,3 +13,4 @@ pub mod Lists
 pub mod Opening
 pub mod Serials
 pub mod Taking
+pub mod Writes

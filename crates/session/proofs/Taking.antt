@@ -25,14 +25,15 @@ module _ (gone : Seat → Bool) where
   freeing_all (Some seat ∷ seats) =
       cons_same (edited_seat (cond (gone seat) Frees Stays) (Some seat)) (cond (gone seat) None (Some seat)) _ _ (freeing_one seat (gone seat)) (freeing_all seats)
 
-  can_free_one : (seat : Seat) (b : Bool) (seats : Seats) → CanEditAll (map (freeing gone) seats) seats → CanEditAll (cond b Frees Stays ∷ map (freeing gone) seats) (Some seat ∷ seats)
-  can_free_one seat true seats can = (tt, can)
-  can_free_one seat false seats can = (tt, can)
+  can_free_one : (slots : ℕ) (seat : Seat) (b : Bool) (seats : Seats) → CanEditAll slots (map (freeing gone) seats) seats
+      → CanEditAll slots (cond b Frees Stays ∷ map (freeing gone) seats) (Some seat ∷ seats)
+  can_free_one slots seat true seats can = (tt, can)
+  can_free_one slots seat false seats can = (tt, can)
 
-  can_free : (seats : Seats) → CanEditAll (map (freeing gone) seats) seats
-  can_free [] = tt
-  can_free (None ∷ seats) = (tt, can_free seats)
-  can_free (Some seat ∷ seats) = can_free_one seat (gone seat) seats (can_free seats)
+  can_free : (slots : ℕ) (seats : Seats) → CanEditAll slots (map (freeing gone) seats) seats
+  can_free slots [] = tt
+  can_free slots (None ∷ seats) = (tt, can_free slots seats)
+  can_free slots (Some seat ∷ seats) = can_free_one slots seat (gone seat) seats (can_free slots seats)
 
   module _ (new : Seat) where
     taking_there : (seats : Seats) (i : ℕ) → i < length seats → is_left_free gone (get_or seats i None) ≡ true
@@ -50,22 +51,23 @@ module _ (gone : Seat → Bool) where
         ∙ ap (λ (rest : Seats). Some seat ∷ rest) (taking_there seats i (omega arith) here (λ k h. before (suc k) (omega arith)))
         ∙ sym (ap (λ (b : Bool). seated new (cond b None (Some seat) ∷ freed gone seats)) stays)
 
-    can_take : (seats : Seats) (i : ℕ) → i < length seats → CanEditAll (set (map (freeing gone) seats) i (Takes new)) seats
-    can_take [] i within = absurd (omega arith)
-    can_take (None ∷ seats) zero within = (tt, can_free seats)
-    can_take (None ∷ seats) (suc i) within = (tt, can_take seats i (omega arith))
-    can_take (Some seat ∷ seats) zero within = (tt, can_free seats)
-    can_take (Some seat ∷ seats) (suc i) within = by_test (gone seat) (can_take seats i (omega arith))
+    can_take : (slots : ℕ) → length new.slots ≤ slots → (seats : Seats) (i : ℕ) → i < length seats → CanEditAll slots (set (map (freeing gone) seats) i (Takes new)) seats
+    can_take slots few [] i within = absurd (omega arith)
+    can_take slots few (None ∷ seats) zero within = (few, can_free slots seats)
+    can_take slots few (None ∷ seats) (suc i) within = (tt, can_take slots few seats i (omega arith))
+    can_take slots few (Some seat ∷ seats) zero within = (few, can_free slots seats)
+    can_take slots few (Some seat ∷ seats) (suc i) within = by_test (gone seat) (can_take slots few seats i (omega arith))
       where
-        by_test : (b : Bool) → CanEditAll (set (map (freeing gone) seats) i (Takes new)) seats
-            → CanEditAll (cond b Frees Stays ∷ set (map (freeing gone) seats) i (Takes new)) (Some seat ∷ seats)
+        by_test : (b : Bool) → CanEditAll slots (set (map (freeing gone) seats) i (Takes new)) seats
+            → CanEditAll slots (cond b Frees Stays ∷ set (map (freeing gone) seats) i (Takes new)) (Some seat ∷ seats)
         by_test true can = (tt, can)
         by_test false can = (tt, can)
 
-    -- by the place that was found
-    pub can_edit : (seats : Seats) (place : Option ℕ) → ((i : ℕ) → place ≡ Some i → position (is_left_free gone) seats ≡ Some i) → CanEditAll (edits_with gone place new seats) seats
-    can_edit seats None found = can_free seats
-    can_edit seats (Some i) found = can_take seats i (position-Some (is_left_free gone) seats i None (found i refl)).0
+    -- by the place that was found, if a place has room for the slots that the seat then has
+    pub can_edit : (slots : ℕ) (seats : Seats) (place : Option ℕ) → (is_some place ≡ true → length new.slots ≤ slots)
+        → ((i : ℕ) → place ≡ Some i → position (is_left_free gone) seats ≡ Some i) → CanEditAll slots (edits_with gone place new seats) seats
+    can_edit slots seats None few found = can_free slots seats
+    can_edit slots seats (Some i) few found = can_take slots (few refl) seats i (position-Some (is_left_free gone) seats i None (found i refl)).0
 
     pub taken : (seats : Seats) (i : ℕ) → position (is_left_free gone) seats ≡ Some i → edited_all (edits_with gone (Some i) new seats) seats ≡ seated new (freed gone seats)
     taken seats i found =

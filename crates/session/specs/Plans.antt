@@ -5,7 +5,7 @@ use Rattle.std.specs.Prelude.{◌≡◌, ◌<◌, ℕ, ◌+◌, List, [], ◌∷
 use Rattle.std.specs.List.{find}
 use Rattle.model.specs.declared.not_done.NotDone.{NotDone}
 use Rattle.model.specs.declared.not_done.NotDone.TheVariants as refusal
-use Rattle.model_tree.specs.declared.seats.SeatEdits.{SeatEdits}
+use Rattle.model_tree.specs.declared.seat_edits.SeatEdits.{SeatEdits}
 use Rattle.model_tree.specs.Seats.Seats.{is_seat_of, freed}
 use Rattle.model_tree.specs.Seats.SeatEdits.{AreEdits, edited_all, edits_view}
 use Rattle.model.specs.Sessions.Session as model
@@ -49,17 +49,18 @@ pub record IsPlanned (wanted : CreateSessionOutcome) (old : model.Table)
   pub answer : wanted.answer ≡ Ok (create_session_view plan.answer)
   pub ended : wanted.ended_clients ≡ plan.ended.items
   pub seats : wanted.table.seats ≡ edited_all (edits_view plan.edits) old.seats
-  pub edits : AreEdits old.run (edits_view plan.edits) old.seats
   pub opens : Opens wanted.table old plan
 
 -- If a kept result is returned again, or there is none, the table is to stay. If memory runs out,
--- which happens only for a new session, there is no plan.
-abbrev pub Plans : CreateSessionOutcome → model.Table → Result Creation NotDone → Type 0
-Plans wanted old (Ok (creation.Again answer)) =
+-- which happens only for a new session, there is no plan. A seat has at most `slots` slots.
+abbrev pub Plans : (slots : ℕ) → CreateSessionOutcome → model.Table → Result Creation NotDone
+    → Type 0
+Plans slots wanted old (Ok (creation.Again answer)) =
     wanted ≡ record { answer = Ok (create_session_view answer); ended_clients = []; table = old }
-Plans wanted old (Ok (creation.New plan)) = IsPlanned wanted old plan
-Plans wanted old (Err (refusal.Status reason)) = wanted ≡ create_refused reason old
-Plans wanted old (Err refusal.Memory) = wanted.table.session_serial ≡ old.session_serial + 1
+Plans slots wanted old (Ok (creation.New plan)) =
+    IsPlanned wanted old plan × AreEdits old.run slots (edits_view plan.edits) old.seats
+Plans slots wanted old (Err (refusal.Status reason)) = wanted ≡ create_refused reason old
+Plans slots wanted old (Err refusal.Memory) = wanted.table.session_serial ≡ old.session_serial + 1
 
 -- the memory for one more session is taken
 abbrev pub HasRoom : Table → Type 0
@@ -81,7 +82,7 @@ pub record IsEndPlanned (id : List ℕ) (old : model.Table) (plan : SeatEdits) :
   pub done : (destroy_session id old).0 ≡ None
   pub seats : edited_all (edits_view plan) old.seats ≡ freed (is_seat_of id) old.seats
   pub left : (destroy_session id old).1.seats ≡ edited_all (edits_view plan) old.seats
-  pub edits : AreEdits old.run (edits_view plan) old.seats
+  pub edits : (slots : ℕ) → AreEdits old.run slots (edits_view plan) old.seats
 
 abbrev pub PlansEnd : List ℕ → model.Table → Result SeatEdits NotDone → Type 0
 PlansEnd id old (Ok plan) = IsEndPlanned id old plan
@@ -94,4 +95,4 @@ pub record IsHoldPlanned (id : List ℕ) (slot : ℕ) (reply : List ℕ) (old : 
     (plan : SeatEdits) : Type 0 where
   pub seats : edited_all (edits_view plan) old.seats
       ≡ held_by id slot reply old.seats (find (is_session id) old.sessions)
-  pub edits : AreEdits old.run (edits_view plan) old.seats
+  pub edits : (slots : ℕ) → AreEdits old.run slots (edits_view plan) old.seats

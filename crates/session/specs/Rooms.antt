@@ -6,8 +6,7 @@ use Rattle.model_tree.specs.Refusals.Refusal.{Refusals}
 use Rattle.std.specs.List.{list_any, find}
 use Rattle.std.specs.Option.{option_map}
 use Rattle.model.specs.Sessions.Session as model
-use Rattle.model.specs.Sessions.Session.{is_client, is_unconfirmed, is_unconfirmed_of, is_unconfirmed_client, is_replaced_by, is_of_clients, client_number, is_running, is_too_small, has_only, session_flags, replaced_by, is_full_of_sessions}
-use Rattle.session.specs.Limits.{served}
+use Rattle.model.specs.Sessions.Session.{SessionLimits, is_client, is_unconfirmed, is_unconfirmed_of, is_unconfirmed_client, is_replaced_by, is_of_clients, client_number, is_running, is_too_small, has_only, session_flags, replaced_by, is_full_of_sessions}
 use Rattle.session.specs.Views.{clients_of, roll_of}
 use Rattle.session.specs.declared.client.Client.{Client}
 use Rattle.session.specs.declared.clients.Clients.{Clients}
@@ -37,17 +36,18 @@ records_staying owner dropped yielded clients = filter (stays owner dropped yiel
 abbrev pub may_yield : List ℕ → (dropped : Option ℕ) → model.Client → Bool
 may_yield owner dropped client = is_unconfirmed client && stays owner dropped None client
 
--- whose record is yielded to a new one of this owner id
-abbrev pub yielded_for : List ℕ → (dropped : Option ℕ) → model.Table → Option ℕ
-yielded_for owner dropped table =
+-- whose record is yielded to a new one of this owner id, if there are at most `most`
+abbrev pub yielded_for : (most : ℕ) → List ℕ → (dropped : Option ℕ) → model.Table → Option ℕ
+yielded_for most owner dropped table =
     if table.settings.yields_when_full
-    && nat_le 64 (length (records_staying owner dropped None table.clients))
+    && nat_le most (length (records_staying owner dropped None table.clients))
     then option_map (λ client. client.number) (find (may_yield owner dropped) table.clients)
     else None
 
 -- no place or no serial is left
-abbrev pub is_full_beside : List model.Client → ℕ → Bool
-is_full_beside staying serial = nat_le 64 (length staying) || nat_le (2 ^ 32 - 1) serial
+abbrev pub is_full_beside : (most : ℕ) → List model.Client → ℕ → Bool
+is_full_beside most staying serial =
+    nat_le most (length staying) || nat_le (2 ^ 32 - 1) serial
 
 abbrev pub record_of : ℕ → ExchangeIdArguments → ℕ → model.Client
 record_of uid arguments number = record {
@@ -62,10 +62,10 @@ record_of uid arguments number = record {
 }
 
 -- a new record: its number, or why there is none, and the records after it
-abbrev pub Adds : ℕ → ExchangeIdArguments → (dropped yielded : Option ℕ) → Clients → Clients
-    → Result ℕ NotDone → Type 0
-Adds uid arguments dropped yielded old new (Ok number) =
-    (is_full_beside (records_staying arguments.owner dropped yielded (clients_of old)) old.serial ≡ false)
+abbrev pub Adds : (most uid : ℕ) → ExchangeIdArguments → (dropped yielded : Option ℕ) → Clients
+    → Clients → Result ℕ NotDone → Type 0
+Adds most uid arguments dropped yielded old new (Ok number) =
+    (is_full_beside most (records_staying arguments.owner dropped yielded (clients_of old)) old.serial ≡ false)
     × (number ≡ client_number old.run (old.serial + 1))
     × (roll_of new ≡ (
       old.run,
@@ -73,11 +73,11 @@ Adds uid arguments dropped yielded old new (Ok number) =
       records_staying arguments.owner dropped yielded (clients_of old) ++ record_of uid arguments number
           ∷ [],
     ))
-Adds uid arguments dropped yielded old new (Err (refusal.Status reason)) =
-    (is_full_beside (records_staying arguments.owner dropped yielded (clients_of old)) old.serial ≡ true)
+Adds most uid arguments dropped yielded old new (Err (refusal.Status reason)) =
+    (is_full_beside most (records_staying arguments.owner dropped yielded (clients_of old)) old.serial ≡ true)
     × (reason ≡ status.Delay) × (roll_of new ≡ roll_of old)
-Adds uid arguments dropped yielded old new (Err refusal.Memory) =
-    (is_full_beside (records_staying arguments.owner dropped yielded (clients_of old)) old.serial ≡ false)
+Adds most uid arguments dropped yielded old new (Err refusal.Memory) =
+    (is_full_beside most (records_staying arguments.owner dropped yielded (clients_of old)) old.serial ≡ false)
     × (roll_of new ≡ roll_of old)
 
 -- the client's number is one that this run gave
@@ -94,11 +94,11 @@ reclaimed known = record known { has_reclaimed = true }
 
 -- why CREATE_SESSION fails if the record's next number is `next`: by its arguments, and then for
 -- lack of room
-abbrev pub argument_refusals : ℕ → CreateSessionArguments → Refusals
-argument_refusals next arguments =
+abbrev pub argument_refusals : SessionLimits → ℕ → CreateSessionArguments → Refusals
+argument_refusals limits next arguments =
     (not (arguments.sequence == next), status.SeqMisordered)
     ∷ (not (has_only session_flags arguments.flags), status.Inval)
-    ∷ (is_too_small served arguments.fore, status.TooSmall)
+    ∷ (is_too_small limits arguments.fore, status.TooSmall)
     ∷ []
 
 -- a session that gives way to one of `client` runs a request
@@ -107,8 +107,8 @@ ends_running client table =
     list_any (λ session. is_of_clients (replaced_by client table) session && is_running session)
     table.sessions
 
-abbrev pub room_refusals : model.Client → model.Table → Refusals
-room_refusals client table =
+abbrev pub room_refusals : SessionLimits → model.Client → model.Table → Refusals
+room_refusals limits client table =
     (ends_running client table, status.Delay)
-    ∷ (is_full_of_sessions served client table, status.Delay)
+    ∷ (is_full_of_sessions limits client table, status.Delay)
     ∷ []

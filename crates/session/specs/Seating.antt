@@ -23,11 +23,11 @@ abbrev pub has_held_slot : ℕ → Option Seat → Bool
 has_held_slot place None = false
 has_held_slot place (Some seat) = nat_lt place (length seat.slots)
 
--- the edits change only that one
+-- the edits change only that one, however many slots a place has room for
 pub record EditsOne (id : List ℕ) (edit : SeatEdit) (seats : Seats)
     (edits : List SeatEdit) : Type 0 where
   pub edited : edited_all edits seats ≡ map (edited_if id edit) seats
-  pub can : CanEditAll edits seats
+  pub can : (slots : ℕ) → CanEditAll slots edits seats
 
 -- Seats that give way
 

@@ -4,7 +4,6 @@ ghost use Rattle.std.specs.Prelude.{◌<◌, ◌≤◌, ◌+◌, ◌*◌, ◌^�
 ghost use Rattle.std.specs.List.{AllPairs};
 
 use crate::client::Client;
-use crate::limits::MAX_CLIENTS;
 use model::not_done::NotDone;
 use model_tree::stamps::stamp;
 use model_tree::status::Status;
@@ -115,21 +114,22 @@ impl Clients {
     }
 
     /// A new unconfirmed record, in place of an unconfirmed one of the owner, of the record
-    /// `dropped` and of the unconfirmed one `yielded`: its client id.
+    /// `dropped` and of the unconfirmed one `yielded`: its client id. There are at most `most`.
     pub fn add(
         &mut self,
         alloc: Global,
+        most: usize,
         uid: u32,
         arguments: &ExchangeIdArguments<'_>,
         dropped: Option<u64>,
         yielded: Option<u64>,
     ) -> Result<u64, NotDone>
-        ensures { Adds uid (exchange_id_view arguments.now) dropped yielded
+        ensures { Adds most uid (exchange_id_view arguments.now) dropped yielded
             self.old self.new result }
     {
         let owner = arguments.owner;
         let staying = self.count_staying(owner, dropped, yielded);
-        if MAX_CLIENTS <= staying || self.serial == u32::MAX {
+        if most <= staying || self.serial == u32::MAX {
             return Err(NotDone::Status(Status::Delay));
         }
         // Client ids are made as stamps are.

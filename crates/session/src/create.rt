@@ -7,8 +7,9 @@ ghost use Rattle.model.specs.Sessions.Session.{CreateSessionOutcome, create_sess
 ghost use Rattle.wire.specs.ArgumentViews.{create_session_view};
 ghost use Rattle.wire.specs.SmallViews.{channel_view};
 ghost use Rattle.wire.specs.Short.{IsRefusal};
+ghost use Rattle.model_tree.specs.Seats.SeatEdits.{AreEdits, edits_view};
 ghost use Rattle.session.specs.Calls.{Refuses};
-ghost use Rattle.session.specs.Limits.{served};
+ghost use Rattle.session.specs.Limits.{limits_of};
 ghost use Rattle.session.specs.Plans.{Plans, IsPlanned, HasRoom, HasRoomFor, Created};
 ghost use Rattle.session.specs.Rooms.{IsOfRun, argument_refusals, room_refusals, ends_running};
 ghost use Rattle.session.specs.Views.{table_of, client_of};
@@ -16,7 +17,7 @@ ghost use Rattle.session.specs.Views.{table_of, client_of};
 use crate::client::Client;
 use crate::edits::edit_seats;
 use crate::flags::SessionFlags;
-use crate::limits::{MAX_OPERATIONS, MAX_RECORD_BYTES, MAX_SEAT_SLOTS, MAX_SESSIONS, MAX_SLOTS};
+use crate::limits::Limits;
 use crate::plan::{CreatedSession, Creation, NewSession};
 use crate::session::{Session, session_id};
 use crate::table::Table;
@@ -34,21 +35,22 @@ impl Table {
     /// SEQ_MISORDERED for a number other than the record's next, unless it is the one before and
     /// its result is kept; INVAL for a flag that may not be set; TOOSMALL for a fore channel below
     /// the record size or without operations or requests; DELAY if a session that would end runs a
-    /// request, if the session would be the 33rd, or if no serial is left. `Memory` is returned
-    /// only if a session would be made.
+    /// request, if there are `limits.sessions` besides those, or if no serial is left. `Memory` is
+    /// returned only if a session would be made.
     pub fn plan_session(
         &mut self,
+        limits: Limits,
         uid: u32,
         arguments: &CreateSessionArguments<'_>,
     ) -> Result<Creation, NotDone>
         ensures same { table_of self.new ≡ table_of self.old }
-        ensures planned { Plans
-            (create_session served uid (create_session_view arguments.now) (table_of self.old))
-            (table_of self.old) result }
+        ensures planned { Plans limits.seat_slots
+            (create_session (limits_of limits) uid (create_session_view arguments.now)
+            (table_of self.old)) (table_of self.old) result }
         ensures room { IfOk result (HasRoomFor self.new) }
         ensures refused { IfErr result Refuses }
     {
-        let creation = self.plan(uid, arguments)?;
+        let creation = self.plan(limits, uid, arguments)?;
         if let Creation::New(_) = &creation {
             self.sessions.reserve()?;
         }
@@ -76,10 +78,15 @@ impl Table {
     }
 
     // The same, without the memory in the table.
-    fn plan(&self, uid: u32, arguments: &CreateSessionArguments<'_>) -> Result<Creation, NotDone>
-        ensures planned { Plans
-            (create_session served uid (create_session_view arguments.now) (table_of self.now))
-            (table_of self.now) result }
+    fn plan(
+        &self,
+        limits: Limits,
+        uid: u32,
+        arguments: &CreateSessionArguments<'_>,
+    ) -> Result<Creation, NotDone>
+        ensures planned { Plans limits.seat_slots
+            (create_session (limits_of limits) uid (create_session_view arguments.now)
+            (table_of self.now)) (table_of self.now) result }
         ensures refused { IfErr result Refuses }
     {
         let Some(client) = self.clients.find(arguments.client) else {
@@ -91,20 +98,21 @@ impl Table {
         if let Some(answer) = client.repeated(arguments.sequence) {
             return Ok(Creation::Again(answer));
         }
-        check_arguments(client.sequence, arguments)?;
-        self.check_room(client)?;
-        let plan = self.plan_new(client, arguments)?;
+        check_arguments(limits, client.sequence, arguments)?;
+        self.check_room(limits, client)?;
+        let plan = self.plan_new(limits, client, arguments)?;
         Ok(Creation::New(plan))
     }
 
     // DELAY if a session that would end runs a request, or if there is no place or no serial for
     // one more.
-    fn check_room(&self, client: &Client) -> Result<(), Status>
+    fn check_room(&self, limits: Limits, client: &Client) -> Result<(), Status>
         ensures first { result_err result
-            ≡ first_refusal (room_refusals (client_of client.now) (table_of self.now)) }
+            ≡ first_refusal
+            (room_refusals (limits_of limits) (client_of client.now) (table_of self.now)) }
         ensures refused { IfErr result IsRefusal }
     {
-        if self.ends_a_running_session(client) || self.is_full_beside(client) {
+        if self.ends_a_running_session(client) || self.is_full_beside(limits, client) {
             return Err(Status::Delay);
         }
         Ok(())
@@ -118,8 +126,9 @@ impl Table {
             && session.is_running())
     }
 
-    fn is_full_beside(&self, client: &Client) -> bool
-        ensures { result ≡ is_full_of_sessions served (client_of client.now) (table_of self.now) }
+    fn is_full_beside(&self, limits: Limits, client: &Client) -> bool
+        ensures { result ≡ is_full_of_sessions (limits_of limits) (client_of client.now)
+            (table_of self.now) }
     {
         let clients = &self.clients;
         let staying = self
@@ -128,25 +137,29 @@ impl Table {
             .iter()
             .filter(|session| !clients.is_ending(client, session.client))
             .count();
-        MAX_SESSIONS <= staying || self.sessions.serial == u64::MAX
+        limits.sessions as usize <= staying || self.sessions.serial == u64::MAX
     }
 
     // The session of this client, if those of the ended clients give way to it.
     fn plan_new(
         &self,
+        limits: Limits,
         client: &Client,
         arguments: &CreateSessionArguments<'_>,
     ) -> Result<NewSession, AllocError>
         requires serial { self.now.sessions.serial + 1 < 2 ^ 64 }
         requires known { IsOfRun self.now.clients client.now }
         requires some { arguments.now.fore.max_requests ≢ 0 }
-        ensures { IfOk result (IsPlanned (create_unless served (create_session_view arguments.now)
-            (client_of client.now) (table_of self.now) None) (table_of self.now)) }
+        ensures planned { IfOk result (IsPlanned (create_unless (limits_of limits)
+            (create_session_view arguments.now) (client_of client.now) (table_of self.now) None)
+            (table_of self.now)) }
+        ensures edits { IfOk result (λ plan. AreEdits (table_of self.now).run limits.seat_slots
+            (edits_view plan.edits) (table_of self.now).seats) }
     {
         let lacks = self.lacks_seat(client, arguments);
         let place = self.place_for(client, lacks, arguments);
         let serial = self.sessions.serial + 1;
-        let fore = fore_channel(&arguments.fore, place.is_some());
+        let fore = fore_channel(limits, &arguments.fore, place.is_some());
         let session = Session::new(self.alloc, client.number, serial, &fore)?;
         let id = session_id(client.number, serial);
         let edits = self.plan_seats(client, lacks, id, fore.max_requests, place)?;
@@ -171,9 +184,13 @@ impl Table {
 }
 
 // The tests of just the arguments, given the record's next number.
-fn check_arguments(next: u32, arguments: &CreateSessionArguments<'_>) -> Result<(), Status>
-    ensures first { result_err result
-        ≡ first_refusal (argument_refusals next (create_session_view arguments.now)) }
+fn check_arguments(
+    limits: Limits,
+    next: u32,
+    arguments: &CreateSessionArguments<'_>,
+) -> Result<(), Status>
+    ensures first { result_err result ≡ first_refusal
+        (argument_refusals (limits_of limits) next (create_session_view arguments.now)) }
     ensures refused { IfErr result IsRefusal }
 {
     if arguments.sequence != next {
@@ -182,33 +199,37 @@ fn check_arguments(next: u32, arguments: &CreateSessionArguments<'_>) -> Result<
     if !SessionFlags::from_bits_retain(arguments.flags).may_be_asked() {
         return Err(Status::Inval);
     }
-    if is_too_small(&arguments.fore) {
+    if is_too_small(limits, &arguments.fore) {
         return Err(Status::TooSmall);
     }
     Ok(())
 }
 
-fn is_too_small(fore: &Channel) -> bool
-    ensures { result ≡ is_too_small served (channel_view fore.now) }
+fn is_too_small(limits: Limits, fore: &Channel) -> bool
+    ensures { result ≡ is_too_small (limits_of limits) (channel_view fore.now) }
 {
-    fore.max_request_size < MAX_RECORD_BYTES
-        || fore.max_response_size < MAX_RECORD_BYTES
+    fore.max_request_size < limits.record_bytes
+        || fore.max_response_size < limits.record_bytes
         || fore.max_operations == 0
         || fore.max_requests == 0
 }
 
 // The fore channel that is returned, by whether the session has a seat.
-fn fore_channel(asked: &Channel, has_seat: bool) -> Channel
+fn fore_channel(limits: Limits, asked: &Channel, has_seat: bool) -> Channel
     ensures { channel_view result
-        ≡ fore_channel (limits_for served has_seat) (channel_view asked.now) }
+        ≡ fore_channel (limits_for (limits_of limits) has_seat) (channel_view asked.now) }
 {
-    let slots = if has_seat { MAX_SEAT_SLOTS } else { MAX_SLOTS };
+    let slots = if has_seat {
+        limits.seat_slots.min(limits.slots)
+    } else {
+        limits.slots
+    };
     Channel {
         header_pad_size: 0,
-        max_request_size: MAX_RECORD_BYTES,
-        max_response_size: MAX_RECORD_BYTES,
-        max_response_size_cached: asked.max_response_size_cached.min(MAX_RECORD_BYTES),
-        max_operations: asked.max_operations.min(MAX_OPERATIONS),
+        max_request_size: limits.record_bytes,
+        max_response_size: limits.record_bytes,
+        max_response_size_cached: asked.max_response_size_cached.min(limits.record_bytes),
+        max_operations: asked.max_operations.min(limits.operations),
         max_requests: asked.max_requests.min(slots),
         rdma_ird: None,
     }

@@ -14,7 +14,8 @@ ghost use Rattle.session.specs.Views.{table_of, among};
 use crate::edits::edit_seats;
 use crate::table::Table;
 use model::not_done::NotDone;
-use model_tree::seats::{SeatEdit, SeatEdits};
+use model_tree::seat_edits::SeatEdits;
+use model_tree::seats::SeatEdit;
 use model_tree::status::Status;
 
 #[tactic(auto, unfolding(crate::specs::Views::table_of, model::specs::Sessions::Session::destroy_session, model::specs::Sessions::Session::destroy_client_id, model::specs::Sessions::Session::reclaim_complete))]

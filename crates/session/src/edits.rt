@@ -1,11 +1,12 @@
 //! Edits of seats: those that change nothing, and how they are made.
 
-ghost use Rattle.std.specs.Prelude.{◌≡◌, replicate, IfOk};
+ghost use Rattle.std.specs.Prelude.{◌≡◌, ◌≤◌, replicate, IfOk};
 ghost use Rattle.model_tree.specs.Seats.SeatEdits.{Stays, edited_seat, edited_all, edit_view, edits_view, all_stay};
 ghost use Rattle.model_tree.specs.Seats.Seats.{with_held};
 ghost use Rattle.model_tree.specs.Seats.SeatViews.{held_view, seat_view, place_view, seats_view};
 
-use model_tree::seats::{HeldReply, SEATS, Seat, SeatEdit, SeatEdits, Seats};
+use model_tree::seat_edits::SeatEdits;
+use model_tree::seats::{HeldReply, Seat, SeatEdit, Seats};
 use std::alloc::{AllocError, Global};
 
 /// Whether each place stays as it is.
@@ -18,12 +19,14 @@ pub fn is_idle(edits: &SeatEdits) -> bool
         .all(|edit| matches!(edit, SeatEdit::Stays))
 }
 
-/// Makes the edits. It takes no memory.
+/// Makes the edits, as many as there are places. It takes no memory.
 pub fn edit_seats(seats: &mut Seats, edits: SeatEdits)
     ensures { seats_view seats.new ≡ edited_all (edits_view edits) (seats_view seats.old) }
 {
     for (place, edit) in edits.list.into_iter().enumerate() {
-        edit_place(&mut seats.places[place], edit);
+        if place < seats.places.len() {
+            edit_place(&mut seats.places[place], edit);
+        }
     }
 }
 
@@ -50,12 +53,13 @@ fn hold(seat: &mut Seat, slot: usize, held: HeldReply)
     }
 }
 
-/// Each place stays.
-pub(crate) fn idle_edits(alloc: Global) -> Result<SeatEdits, AllocError>
-    ensures { IfOk result (λ edits. edits_view edits ≡ replicate 5 Stays) }
+/// As many edits as there are places, each of which stays.
+pub(crate) fn idle_edits(alloc: Global, places: usize) -> Result<SeatEdits, AllocError>
+    requires { places ≤ 64 }
+    ensures { IfOk result (λ edits. edits_view edits ≡ replicate places Stays) }
 {
     let mut list = Vec::new(alloc);
-    for _place in 0..SEATS {
+    for _place in 0..places {
         list.push(SeatEdit::Stays)?;
     }
     Ok(SeatEdits { list })

@@ -5,12 +5,12 @@ ghost use Rattle.model.specs.Sessions.Session.{exchange_id, exchange_answer, new
 ghost use Rattle.wire.specs.AnswerViews.{exchange_id_view as answer_view};
 ghost use Rattle.wire.specs.ArgumentViews.{exchange_id_view};
 ghost use Rattle.session.specs.Calls.{Exchanged, Refuses};
-ghost use Rattle.session.specs.Limits.{served};
+ghost use Rattle.session.specs.Limits.{limits_of};
 ghost use Rattle.session.specs.Rooms.{yielded_for};
 ghost use Rattle.session.specs.Views.{table_of, among, cleared_of, exchanged_answer};
 
 use crate::flags::ExchangeFlags;
-use crate::limits::MAX_CLIENTS;
+use crate::limits::Limits;
 use crate::table::Table;
 use bitflags::Flags;
 use model::not_done::NotDone;
@@ -30,35 +30,37 @@ impl Table {
     ///
     /// # Errors
     /// INVAL if a flag is set that may not be; CLID_INUSE if the owner id's confirmed record is
-    /// another principal's and has a session or an open; DELAY if no serial is left, or the new
-    /// record would be the 65th and no unconfirmed one gives way to it. `Memory` leaves the table
-    /// as it was, and is returned only if a record would be made.
+    /// another principal's and has a session or an open; DELAY if no serial is left, or if there
+    /// are `limits.clients` records and no unconfirmed one gives way. `Memory` leaves the table as
+    /// it was, and is returned only if a record would be made.
     pub fn exchange_id(
         &mut self,
+        limits: Limits,
         uid: u32,
         arguments: &ExchangeIdArguments<'_>,
         with_opens: &[u64],
     ) -> Result<ExchangedId, NotDone>
         ensures answered { Exchanged
-            (exchange_id served (among with_opens.now) uid (exchange_id_view arguments.now)
-            (table_of self.old)) (table_of self.old) (table_of self.new) result }
+            (exchange_id (limits_of limits) (among with_opens.now) uid
+            (exchange_id_view arguments.now) (table_of self.old)) (table_of self.old)
+            (table_of self.new) result }
         ensures refused { IfErr result Refuses }
     {
         if !ExchangeFlags::from_bits_retain(arguments.flags).may_be_asked() {
             return Err(NotDone::Status(Status::Inval));
         }
         let Some(client) = self.clients.confirmed(arguments.owner) else {
-            return self.add_client(uid, arguments, None);
+            return self.add_client(limits, uid, arguments, None);
         };
         let number = client.number;
         if client.principal != uid {
             if self.has_state(with_opens, number) {
                 return Err(NotDone::Status(Status::ClidInUse));
             }
-            return self.add_client(uid, arguments, Some(number));
+            return self.add_client(limits, uid, arguments, Some(number));
         }
         if client.verifier != arguments.verifier {
-            return self.add_client(uid, arguments, None);
+            return self.add_client(limits, uid, arguments, None);
         }
         let flags = ExchangeFlags::CONFIRMED.union(ExchangeFlags::USE_NON_PNFS);
         let answer = answer(number, client.sequence, flags);
@@ -68,31 +70,33 @@ impl Table {
 
     fn add_client(
         &mut self,
+        limits: Limits,
         uid: u32,
         arguments: &ExchangeIdArguments<'_>,
         dropped: Option<u64>,
     ) -> Result<ExchangedId, NotDone>
         ensures answered { Exchanged
-            (new_record served uid (exchange_id_view arguments.now) (table_of self.old)
-            (cleared_of dropped (table_of self.old))) (table_of self.old)
+            (new_record (limits_of limits) uid (exchange_id_view arguments.now)
+            (table_of self.old) (cleared_of dropped (table_of self.old))) (table_of self.old)
             (table_of self.new) result }
         ensures refused { IfErr result Refuses }
     {
-        let yielded = self.yielded_for(arguments.owner, dropped);
+        let most = limits.clients as usize;
+        let yielded = self.yielded_for(most, arguments.owner, dropped);
         let number = self
             .clients
-            .add(self.alloc, uid, arguments, dropped, yielded)?;
+            .add(self.alloc, most, uid, arguments, dropped, yielded)?;
         Ok(answer(number, 1, ExchangeFlags::USE_NON_PNFS))
     }
 
     // Whose unconfirmed record is yielded to a new one of this owner id: the oldest, if there is no
-    // place and the settings say so.
+    // place among `most` and the settings say so.
     #[tactic(auto, unfolding(crate::specs::Views::table_of))]
-    fn yielded_for(&self, owner: &[u8], dropped: Option<u64>) -> Option<u64>
-        ensures { result ≡ yielded_for owner.now dropped (table_of self.now) }
+    fn yielded_for(&self, most: usize, owner: &[u8], dropped: Option<u64>) -> Option<u64>
+        ensures { result ≡ yielded_for most owner.now dropped (table_of self.now) }
     {
         let staying = self.clients.count_staying(owner, dropped, None);
-        if !self.settings.yields_when_full || staying < MAX_CLIENTS {
+        if !self.settings.yields_when_full || staying < most {
             return None;
         }
         match self.clients.first_to_yield(owner, dropped) {

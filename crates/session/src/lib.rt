@@ -28,9 +28,7 @@ mod table;
 pub use edits::{edit_seats, is_idle};
 pub use exchange::ExchangedId;
 pub use laws::every_slot;
-pub use limits::{
-    MAX_CLIENTS, MAX_OPERATIONS, MAX_RECORD_BYTES, MAX_SEAT_SLOTS, MAX_SESSIONS, MAX_SLOTS,
-};
+pub use limits::{Limits, MAX_RECORD_BYTES, MAX_SLOTS};
 pub use plan::{CreatedSession, Creation, NewSession};
 pub use sequence::Begun;
 pub use settings::{MAX_NAME_BYTES, NameFault, STANDARD_NAME, ServerName, Settings};

@@ -1,7 +1,7 @@
 //! What CREATE_SESSION is to do, before it does it.
 
 use crate::session::Session;
-use model_tree::seats::SeatEdits;
+use model_tree::seat_edits::SeatEdits;
 use wire::CreateSessionAnswer;
 
 /// The result of CREATE_SESSION, and the clients that ended with it: their opens are to end.

@@ -14,7 +14,8 @@ use crate::edits::{edit_seats, idle_edits};
 use crate::limits::MAX_RECORD_BYTES;
 use crate::seating::{find_seat, held_of};
 use crate::table::Table;
-use model_tree::seats::{HeldReply, SeatEdit, SeatEdits};
+use model_tree::seat_edits::SeatEdits;
+use model_tree::seats::{HeldReply, SeatEdit};
 use std::alloc::AllocError;
 
 #[tactic(auto, unfolding(crate::specs::Views::table_of, crate::specs::Views::reply_kept, model::specs::Sessions::Session::finish))]
@@ -59,10 +60,10 @@ impl Table {
         ensures { IfOk result (IsHoldPlanned id.now slot reply.now (table_of self.now)) }
     {
         let Some(session) = self.sessions.find(id) else {
-            return idle_edits(self.alloc);
+            return idle_edits(self.alloc, self.seats.places.len());
         };
         if !self.has_held_slot(id, slot as usize) {
-            return idle_edits(self.alloc);
+            return idle_edits(self.alloc, self.seats.places.len());
         }
         let (number, uid) = session.last(slot);
         let result = Vec::from_slice(self.alloc, reply)?;

@@ -1,7 +1,7 @@
 //! Which seats change when a session is made or ends, and when a reply is held (RFC 8881, section
 //! 2.10.6.5).
 
-ghost use Rattle.std.specs.Prelude.{◌≡◌, ◌≤◌, ◌<◌, map, position, replicate, None, Some, IfSome, IfOk};
+ghost use Rattle.std.specs.Prelude.{◌≡◌, ◌≤◌, ◌<◌, ℕ, length, map, position, replicate, None, Some, IfSome, IfOk};
 ghost use Rattle.std.specs.List.{list_any};
 ghost use Rattle.std.specs.Option.{option_map, option_copied};
 ghost use Rattle.model_tree.specs.Seats.SeatEdits.{edit_view, edits_view, CanEdit};
@@ -17,7 +17,8 @@ use crate::edits::idle_edits;
 use crate::flags::SessionFlags;
 use crate::table::Table;
 use bitflags::Flags;
-use model_tree::seats::{HeldReply, Seat, SeatEdit, SeatEdits, Seats};
+use model_tree::seat_edits::SeatEdits;
+use model_tree::seats::{HeldReply, Seat, SeatEdit, Seats};
 use std::alloc::{AllocError, Global};
 use wire::CreateSessionArguments;
 
@@ -168,9 +169,9 @@ impl Table {
         slots: u32,
         place: Option<usize>,
     ) -> Result<SeatEdits, AllocError>
-        requires place { IfSome place (λ at. at < 5) }
+        requires place { IfSome place (λ at. at < length (table_of self.now).seats) }
         requires some { 1 ≤ slots }
-        requires few { IfSome place (λ _. slots ≤ 2) }
+        requires few { slots ≤ 8 }
         ensures { IfOk result (λ edits. edits_view edits
             ≡ edits_with (gives_way_if lacks (client_of client.now) (table_of self.now)) place
             (seat_with (client_of client.now) id slots) (table_of self.now).seats) }
@@ -208,12 +209,13 @@ impl Table {
 
     /// This edit of the session's seat, and no other. If it has none, each place stays.
     pub(crate) fn edit_seat(&self, id: &[u8; 16], edit: SeatEdit) -> Result<SeatEdits, AllocError>
-        requires { (seat : KnownSeat) → seat_of id.now (table_of self.now).seats ≡ Some seat
-            → CanEdit (edit_view edit) (Some seat) }
+        requires { (slots : ℕ) (seat : KnownSeat)
+            → seat_of id.now (table_of self.now).seats ≡ Some seat
+            → CanEdit slots (edit_view edit) (Some seat) }
         ensures { IfOk result (λ edits. EditsOne id.now (edit_view edit)
             (table_of self.now).seats (edits_view edits)) }
     {
-        let mut edits = idle_edits(self.alloc)?;
+        let mut edits = idle_edits(self.alloc, self.seats.places.len())?;
         let Some(place) = place_of(&self.seats, id) else {
             return Ok(edits);
         };
@@ -269,7 +271,7 @@ fn is_place_of(place: &Option<Seat>, id: &[u8; 16]) -> bool
 // The seat of a new session of the client, which holds no reply.
 fn new_seat(alloc: Global, client: &Client, id: [u8; 16], slots: u32) -> Result<Seat, AllocError>
     requires some { 1 ≤ slots }
-    requires few { slots ≤ 2 }
+    requires few { slots ≤ 8 }
     ensures { IfOk result (λ seat. seat_view seat ≡ seat_with (client_of client.now) id slots) }
 {
     let owner = Vec::from_slice(alloc, &client.owner)?;

@@ -21,8 +21,8 @@ returns-clause-planned c =
       done = done;
       seats = freeing;
       left = ap (λ (table : Table). table.seats) (destroyed id (table_of old) done) ∙ sym freeing;
-      edits = record {
-        can = c.in_ok-edit_seat.ensures.can;
+      edits = λ slots. record {
+        can = c.in_ok-edit_seat.ensures.can slots;
         of_runs = subst (AreOfRuns old.clients.run) (sym freeing) (given_runs old.clients.run old.sessions.serial (freed (is_seat_of id) seats) (given_freed (is_seat_of id) old.clients.run old.sessions.serial seats old.given));
       };
     }
