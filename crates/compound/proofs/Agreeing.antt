@@ -10,8 +10,8 @@ use Rattle.model_tree.specs.declared.status.Status.{Status}
 use Rattle.model_tree.specs.declared.status.Status.TheVariants as status
 use Rattle.model.proofs.Sessions.TableCalls.{either}
 use Rattle.rpc.specs.Assembly.{record_limits}
-use Rattle.session.specs.Limits.{served}
 use Rattle.compound.specs.Operates.{run_in_room, world_by}
+use Rattle.compound.specs.Profile.{served_by}
 use Rattle.compound.specs.Runs.{with_rest}
 use Rattle.compound.specs.States.{SharedState, HasState, Agrees, most_reply_bytes}
 use Rattle.compound.specs.Steps.{RequestSteps, stepped_on}
@@ -65,7 +65,7 @@ some_world : SharedState → World
 some_world state = record {
   limits = record {
     volume = state.files.volume.limits;
-    sessions = served;
+    sessions = served_by state.files.volume.version;
     records = record_limits;
     connections = 0;
     settings = state.table.settings;

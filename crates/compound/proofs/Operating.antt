@@ -1,8 +1,9 @@
 -- What an operation comes to is what one of any kind does.
-use Rattle.std.proofs.Common.{◌≡◌, ℕ, true, false, Result, Ok, Err, refl, ap, ◌∙◌}
+use Rattle.std.proofs.Common.{◌≡◌, ℕ, true, false, Result, Ok, Err, refl, sym, ap, ◌∙◌}
 use Rattle.disk.specs.declared.device.Device.{Ghosts}
 use Rattle.fs.specs.FileSystem.{FileSystem}
 use Rattle.fs.specs.Views.{fs_failures}
+use Rattle.layout.specs.declared.versions.VersionNumber.{VersionNumber}
 use Rattle.model.specs.Operations.Operation.{Argument}
 use Rattle.model.specs.Server.World.{InProgress}
 use Rattle.model.specs.Sessions.Opens.{Opens}
@@ -97,12 +98,13 @@ module _ {D : Type 0} {g : Ghosts D} (old : Engine D g) (request : InProgress) (
     }
 
     -- one on the clients
-    pub table_or : (table : Table) (result : Result Executed Fault) → ChangesClients (state_in old).table table (state_in old).opens request operation result
+    pub table_or : (version : VersionNumber) → version ≡ (files_in old).volume.version
+        → (table : Table) (result : Result Executed Fault) → ChangesClients version (state_in old).table table (state_in old).opens request operation result
         → RunsState g.keeps_word old.moment (state_in old) (shared (files_in old) table (state_in old).opens) (fs_failures old.fs.now) (fs_failures old.fs.now) request operation result
-    table_or table (Ok done) changes = quiet_runs g.keeps_word old.moment (state_in old) (fs_failures old.fs.now) request operation leaves agrees quiet up
-        table (state_in old).opens done (changes.1 old.moment (files_in old))
+    table_or version same table (Ok done) changes = quiet_runs g.keeps_word old.moment (state_in old) (fs_failures old.fs.now) request operation leaves agrees quiet up
+        table (state_in old).opens done (changes.1 old.moment (files_in old) (sym same))
         (result_answered request done changes.0) (result_kept request table done changes.0)
-    table_or table (Err reason) refused = record {
+    table_or version same table (Err reason) refused = record {
       gives = λ keeps. tt;
       answered = tt;
       kept = tt;

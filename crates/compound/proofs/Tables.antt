@@ -1,23 +1,28 @@
 -- The operations on a world are those on its table.
-use Rattle.std.proofs.Common.{◌≡◌, ℕ, Bool, true, false, ◌==◌, if◌then◌else◌, ◌||◌, List, [], ◌∷◌, map, filter, Option, Some, None, Result, Ok, Err, refl, ap, ap₂, sym, ◌∙◌}
+use Rattle.std.proofs.Common.{◌≡◌, ℕ, Bool, true, false, ◌==◌, if◌then◌else◌, ◌||◌, List, [], ◌∷◌, map, filter, Option, Some, None, Result, Ok, Err, refl, ap, ap₂, sym, subst, ◌∙◌}
 use Rattle.model.specs.Operations.Answer.{Answer, Outcome, ExchangeIdAnswer, CreateSessionAnswer}
 use Rattle.model.specs.Operations.Operation.{Argument, ExchangeIdArguments, CreateSessionArguments}
 use Rattle.model.specs.Sessions.Opens.{Open, Opens}
 use Rattle.model.specs.Sessions.Session as sessions
 use Rattle.std.specs.List.{find, list_any}
 use Rattle.std.proofs.Math.Path.{fun_ext}
+use Rattle.layout.specs.declared.versions.VersionNumber.{VersionNumber}
+use Rattle.layout.specs.declared.versions.VersionNumber.TheVariants.{One, Two, Three}
 use Rattle.model_tree.specs.Refusals.Refusal.{first_refusal}
+use Rattle.model_tree.specs.Seats.SeatEdits.{AreEdits, SeatEdit}
+use Rattle.model_tree.specs.Seats.Seats.{Seats}
+use Rattle.volume.specs.SeatUpdates.{slots_by}
 use Rattle.model.specs.Sessions.Session.{Table, SessionLimits, CreateSessionOutcome, Client, create_refused, create_unless, create_again, create_by, create_refusals, next_number, is_client}
 use Rattle.model.specs.Sessions.StateIds.{has_opens, without_clients}
 use Rattle.model_tree.specs.Trees.Tree.{Tree}
 use Rattle.model.specs.Server.World.{World, InProgress, Gives, run, exchanged, session_created, created_by, tabled, gives, with_table}
 use Rattle.model_tree.specs.declared.status.Status.{Status}
-use Rattle.session.specs.Limits.{served}
 use Rattle.session.specs.Views.{among}
 use Rattle.fs.specs.FileSystem.{FileSystem}
 use Rattle.compound.specs.Operates.{GivesIn, RunsTo}
+use Rattle.compound.specs.Profile.{served_by}
 use Rattle.compound.specs.Runs.{with_rest}
-use Rattle.compound.specs.States.{HasState, shared, with_state}
+use Rattle.compound.specs.States.{Agrees, HasState, shared, with_state}
 use Rattle.compound.specs.Volumes.{HasSameTree}
 use Rattle.compound.proofs.Rooms.{gives_refusal, state_same}
 
@@ -36,27 +41,28 @@ among_each number (entry ∷ rest) = ap (λ (b : Bool). (entry.1.client == numbe
 among_clients : (opens : Opens) → among (clients_of opens) ≡ has_opens opens
 among_clients opens = fun_ext (λ number. among_each number opens.known)
 
-pub ran_exchange : (world : World) (request : InProgress) (now : ℕ) (arguments : ExchangeIdArguments) (old : Table) (wanted : Result ExchangeIdAnswer Status × Table)
-    → {fs : FileSystem} {opens : Opens} {clients : List ℕ} → HasState world (shared fs old opens) → clients ≡ clients_of opens → sessions.exchange_id served (among clients) request.context.cred.uid arguments old ≡ wanted
+pub ran_exchange : (world : World) (request : InProgress) (now : ℕ) (arguments : ExchangeIdArguments) (old : Table) (wanted : Result ExchangeIdAnswer Status × Table) (limits : SessionLimits)
+    → {fs : FileSystem} {opens : Opens} {clients : List ℕ} → HasState world (shared fs old opens) → limits ≡ served_by fs.volume.version → clients ≡ clients_of opens
+    → sessions.exchange_id limits (among clients) request.context.cred.uid arguments old ≡ wanted
     → run world request now (Argument.ExchangeId arguments) ≡ exchanged world request wanted
 unfolding run
-ran_exchange world request now arguments old wanted {fs} {opens} {clients} on are is =
+ran_exchange world request now arguments old wanted limits {fs} {opens} {clients} on served are is =
     let uid = request.context.cred.uid in
     ap (exchanged world request)
-    (ap (λ (limits : SessionLimits). sessions.exchange_id limits (has_opens world.opens) uid arguments world.table) on.sessions
-    ∙ (ap (λ (known : Opens). sessions.exchange_id served (has_opens known) uid arguments world.table) on.opens
-    ∙ (ap (λ (asks : ℕ → Bool). sessions.exchange_id served asks uid arguments world.table) (sym (ap among are ∙ among_clients opens))
-    ∙ (ap (sessions.exchange_id served (among clients) uid arguments) on.table_is ∙ is))))
+    (ap (λ (limits : SessionLimits). sessions.exchange_id limits (has_opens world.opens) uid arguments world.table) (on.sessions ∙ sym served)
+    ∙ (ap (λ (known : Opens). sessions.exchange_id limits (has_opens known) uid arguments world.table) on.opens
+    ∙ (ap (λ (asks : ℕ → Bool). sessions.exchange_id limits asks uid arguments world.table) (sym (ap among are ∙ among_clients opens))
+    ∙ (ap (sessions.exchange_id limits (among clients) uid arguments) on.table_is ∙ is))))
 
-pub ran_create : (world : World) (request : InProgress) (now : ℕ) (arguments : CreateSessionArguments) (old : Table)
-    → {fs : FileSystem} {opens : Opens} → HasState world (shared fs old opens)
-    → run world request now (Argument.CreateSession arguments) ≡ session_created world request (sessions.create_session served request.context.cred.uid arguments old)
+pub ran_create : (world : World) (request : InProgress) (now : ℕ) (arguments : CreateSessionArguments) (old : Table) (limits : SessionLimits)
+    → {fs : FileSystem} {opens : Opens} → HasState world (shared fs old opens) → limits ≡ served_by fs.volume.version
+    → run world request now (Argument.CreateSession arguments) ≡ session_created world request (sessions.create_session limits request.context.cred.uid arguments old)
 unfolding run
-ran_create world request now arguments old {fs} {opens} on =
+ran_create world request now arguments old limits {fs} {opens} on served =
     let uid = request.context.cred.uid in
     ap (session_created world request)
-    (ap (λ (limits : SessionLimits). sessions.create_session limits uid arguments world.table) on.sessions
-    ∙ ap (sessions.create_session served uid arguments) on.table_is)
+    (ap (λ (limits : SessionLimits). sessions.create_session limits uid arguments world.table) (on.sessions ∙ sym served)
+    ∙ ap (sessions.create_session limits uid arguments) on.table_is)
 
 -- the opens of the clients that ended with it end
 pub created_ok : (world : World) (request : InProgress) (outcome : CreateSessionOutcome) (answer : CreateSessionAnswer) (new : Table) (before : Opens) (ended : List ℕ)
@@ -100,14 +106,14 @@ create_leaves : (limits : SessionLimits) (uid : ℕ) (arguments : CreateSessionA
 unfolding sessions.create_session
 create_leaves limits uid arguments table = found_leaves limits uid arguments table (find (is_client arguments.client) table.clients)
 
-pub created_err : (world : World) (request : InProgress) (arguments : CreateSessionArguments) (reason : Status) (old new : Table)
-    → world.table ≡ old → (sessions.create_session served request.context.cred.uid arguments old).table ≡ new
-    → (sessions.create_session served request.context.cred.uid arguments old).answer ≡ Err reason
-    → session_created world request (sessions.create_session served request.context.cred.uid arguments old)
+pub created_err : (limits : SessionLimits) (world : World) (request : InProgress) (arguments : CreateSessionArguments) (reason : Status) (old new : Table)
+    → world.table ≡ old → (sessions.create_session limits request.context.cred.uid arguments old).table ≡ new
+    → (sessions.create_session limits request.context.cred.uid arguments old).answer ≡ Err reason
+    → session_created world request (sessions.create_session limits request.context.cred.uid arguments old)
     ≡ Gives (Outcome.Refused 43 reason) (with_table world new) request
-created_err world request arguments reason old new is left refused =
-    let outcome = sessions.create_session served request.context.cred.uid arguments old in
-    let same = create_leaves served request.context.cred.uid arguments old reason refused in
+created_err limits world request arguments reason old new is left refused =
+    let outcome = sessions.create_session limits request.context.cred.uid arguments old in
+    let same = create_leaves limits request.context.cred.uid arguments old reason refused in
     ap (created_by world request outcome) refused
     ∙ ap (λ (table : Table). Gives (Outcome.Refused 43 reason) (with_table world table) request) (is ∙ (sym same ∙ left))
 
@@ -157,24 +163,26 @@ placed world fs new table after known opens on same =
 pub same_tree : (fs : FileSystem) → HasSameTree fs fs
 same_tree fs = record { tree = refl; changes = refl }
 
-pub create_runs : (now : ℕ) (fs new : FileSystem) (old table : Table) (before : Opens) (request : InProgress) (arguments : CreateSessionArguments) (answer : CreateSessionAnswer) (ended : List ℕ)
-    → (sessions.create_session served request.context.cred.uid arguments old).answer ≡ Ok answer
-    → (sessions.create_session served request.context.cred.uid arguments old).ended_clients ≡ ended
-    → (sessions.create_session served request.context.cred.uid arguments old).table ≡ table → HasSameTree fs new
+pub create_runs : (limits : SessionLimits) (now : ℕ) (fs new : FileSystem) (old table : Table) (before : Opens) (request : InProgress) (arguments : CreateSessionArguments) (answer : CreateSessionAnswer) (ended : List ℕ)
+    → limits ≡ served_by fs.volume.version
+    → (sessions.create_session limits request.context.cred.uid arguments old).answer ≡ Ok answer
+    → (sessions.create_session limits request.context.cred.uid arguments old).ended_clients ≡ ended
+    → (sessions.create_session limits request.context.cred.uid arguments old).table ≡ table → HasSameTree fs new
     → RunsTo now (shared fs old before) (shared new table (without_clients ended before)) request request (Argument.CreateSession arguments) (Outcome.Done (Answer.CreateSession answer))
-create_runs now fs new old table before request arguments answer ended is ends table_is same = λ world rest on.
-    ran_create world (with_rest request rest) now arguments old on
-    ∙ created_ok world (with_rest request rest) (sessions.create_session served request.context.cred.uid arguments old) answer table before ended on.opens is ends table_is
+create_runs limits now fs new old table before request arguments answer ended served is ends table_is same = λ world rest on.
+    ran_create world (with_rest request rest) now arguments old limits on served
+    ∙ created_ok world (with_rest request rest) (sessions.create_session limits request.context.cred.uid arguments old) answer table before ended on.opens is ends table_is
     ∙ ap (λ (after : World). Gives (Outcome.Done (Answer.CreateSession answer)) after (with_rest request rest)) (placed world fs new old table before (without_clients ended before) on same)
 
-pub create_refuses : (now : ℕ) (fs : FileSystem) (old : Table) (before : Opens) (request : InProgress) (arguments : CreateSessionArguments) (reason : Status)
-    → sessions.create_session served request.context.cred.uid arguments old ≡ create_refused reason old
+pub create_refuses : (limits : SessionLimits) (now : ℕ) (fs : FileSystem) (old : Table) (before : Opens) (request : InProgress) (arguments : CreateSessionArguments) (reason : Status)
+    → limits ≡ served_by fs.volume.version
+    → sessions.create_session limits request.context.cred.uid arguments old ≡ create_refused reason old
     → GivesIn now (shared fs old before) (shared fs old before) request request (Argument.CreateSession arguments) (Outcome.Refused 43 reason)
-create_refuses now fs old before request arguments reason is =
+create_refuses limits now fs old before request arguments reason served is =
     gives_refusal now (shared fs old before) (shared fs old before) request (Argument.CreateSession arguments) 43 reason
     (table_runs now fs before old old request request (Argument.CreateSession arguments) (Outcome.Refused 43 reason)
-    (λ world rest on. ran_create world (with_rest request rest) now arguments old on
-    ∙ created_err world (with_rest request rest) arguments reason old old on.table_is (ap (λ (o : CreateSessionOutcome). o.table) is) (ap (λ (o : CreateSessionOutcome). o.answer) is)))
+    (λ world rest on. ran_create world (with_rest request rest) now arguments old limits on served
+    ∙ created_err limits world (with_rest request rest) arguments reason old old on.table_is (ap (λ (o : CreateSessionOutcome). o.table) is) (ap (λ (o : CreateSessionOutcome). o.answer) is)))
 
 pub destroy_runs : (now : ℕ) (fs new : FileSystem) (old table : Table) (opens : Opens) (request : InProgress) (id : List ℕ)
     → sessions.destroy_session id old ≡ (None, table) → HasSameTree fs new
@@ -195,6 +203,20 @@ destroy_refuses now fs old opens request id reason is =
     gives_refusal now (shared fs old opens) (shared fs old opens) request (Argument.DestroySession id) 44 reason
     (table_runs now fs opens old old request request (Argument.DestroySession id) (Outcome.Refused 44 reason)
     (λ world rest on. ran_destroy_session world (with_rest request rest) now id old _ on is))
+
+-- the edits of the table's seats are such edits of the volume's
+pub edits_fit : (slots room : ℕ) (files : FileSystem) (table : Table) (edits : List SeatEdit) → slots ≡ room → Agrees files table → AreEdits table.run slots edits table.seats
+    → AreEdits files.volume.run room edits files.volume.seats
+edits_fit slots room files table edits same agrees are =
+    subst (λ (run : ℕ). AreEdits run room edits files.volume.seats) agrees.run
+    (subst (λ (seats : Seats). AreEdits table.run room edits seats) agrees.seats
+    (subst (λ (n : ℕ). AreEdits table.run n edits table.seats) same are))
+
+-- a seat of such a session has as many slots as a place of the volume has room for
+pub seat_slots_are : (version : VersionNumber) → (served_by version).seat_slots ≡ slots_by version
+seat_slots_are One = refl
+seat_slots_are Two = refl
+seat_slots_are (Three s) = refl
 
 -- no opens end if no client does
 pub none_ended : (opens : Opens) → without_clients [] opens ≡ opens

@@ -4,11 +4,12 @@ use Rattle.disk.specs.declared.device.Device.{Ghosts}
 use Rattle.fs.specs.Changes.{FsChanges}
 use Rattle.fs.specs.FileSystem.{FileSystem}
 use Rattle.fs.specs.Views.{fs_of, fs_failures, AltersFs}
+use Rattle.layout.specs.declared.versions.VersionNumber.{VersionNumber}
 use Rattle.model.specs.Operations.Operation.{Argument}
 use Rattle.model.specs.Server.World.{InProgress}
 use Rattle.model.specs.Sessions.Opens.{Opens}
 use Rattle.model.specs.Sessions.Session.{Table}
-use Rattle.compound.specs.Operates.{Operates, ChangesTableAndOpens, HasResult, IsAnswered, IsReplyKept}
+use Rattle.compound.specs.Operates.{Operates, ChangesTableIn, HasResult, IsAnswered, IsReplyKept}
 use Rattle.compound.specs.States.{Agrees, SharedState, shared_of}
 use Rattle.compound.specs.Steps.{RequestGoesOn, RequestSteps, stepped_on}
 use Rattle.compound.specs.Views.{asked_of, in_progress_of}
@@ -71,12 +72,14 @@ pub record Runs {D : Type 0} {g : Ghosts D} (old new : Engine D g) (request : In
   pub state : RunsState g.keeps_word old.moment (state_in old) (state_in new)
       (fs_failures old.fs.now) (fs_failures new.fs.now) request operation result
 
--- one on the clients that changes the table: if it is refused for memory, it leaves that too
-abbrev pub ChangesClients : (old new : Table) → Opens → InProgress → Argument
+-- one on the clients that changes the table, of a server whose volume has this version: if it is
+-- refused for memory, it leaves that too
+abbrev pub ChangesClients : VersionNumber → (old new : Table) → Opens → InProgress → Argument
     → Result Executed Fault → Type 0
-ChangesClients old new opens request operation (Ok done) =
-    HasResult request done × ChangesTableAndOpens old new opens opens request operation done
-ChangesClients old new opens request operation (Err reason) = (reason ≡ Memory) × (new ≡ old)
+ChangesClients version old new opens request operation (Ok done) =
+    HasResult request done × ChangesTableIn version old new opens request operation done
+ChangesClients version old new opens request operation (Err reason) =
+    (reason ≡ Memory) × (new ≡ old)
 
 -- what a step leaves of a COMPOUND
 pub record StepsTo {D : Type 0} {g : Ghosts D} (old new : Engine D g) (running : Running)

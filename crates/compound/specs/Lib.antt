@@ -7,6 +7,7 @@ pub mod Memory
 pub mod Nexts
 pub mod Operates
 pub mod Pages
+pub mod Profile
 pub mod Readings
 pub mod Runs
 pub mod States

@@ -2,6 +2,7 @@
 use Rattle.std.specs.Prelude.{◌≡◌, ℕ, ◌+◌, ◌≤◌, ◌<◌, ◌^◌, Bool, true, false, List, ◌++◌, length, Some, ⊤}
 use Rattle.std.specs.Int.{w32}
 use Rattle.fs.specs.FileSystem.{FileSystem}
+use Rattle.layout.specs.declared.versions.VersionNumber.{VersionNumber}
 use Rattle.model.specs.Operations.Answer as model
 use Rattle.model.specs.Operations.Context.{at_node, saving, restored, without_stateid}
 use Rattle.model.specs.Operations.Open.{at_opened}
@@ -96,11 +97,12 @@ abbrev pub ChangesTable : (old new : Table) → InProgress → Argument → Exec
 ChangesTable old new request operation done = (now : ℕ) (files : FileSystem) (opens : Opens)
     → Operates now (shared files old opens) (shared files new opens) request operation done
 
--- the file system stays as it was
-abbrev pub ChangesTableAndOpens : (old new : Table) → (before after : Opens) → InProgress → Argument
+-- the file system, whose volume has this version, and the opens stay as they were
+abbrev pub ChangesTableIn : VersionNumber → (old new : Table) → Opens → InProgress → Argument
     → Executed → Type 0
-ChangesTableAndOpens old new before after request operation done = (now : ℕ) (files : FileSystem)
-    → Operates now (shared files old before) (shared files new after) request operation done
+ChangesTableIn version old new opens request operation done = (now : ℕ) (files : FileSystem)
+    → files.volume.version ≡ version
+    → Operates now (shared files old opens) (shared files new opens) request operation done
 
 -- the clients, the sessions and the opens stay as they were
 abbrev pub ChangesTree : (old new : FileSystem) → (now : ℕ) → InProgress → Argument → Executed

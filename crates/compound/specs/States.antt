@@ -7,11 +7,11 @@ use Rattle.fs.specs.declared.fs.Fs.{Fs}
 use Rattle.model.specs.Sessions.Opens.{Opens}
 use Rattle.model.specs.Sessions.Session.{Table}
 use Rattle.model.specs.Server.World.{World, InProgress}
-use Rattle.session.specs.Limits.{served}
 use Rattle.session.specs.Views.{table_of}
 use Rattle.session.specs.declared.table.Table as code
 use Rattle.opens.specs.Views.{opens_of}
 use Rattle.opens.specs.declared.opens.Opens as known
+use Rattle.compound.specs.Profile.{served_by}
 
 pub record SharedState : Type 0 where
   pub files : FileSystem
@@ -32,7 +32,7 @@ most_reply_bytes = 16368
 -- a world that has it
 pub record HasState (world : World) (state : SharedState) : Type 0 where
   pub volume : world.limits.volume ≡ state.files.volume.limits
-  pub sessions : world.limits.sessions ≡ served
+  pub sessions : world.limits.sessions ≡ served_by state.files.volume.version
   pub reply_bytes : world.limits.reply_bytes ≡ most_reply_bytes
   pub run : world.run ≡ state.files.volume.run
   pub tree : world.tree ≡ state.files.volume.tree

@@ -7,7 +7,7 @@ use Rattle.model_tree.specs.Seats.SeatEdits.{edited_all, edits_view}
 use Rattle.model.specs.Sessions.Session.{Table}
 use Rattle.model.specs.Server.World as turns
 use Rattle.model.specs.Server.World.{World, InProgress, Entry, Turned, behind, kept_by, with_connection, with_table}
-use Rattle.model_tree.specs.declared.seats.SeatEdits.{SeatEdits}
+use Rattle.model_tree.specs.declared.seat_edits.SeatEdits.{SeatEdits}
 use Rattle.session.specs.Views.{reply_kept}
 use Rattle.wire.specs.Numbers.{number_of}
 use Rattle.wire.specs.OutcomeView.{outcome_view}

@@ -8,8 +8,10 @@ use crate::engine::Engine;
 use crate::executed::{Effect, Executed};
 use crate::fault::Fault;
 use crate::held_replies::put_seats;
+use crate::profile::limits_by;
 use crate::running::Running;
 use disk::Device;
+use layout::versions::VersionNumber;
 use model::not_done::NotDone;
 use opens::Opens;
 use session::{Creation, Table};
@@ -22,6 +24,8 @@ const IDENTITY_BYTES: usize = 2_088;
 #[tactic(auto, unfolding(crate::specs::Views::in_progress_of))]
 impl Running<'_> {
     ghost use Rattle.std.specs.Prelude.{◌≡◌};
+    ghost use Rattle.layout.specs.Versions.{IsServed};
+    ghost use Rattle.layout.specs.declared.versions.VersionNumber.{VersionNumber as Version};
     ghost use Rattle.model.specs.Operations.Operation as operations;
     ghost use Rattle.session.specs.Views.{table_of};
     ghost use Rattle.wire.specs.ArgumentViews.{exchange_id_view, create_session_view};
@@ -30,21 +34,25 @@ impl Running<'_> {
     ghost use Rattle.compound.specs.States.{CanSeat};
     ghost use Rattle.compound.specs.Views.{in_progress_of};
 
-    /// EXCHANGE_ID. After `Memory` the table is as it was.
+    /// EXCHANGE_ID to a server whose volume has this version. After `Memory` the table is as it
+    /// was.
     pub(crate) fn exchange_id(
         &self,
+        version: VersionNumber,
         table: &mut Table,
         opens: &Opens,
         arguments: &ExchangeIdArguments<'_>,
     ) -> Result<Executed, Fault>
         requires first { (in_progress_of self.now).answered ≡ 0 }
-        ensures { ChangesClients (table_of table.old) (table_of table.new) (opens_of opens.now)
-            (in_progress_of self.now)
+        requires served { IsServed version }
+        ensures { ChangesClients version (table_of table.old) (table_of table.new)
+            (opens_of opens.now) (in_progress_of self.now)
             (operations.Argument.ExchangeId (exchange_id_view arguments.now)) result }
     {
         let with_opens = opens.clients(self.alloc)?;
         let memory = Writer::with_capacity(self.alloc, IDENTITY_BYTES)?;
-        match table.exchange_id(self.cred.uid, arguments, &with_opens) {
+        let limits = limits_by(version);
+        match table.exchange_id(limits, self.cred.uid, arguments, &with_opens) {
             Ok(exchanged) => {
                 let values = encode(&table.identity_answer(exchanged), memory);
                 Ok(self.answer_first_encoded(Operation::ExchangeId, values))
@@ -66,7 +74,8 @@ impl Running<'_> {
         ensures { Runs engine.old engine.new (in_progress_of self.now)
             (operations.Argument.CreateSession (create_session_view arguments.now)) result }
     {
-        match engine.table.plan_session(self.cred.uid, arguments) {
+        let limits = limits_by(engine.fs.version());
+        match engine.table.plan_session(limits, self.cred.uid, arguments) {
             Ok(Creation::New(plan)) => {
                 let done = self.answer_first(Answer::CreateSession(plan.answer), Effect::Stays);
                 put_seats(engine.fs, &plan.edits)?;
@@ -113,8 +122,9 @@ impl Running<'_> {
         client: u64,
     ) -> Result<Executed, Fault>
         requires first { (in_progress_of self.now).answered ≡ 0 }
-        ensures { ChangesClients (table_of table.old) (table_of table.new) (opens_of opens.now)
-            (in_progress_of self.now) (operations.Argument.DestroyClientId client) result }
+        ensures { (version : Version) → ChangesClients version (table_of table.old)
+            (table_of table.new) (opens_of opens.now) (in_progress_of self.now)
+            (operations.Argument.DestroyClientId client) result }
     {
         let with_opens = opens.clients(self.alloc)?;
         match table.destroy_clientid(client, &with_opens) {

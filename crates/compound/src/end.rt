@@ -18,7 +18,7 @@ use crate::progress::{BEFORE_RESULT, Progress, RESULT_BUFFER, SlotId};
 use crate::running::Running;
 use disk::Device;
 use fs::Fs;
-use model_tree::seats::SeatEdits;
+use model_tree::seat_edits::SeatEdits;
 use model_tree::status::Status;
 use rpc::{Compound, CompoundResult, Reply, Tag, write_reply};
 use session::Table;

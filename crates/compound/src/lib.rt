@@ -22,6 +22,7 @@ mod next;
 mod open_named;
 mod opening;
 mod operate;
+mod profile;
 mod progress;
 mod read;
 mod reading;

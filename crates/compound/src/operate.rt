@@ -59,7 +59,7 @@ impl Running<'_> {
             Argument::SetAttr(arguments) => self.set_attributes(engine, arguments),
             Argument::Write(arguments) => self.write(engine, arguments),
             Argument::ExchangeId(arguments) => {
-                self.exchange_id(engine.table, engine.opens, arguments)
+                self.exchange_id(engine.fs.version(), engine.table, engine.opens, arguments)
             }
             Argument::CreateSession(arguments) => self.create_session(engine, arguments),
             Argument::DestroySession(id) => self.destroy_session(engine, id),

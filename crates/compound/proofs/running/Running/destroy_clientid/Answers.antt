@@ -12,9 +12,9 @@ use Rattle.compound.proofs.running.Running.destroy_clientid.Goals as goal
 
 pub returns-in-Ok : goal.returns-in-Ok
 unfolding in_progress_of
-returns-in-Ok c = (
+returns-in-Ok c = λ version. (
   c.answer_first.ensures.answered,
-  λ now fs.
+  λ now fs same.
       let opens = opens_of c.args.opens.now in
       let request = in_progress_of c.args.self.now in
       let kind = Argument.DestroyClientId c.args.client in
@@ -25,9 +25,9 @@ returns-in-Ok c = (
 
 pub returns : goal.returns
 unfolding in_progress_of
-returns c = (
+returns c = λ version. (
   c.refuse.ensures.answered,
-  λ now fs.
+  λ now fs same.
       let opens = opens_of c.args.opens.now in
       let request = in_progress_of c.args.self.now in
       let kind = Argument.DestroyClientId c.args.client in

@@ -7,16 +7,23 @@ use Rattle.model.specs.Sessions.Session.{destroy_session}
 use Rattle.session.specs.Views.{table_of}
 use Rattle.volume.proofs.ServeLaws.{is_err_of}
 use Rattle.volume.specs.Changes as ends
+use Rattle.volume.specs.SeatUpdates.{slots_by}
 use Rattle.compound.specs.Operates.{GivesIn, Operates}
 use Rattle.compound.specs.States.{shared}
 use Rattle.compound.specs.Views.{in_progress_of}
 use Rattle.compound.proofs.Storing.{seated_as, seated_still, seats_change}
-use Rattle.compound.proofs.Tables.{destroy_done, destroy_runs, destroy_refuses, same_tree}
+use Rattle.compound.proofs.Tables.{destroy_done, destroy_runs, destroy_refuses, edits_fit, same_tree}
 use Rattle.compound.proofs.Outcomes.{if_not, on_err}
 use Rattle.compound.proofs.OwnResults.{result_answered, result_kept}
 use Rattle.compound.proofs.QuietLaws.{leaves_all}
 use Rattle.opens.specs.Views.{opens_of}
 use Rattle.compound.proofs.running.Running.destroy_session.Goals as goal
+
+pub put_seats-requires-clause-edits : goal.put_seats-requires-clause-edits
+unfolding in_progress_of
+put_seats-requires-clause-edits g c keeps =
+    let fs = fs_of c.args.engine.now.fs.now in
+    edits_fit _ _ fs (table_of c.args.engine.now.table.now) (edits_view c.in-Ok.edits) refl (c.requires.ready.agrees keeps) (c.in-Ok.ensures.planned.edits (slots_by fs.volume.version))
 
 pub returns-in_ok-put_seats-in-Ok : goal.returns-in_ok-put_seats-in-Ok
 unfolding in_progress_of

@@ -1,4 +1,4 @@
-use Rattle.std.proofs.Common.{Option, is_some, true, length, sym, ap, ◌∙◌, arith}
+use Rattle.std.proofs.Common.{Option, is_some, true, length, refl, sym, ap, ◌∙◌, arith}
 use Rattle.std.specs.Option.{option_map}
 use Rattle.fs.specs.Views.{fs_of, fs_failures}
 use Rattle.model_tree.specs.Seats.SeatEdits.{edited_all, edits_view}
@@ -6,10 +6,12 @@ use Rattle.model.specs.Server.World.{kept_by, result_of}
 use Rattle.session.specs.Views.{table_of}
 use Rattle.volume.proofs.ServeLaws.{is_err_of}
 use Rattle.volume.specs.Changes.{Done}
+use Rattle.volume.specs.SeatUpdates.{slots_by}
 use Rattle.compound.specs.Views.{in_progress_of, slot_of}
 use Rattle.compound.specs.declared.progress.SlotId.{SlotId}
 use Rattle.compound.proofs.Replies.{result_length}
 use Rattle.compound.proofs.Storing.{seated_still, seated_as, kept_held}
+use Rattle.compound.proofs.Tables.{edits_fit}
 use Rattle.compound.proofs.running.Running.hold.Goals as goal
 
 pub returns-in_default-clause-some : goal.returns-in_default-clause-some
@@ -34,6 +36,12 @@ plan_hold-requires g c =
       result_length (in_progress_of c.args.self.now) c.args.last,
       ap length (c.as_slice.ensures.value ∙ c.in_ok-result.ensures),
     )
+
+pub put_seats-requires-clause-edits : goal.put_seats-requires-clause-edits
+unfolding in_progress_of
+put_seats-requires-clause-edits g c keeps =
+    let fs = fs_of c.args.fs.now in
+    edits_fit _ _ fs (table_of c.args.table.now) (edits_view c.in_ok-edits.edits) refl (c.requires.agrees keeps) (c.in_ok-edits.ensures.edits (slots_by fs.volume.version))
 
 pub returns-in_err-put_seats-clause-volume : goal.returns-in_err-put_seats-clause-volume
 unfolding in_progress_of

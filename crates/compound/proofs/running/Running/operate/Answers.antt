@@ -115,14 +115,14 @@ pub returns-in-ExchangeId : goal.returns-in-ExchangeId
 returns-in-ExchangeId g c = record {
   same = record { fs = refl; table = refl; opens = refl };
   state = table_or c.args.engine.now (in_progress_of c.args.self.now) (argument_view c.args.argument.now) (rw c.in-ExchangeId.is refl) c.requires.agrees (rw c.in-ExchangeId.is refl) c.requires.ready.up
-      (table_of c.exchange_id.new.table) c.exchange_id.result (rw c.in-ExchangeId.is c.exchange_id.ensures);
+      c.version.result c.version.ensures.version (table_of c.exchange_id.new.table) c.exchange_id.result (rw c.in-ExchangeId.is c.exchange_id.ensures);
 }
 
 pub returns-in-DestroyClientId : goal.returns-in-DestroyClientId
 returns-in-DestroyClientId g c = record {
   same = record { fs = refl; table = refl; opens = refl };
   state = table_or c.args.engine.now (in_progress_of c.args.self.now) (argument_view c.args.argument.now) (rw c.in-DestroyClientId.is refl) c.requires.agrees (rw c.in-DestroyClientId.is refl) c.requires.ready.up
-      (table_of c.destroy_clientid.new.table) c.destroy_clientid.result (rw c.in-DestroyClientId.is c.destroy_clientid.ensures);
+      _ refl (table_of c.destroy_clientid.new.table) c.destroy_clientid.result (rw c.in-DestroyClientId.is (c.destroy_clientid.ensures (fs_of c.args.engine.now.fs.now).volume.version));
 }
 
 -- It changes the seats
