@@ -30,7 +30,7 @@ use Rattle.server.proofs.Stops.{HasCounts, IsJoined, joined, mounted_leaves, eve
 -- One of the model's
 
 abbrev limits_of : Stopped → ServerLimits
-limits_of stopped = server_limits stopped.first.volume.limits stopped.settings
+limits_of stopped = server_limits stopped.first.volume.version stopped.first.volume.limits stopped.settings
 
 calls_joined : (stopped : Stopped) → IsJoined stopped.first stopped.calls stopped.old stopped.served
 calls_joined stopped =

@@ -128,7 +128,7 @@ few_runs count run same few = subst (λ (r : ℕ). r < 2 ^ 32) same (omega (arit
 module _ (fs : FileSystem) (table : Table) (opens : Opens) (connections : Keyed Connection) (settings : Settings) (seats : Seats)
     (tables : table ≡ loaded_table fs.volume.run settings seats) (none_open : opens ≡ no_opens) (none : connections ≡ []) (changes : fs.changes ≡ 0) where
   abbrev begun : Seats → World
-  begun found = mounted_world (server_limits fs.volume.limits settings) fs.volume.run fs.volume.tree found
+  begun found = mounted_world (server_limits fs.volume.version fs.volume.limits settings) fs.volume.run fs.volume.tree found
 
   begun_with : world_by (shared fs table opens) connections ≡ begun seats
   begun_with =

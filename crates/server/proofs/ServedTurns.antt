@@ -12,6 +12,7 @@ use Rattle.compound.specs.declared.step.Stepped.{Stepped}
 use Rattle.fs.specs.Changes.{FsChanges, LetsWait, deferred}
 use Rattle.fs.specs.FileSystem.{FileSystem}
 use Rattle.layout.specs.Stands.{Kept}
+use Rattle.layout.specs.declared.versions.VersionNumber.{VersionNumber}
 use Rattle.volume.specs.Changes.{Given, Done}
 use Rattle.volume.specs.VolumeState.{VolumeState, IsSameVolume, AddsKept, MayAdd, StandsForOne, IsRecent}
 use Rattle.model_tree.specs.declared.limits.Limits.{Limits}
@@ -56,9 +57,10 @@ module _ (state left : SharedState) (old new : Keyed world.Connection) (number n
       let stays : left.table.settings ≡ state.table.settings
       = sym (ap (λ (w : World). w.table.settings) made.1) ∙ one_settings (world_by state old) number now in
       let here : world_by left new ≡ with_connection (with_state (world_by state old) left) number after
-      = ap₂ (λ (l : Limits) (s : Settings). record (world_by left new) { limits = server_limits l s }) same.limits stays
-      ∙ (ap (λ (r : ℕ). record (world_by left new) { limits = server_limits state.files.volume.limits state.table.settings; run = r }) same.run
-      ∙ ap (λ (connections : Keyed world.Connection). record (with_state (world_by state old) left) { connections = connections }) written) in
+      = ap (λ (v : VersionNumber). record (world_by left new) { limits = server_limits v left.files.volume.limits left.table.settings }) same.version
+      ∙ (ap₂ (λ (l : Limits) (s : Settings). record (world_by left new) { limits = server_limits state.files.volume.version l s }) same.limits stays
+      ∙ (ap (λ (r : ℕ). record (world_by left new) { limits = server_limits state.files.volume.version state.files.volume.limits state.table.settings; run = r }) same.run
+      ∙ ap (λ (connections : Keyed world.Connection). record (with_state (world_by state old) left) { connections = connections }) written)) in
       (sym made.0, here ∙ sym made.1)
 
 -- a turn that was not done leaves the world
@@ -72,10 +74,12 @@ pub broken : (state left : SharedState) (old new : Keyed world.Connection) → I
     → left ≡ record state { files = left.files } → new ≡ old → (tree : Tree) → record (world_by left new) { tree = tree } ≡ record (world_by state old) { tree = tree }
 broken state left old new same changes stays connections tree =
     ap (λ (s : SharedState). record (world_by s new) { tree = tree }) stays
-    ∙ (ap (λ (l : Limits). record (world_by (record state { files = left.files }) new) { tree = tree; limits = server_limits l state.table.settings }) same.limits
-    ∙ (ap (λ (r : ℕ). record (world_by (record state { files = left.files }) new) { tree = tree; limits = server_limits state.files.volume.limits state.table.settings; run = r }) same.run
+    ∙ (ap (λ (v : VersionNumber). record (world_by (record state { files = left.files }) new) { tree = tree; limits = server_limits v left.files.volume.limits state.table.settings }) same.version
+    ∙ (ap (λ (l : Limits). record (world_by (record state { files = left.files }) new) { tree = tree; limits = server_limits state.files.volume.version l state.table.settings }) same.limits
+    ∙ (ap (λ (r : ℕ). record (world_by (record state { files = left.files }) new) { tree = tree; limits = server_limits state.files.volume.version state.files.volume.limits state.table.settings; run = r })
+    same.run
     ∙ (ap (λ (n : ℕ). record (world_by state new) { tree = tree; changes = n }) changes
-    ∙ ap (λ (kept : Keyed world.Connection). record (world_by state kept) { tree = tree }) connections)))
+    ∙ ap (λ (kept : Keyed world.Connection). record (world_by state kept) { tree = tree }) connections))))
 
 -- a request that has begun goes on from its progress
 pub gone_on_at : (old new : Keyed world.Connection) (number : ℕ) (before after : world.Connection) → at number old ≡ Some before → new ≡ with old number after

@@ -4,7 +4,8 @@ use Rattle.std.proofs.Common.{◌≡◌, ◌<◌, ◌+◌, ◌^◌, ℕ, cond, L
 use Rattle.std.proofs.Math.Logic.{∥∥₁_elim, ∥∥₁_map}
 use Rattle.std.proofs.Props.{props}
 use Rattle.disk.specs.Moments.{Image, History, LeftSince, moment, seen}
-use Rattle.layout.specs.Stands.{Kept, bare}
+use Rattle.layout.specs.Stands.{Kept, bare_in}
+use Rattle.layout.specs.declared.versions.VersionNumber.{VersionNumber}
 use Rattle.model_tree.specs.Trees.Fresh.{fresh_tree}
 use Rattle.volume.specs.MountAnswers.{NoTree}
 use Rattle.volume.specs.VolumeState.{VolumeState, IsSameVolume, kept_of}
@@ -162,7 +163,7 @@ every_stop stopped image left =
     let history = history_of first.serving.world stopped.calls in
     let all = joined first old stopped.calls (mounted_leaves stopped.settings stopped.run stopped.start first stopped.mounted) stopped.served in
     let found = stopped_in old stopped.new stopped.event all.leaves stopped.moves image left in
-    let kept = every_held_is_kept (server_limits first.volume.limits stopped.settings) stopped.run stopped.start.tree stopped.start.seats old.serving history
+    let kept = every_held_is_kept (server_limits first.volume.version first.volume.limits stopped.settings) stopped.run stopped.start.tree stopped.start.seats old.serving history
     (subst (λ (s : Serving). IsRun s old.serving history) stopped.mounted.serves all.run) (λ _. (stopped.mounted.few, stopped.mounted.seats)) stopped.event (left_of found.0) found.1 in
     let stands : StandsFor first.volume.sectors first.volume.limits.nodes stopped.run found.0 image =
     subst (λ (s : ℕ). StandsFor s first.volume.limits.nodes stopped.run found.0 image) all.same.sectors
@@ -200,21 +201,21 @@ every_run_again stopped device from again remounts found =
 
 -- Between runs
 
-new_leaves : (sectors nodes : ℕ) (new : History) (since : ℕ) → IsNewVolume sectors nodes new since → LeavesGood sectors nodes 0 (λ kept. kept ≡ bare fresh_tree) new since
-new_leaves sectors nodes new since (Formatted {device = device} version served fresh) = record {
+new_leaves : (version : VersionNumber) (sectors nodes : ℕ) (new : History) (since : ℕ) → IsNewVolume version sectors nodes new since → LeavesGood sectors nodes 0 (λ kept. kept ≡ bare_in version fresh_tree) new since
+new_leaves version sectors nodes new since (Formatted {device = device} served fresh) = record {
   within = omega arith;
-  leaves = λ image left. stands_more sectors nodes 0 (λ kept. kept ≡ bare fresh_tree) (bare fresh_tree) image refl (fresh_stands_for version sectors nodes image (is_number version served) (fresh image (left_now device image left)));
+  leaves = λ image left. stands_more sectors nodes 0 (λ kept. kept ≡ bare_in version fresh_tree) (bare_in version fresh_tree) image refl (fresh_stands_for version sectors nodes image (is_number version served) (fresh image (left_now device image left)));
 }
-new_leaves sectors nodes new since (Powers {image = was} version served fresh) = record {
+new_leaves version sectors nodes new since (Powers {image = was} served fresh) = record {
   within = omega arith;
-  leaves = λ image left. stands_more sectors nodes 0 (λ kept. kept ≡ bare fresh_tree) (bare fresh_tree) image refl
+  leaves = λ image left. stands_more sectors nodes 0 (λ kept. kept ≡ bare_in version fresh_tree) (bare_in version fresh_tree) image refl
       (fresh_stands_for version sectors nodes image (is_number version served) (subst (λ (i : Image). IsFresh version sectors nodes i) (sym (rests_left was image left)) fresh));
 }
 
 pub every_first : EveryFirst
-every_first sectors nodes new since device from first is remounts found =
-    let same = served_good sectors nodes 0 (λ kept. kept ≡ bare fresh_tree) new since device from first (new_leaves sectors nodes new since is) remounts found in
-    record { empty = ∥∥₁_elim same.kept_is (Kept-set (kept_of first) (bare fresh_tree)) (λ e. e); nodes_are = same.nodes_are; counted = same.greater }
+every_first version sectors nodes new since device from first is remounts found =
+    let same = served_good sectors nodes 0 (λ kept. kept ≡ bare_in version fresh_tree) new since device from first (new_leaves version sectors nodes new since is) remounts found in
+    record { empty = ∥∥₁_elim same.kept_is (Kept-set (kept_of first) (bare_in version fresh_tree)) (λ e. e); nodes_are = same.nodes_are; counted = same.greater }
 
 module _ (sectors nodes run : ℕ) (good : Kept → Type 0) (device : History) (from : ℕ) (leaves : LeavesGood sectors nodes run good device from) where
   stands : StandsForGood sectors nodes run good (seen device.now)
@@ -241,9 +242,9 @@ module _ (sectors nodes run : ℕ) (good : Kept → Type 0) (device : History) (
 
 pub never_lost : NeverLost
 never_lost = record {
-  first = λ sectors nodes new since device from is remounts.
-      not_lost sectors nodes 0 (λ kept. kept ≡ bare fresh_tree) device from
-      (lasting sectors nodes 0 (λ kept. kept ≡ bare fresh_tree) new since device from (new_leaves sectors nodes new since is) remounts);
+  first = λ version sectors nodes new since device from is remounts.
+      not_lost sectors nodes 0 (λ kept. kept ≡ bare_in version fresh_tree) device from
+      (lasting sectors nodes 0 (λ kept. kept ≡ bare_in version fresh_tree) new since device from (new_leaves version sectors nodes new since is) remounts);
   later = λ stopped device from remounts.
       let sectors = stopped.first.volume.sectors in
       let nodes = stopped.first.volume.limits.nodes in
@@ -274,7 +275,7 @@ stamped_within stopped =
     let old = stopped.old in
     let history = history_of first.serving.world stopped.calls in
     let all = joined first old stopped.calls (mounted_leaves stopped.settings stopped.run stopped.start first stopped.mounted) stopped.served in
-    every_stamp (server_limits first.volume.limits stopped.settings) stopped.run stopped.start.tree stopped.start.seats old.serving history
+    every_stamp (server_limits first.volume.version first.volume.limits stopped.settings) stopped.run stopped.start.tree stopped.start.seats old.serving history
     (subst (λ (s : Serving). IsRun s old.serving history) stopped.mounted.serves all.run) stopped.event
 
 given_within : (stopped : Stopped) → ∥ AreGiven stopped.run (executed_in stopped) ∥₁
@@ -284,7 +285,7 @@ given_within stopped =
     let history = history_of first.serving.world stopped.calls in
     let all = joined first old stopped.calls (mounted_leaves stopped.settings stopped.run stopped.start first stopped.mounted) stopped.served in
     ∥∥₁_map stopped.mounted.starts (λ starts.
-    every_stamp_is_given (server_limits first.volume.limits stopped.settings) stopped.run stopped.start.tree stopped.start.seats old.serving history stopped.mounted.room starts
+    every_stamp_is_given (server_limits first.volume.version first.volume.limits stopped.settings) stopped.run stopped.start.tree stopped.start.seats old.serving history stopped.mounted.room starts
     (subst (λ (s : Serving). IsRun s old.serving history) stopped.mounted.serves all.run) stopped.event)
 
 pub every_stamping : EveryStamping
@@ -329,5 +330,5 @@ every_answer stopped =
     let old = stopped.old in
     let history = history_of first.serving.world stopped.calls in
     let all = joined first old stopped.calls (mounted_leaves stopped.settings stopped.run stopped.start first stopped.mounted) stopped.served in
-    every_answer_is_permitted (server_limits first.volume.limits stopped.settings) stopped.run stopped.start.tree stopped.start.seats old.serving history
+    every_answer_is_permitted (server_limits first.volume.version first.volume.limits stopped.settings) stopped.run stopped.start.tree stopped.start.seats old.serving history
     (subst (λ (s : Serving). IsRun s old.serving history) stopped.mounted.serves all.run) stopped.event

@@ -2,7 +2,7 @@
 -- leaves.
 use Rattle.std.specs.Prelude.{ℕ, List, [], ◌∷◌, slice_get, Some, ◌≡◌, ◌≢◌, ◌<◌, ◌≤◌, ◌+◌, ◌^◌}
 use Rattle.disk.specs.Moments.{Image, History, LeftSince, at_rest, moment, seen}
-use Rattle.layout.specs.Stands.{Kept, bare}
+use Rattle.layout.specs.Stands.{Kept, bare_in}
 use Rattle.model_tree.specs.Trees.Fresh.{fresh_tree}
 use Rattle.model.specs.Server.Runs.{Event, IsGoodPrefix, AreStamped, mounted, executed, done_with, before, stamp_in, Stored, HasAllHeld, replies_with}
 use Rattle.model.specs.Sessions.SeatRuns.{AreSeats}
@@ -31,7 +31,8 @@ use Rattle.model.specs.Sessions.Session.{Settings}
 -- leaves them
 pub record IsMounted (settings : Settings) (run : ℕ) (start : Kept) (first : Seen) : Type 0 where
   pub serves : first.serving
-      ≡ mounted (server_limits first.volume.limits settings) run start.tree start.seats
+      ≡ mounted (server_limits first.volume.version first.volume.limits settings) run start.tree
+      start.seats
   pub counted : first.volume.run ≡ run
   pub few : run < 2 ^ 32
   pub begins : kept_of first.volume ≡ start
@@ -129,29 +130,29 @@ EveryRun =
     → IsMountedAfter stopped device from
     → IsFound stopped.first.volume.sectors device again → HasGoodTree stopped again
 
--- A new volume, of any version, and from which moment of its device on a crash counts: what a format
--- that returned Ok leaves, or an image that a crash left of one.
-pub data IsNewVolume (sectors nodes : ℕ) : History → ℕ → Type 0 where
-  Formatted : {device : History} (version : VersionNumber) → versions.IsServed version
+-- A new volume of this version, and from which moment of its device on a crash counts: what a
+-- format that returned Ok leaves, or an image that a crash left of one.
+pub data IsNewVolume (version : VersionNumber) (sectors nodes : ℕ) : History → ℕ → Type 0 where
+  Formatted : {device : History} → versions.IsServed version
       → LeavesFresh version sectors nodes device
-      → IsNewVolume sectors nodes device (moment device)
-  Powers : {image : Image} (version : VersionNumber) → versions.IsServed version
-      → IsFresh version sectors nodes image
-      → IsNewVolume sectors nodes (at_rest image) 0
+      → IsNewVolume version sectors nodes device (moment device)
+  Powers : {image : Image} → versions.IsServed version → IsFresh version sectors nodes image
+      → IsNewVolume version sectors nodes (at_rest image) 0
 
 -- Before the first run: however often a new volume was mounted, and those mounts refused or
 -- stopped, the next one that serves has the empty root and no seats, under a count above 0.
-pub record BeginsFresh (nodes : ℕ) (first : VolumeState) : Type 0 where
-  pub empty : kept_of first ≡ bare fresh_tree
+pub record BeginsFresh (version : VersionNumber) (nodes : ℕ) (first : VolumeState)
+    : Type 0 where
+  pub empty : kept_of first ≡ bare_in version fresh_tree
   pub nodes_are : first.limits.nodes ≡ nodes
   pub counted : 0 < first.run
 
 abbrev pub EveryFirst : Type 0
 EveryFirst =
-    (sectors nodes : ℕ) (new : History) (since : ℕ) (device : History) (from : ℕ)
-    (first : VolumeState)
-    → IsNewVolume sectors nodes new since → Remounts sectors new since device from
-    → IsFound sectors device first → BeginsFresh nodes first
+    (version : VersionNumber) (sectors nodes : ℕ) (new : History) (since : ℕ)
+    (device : History) (from : ℕ) (first : VolumeState)
+    → IsNewVolume version sectors nodes new since → Remounts sectors new since device from
+    → IsFound sectors device first → BeginsFresh version nodes first
 
 -- Each image that a crash leaves represents one of these, under this count or a greater one. So a
 -- mount that is refused for what is there is refused as Worn, under the greatest count.
@@ -166,9 +167,10 @@ pub record IsNotLost (sectors nodes run : ℕ) (good : Kept → Type 0) (device 
 
 -- so before the first run, and after each
 pub record NeverLost : Type 0 where
-  pub first : (sectors nodes : ℕ) (new : History) (since : ℕ) (device : History) (from : ℕ)
-      → IsNewVolume sectors nodes new since → Remounts sectors new since device from
-      → IsNotLost sectors nodes 0 (λ kept. kept ≡ bare fresh_tree) device from
+  pub first : (version : VersionNumber) (sectors nodes : ℕ) (new : History) (since : ℕ)
+      (device : History) (from : ℕ)
+      → IsNewVolume version sectors nodes new since → Remounts sectors new since device from
+      → IsNotLost sectors nodes 0 (λ kept. kept ≡ bare_in version fresh_tree) device from
   pub later : (stopped : Stopped) (device : History) (from : ℕ)
       → IsMountedAfter stopped device from
       → IsNotLost stopped.first.volume.sectors stopped.first.volume.limits.nodes stopped.run

@@ -2,17 +2,18 @@
 use Rattle.std.specs.Prelude.{ℕ, Bool, true, false, List, Option, Result, OnErr, ◌≡◌}
 use Rattle.std.specs.Global.{Vec}
 use Rattle.std.specs.Option.{option_map}
+use Rattle.compound.specs.Profile.{served_by}
 use Rattle.compound.specs.States.{SharedState, most_reply_bytes, shared_of}
 use Rattle.disk.specs.declared.device.Device.{Ghosts}
 use Rattle.fs.specs.FileSystem.{FileSystem}
 use Rattle.fs.specs.Views.{fs_of, fs_failures}
+use Rattle.layout.specs.declared.versions.VersionNumber.{VersionNumber}
 use Rattle.model_tree.specs.declared.limits.Limits.{Limits}
 use Rattle.model.specs.Server.Runs.{Serving, Event, Left}
 use Rattle.model_tree.specs.Trees.Tree.{Tree}
 use Rattle.model.specs.Server.World as world
 use Rattle.model.specs.Server.World.{World, ServerLimits, mounted_world}
 use Rattle.rpc.specs.Assembly.{record_limits}
-use Rattle.session.specs.Limits.{served}
 use Rattle.volume.specs.MountAnswers.{MountServes}
 use Rattle.volume.specs.VolumeState.{VolumeState}
 use Rattle.server.specs.Connections.{connections_of}
@@ -25,13 +26,14 @@ use Rattle.model.specs.Sessions.Session.{Settings}
 abbrev pub most_connections : ℕ
 most_connections = 16
 
--- 64 clients, 32 sessions, 8 slots and 2 of a session that has a seat; records of 16,384 bytes; an
--- OK result ends within 16,368 bytes of its reply. A constant of the code that is changed is
--- refused. Whether a new session may have a seat is said when the run begins.
-abbrev pub server_limits : Limits → (settings : Settings) → ServerLimits
-server_limits volume settings = record {
+-- 64 clients, 32 sessions, 8 slots, and of a session that has a seat as many as the volume has room
+-- for; records of 16,384 bytes; an OK result ends within 16,368 bytes of its reply. A constant of
+-- the code that is changed is refused. Whether a new session may have a seat is said when the run
+-- begins.
+abbrev pub server_limits : VersionNumber → Limits → (settings : Settings) → ServerLimits
+server_limits version volume settings = record {
   volume = volume;
-  sessions = served;
+  sessions = served_by version;
   records = record_limits;
   connections = most_connections;
   settings = settings;
@@ -40,7 +42,8 @@ server_limits volume settings = record {
 
 abbrev pub world_by : SharedState → (connections : List (ℕ × world.Connection)) → World
 world_by state connections = record {
-  limits = server_limits state.files.volume.limits state.table.settings;
+  limits =
+      server_limits state.files.volume.version state.files.volume.limits state.table.settings;
   run = state.files.volume.run;
   tree = state.files.volume.tree;
   changes = state.files.changes;
@@ -65,8 +68,9 @@ volume_of server = (fs_of server.fs).volume
 -- connection
 abbrev pub BeginsEmpty : {D : Type 0} {g : Ghosts D} → (settings : Settings) → Server D g → Type 0
 BeginsEmpty settings server = world_of server
-    ≡ mounted_world (server_limits (volume_of server).limits settings) (volume_of server).run
-    (volume_of server).tree (world_of server).table.seats
+    ≡ mounted_world
+    (server_limits (volume_of server).version (volume_of server).limits settings)
+    (volume_of server).run (volume_of server).tree (world_of server).table.seats
 
 -- how often the device has failed
 unfoldable pub server_failures : {D : Type 0} {g : Ghosts D} → Server D g → ℕ
