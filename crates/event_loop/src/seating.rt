@@ -8,7 +8,7 @@ use crate::calls;
 use crate::line::Line;
 use crate::lines::Lines;
 use disk::Device;
-use model_tree::seats::{SEATS, Seat};
+use model_tree::seats::Seat;
 use model_tree::status::Status;
 use peer::compound_status;
 use rpc::{
@@ -32,6 +32,11 @@ const CREDENTIAL_BYTES: u32 = 20;
 /// The number of each call: its connection has one at a time.
 const XID: u32 = 1;
 
+/// How many seats the volume has.
+fn places<D: Device>(server: &Server<D>) -> usize {
+    server.seats().places.len()
+}
+
 /// The seat of this number, if it is taken.
 fn seat<D: Device>(server: &Server<D>, number: usize) -> Option<&Seat> {
     server.seats().places.get(number)?.as_ref()
@@ -43,7 +48,7 @@ where
     D: Device,
     E: Write + Drop,
 {
-    for number in 0..SEATS {
+    for number in 0..places(server) {
         if let Some(seat) = seat(server, number) {
             let line = Line::Seat {
                 number: number.saturating_add(1),
@@ -57,14 +62,14 @@ where
 
 /// How many seats are taken.
 pub fn count<D: Device>(server: &Server<D>) -> usize {
-    (0..SEATS)
+    (0..places(server))
         .filter(|number| seat(server, *number).is_some())
         .count()
 }
 
 /// Whether each seat is that of a session of this run.
 pub fn are_in_use<D: Device>(server: &Server<D>) -> bool {
-    (0..SEATS).all(|number| match seat(server, number) {
+    (0..places(server)).all(|number| match seat(server, number) {
         Some(seat) => server.has_session(&seat.session),
         None => false,
     })
@@ -89,7 +94,7 @@ where
 {
     let moment = moment(rt)?;
     let conn = calls::connect(server)?;
-    for number in 0..SEATS {
+    for number in 0..places(server) {
         let status = free_dead_seat(rt.alloc(), server, conn, number, moment)?;
         if status != Status::Ok.code() {
             let line = Line::SeatStays {

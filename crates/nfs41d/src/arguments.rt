@@ -36,6 +36,8 @@ pub const WITH_NODES: &str = "nodes";
 
 pub const LOG: &str = "log";
 
+pub const SEATS: &str = "seats";
+
 pub const FORGET_AFTER: &str = "forget-after";
 
 pub const HOLD: &str = "hold";
@@ -99,6 +101,12 @@ fn format<'a>(alloc: Global) -> Result<Command<'a>, AllocError> {
             LOG,
             "SECTORS",
             "How many sectors of 4096 bytes its log gets, from 288 to 1022, as by default",
+        ))?
+        .arg(option(
+            alloc,
+            SEATS,
+            "P",
+            "How many machines can have replies held that outlive a crash, from 1 to 64; by default 5",
         ))?
         .arg(word(alloc, FILE, "The file, which is made if it is absent"))?
         .arg(word(

@@ -2,8 +2,8 @@
 
 use crate::arguments::{
     ADDRESS, ALLOW, ARCHIVE, CHECK, FILE, FORCE, FORGET_AFTER, FORMAT, FREE_SEATS, GET, HOLD, LOG,
-    LS, METRICS, NAME, NO_PERSISTENT_SESSIONS, NODES, PATH, PRIVILEGED_PORTS, PUT, QUIET, SERVE,
-    SIZE, TAR, WITH_NODES, command,
+    LS, METRICS, NAME, NO_PERSISTENT_SESSIONS, NODES, PATH, PRIVILEGED_PORTS, PUT, QUIET, SEATS,
+    SERVE, SIZE, TAR, WITH_NODES, command,
 };
 use crate::fault::{Fault, Usage};
 use crate::name::is_name;
@@ -147,7 +147,10 @@ fn format_in<'a>(words: &ArgMatches<'a>) -> Result<Request<'a>, Fault> {
 
 /// The size of a volume of layout 2, whose log is always the same.
 fn small_size(words: &ArgMatches<'_>, nodes: &str) -> Option<Size> {
-    if words.get_str(WITH_NODES).is_some() || words.get_str(LOG).is_some() {
+    if [WITH_NODES, LOG, SEATS]
+        .iter()
+        .any(|option| words.get_str(option).is_some())
+    {
         return None;
     }
     Some(Size::Small(VolumeSize::parse(words.get_str(SIZE)?, nodes)?))
@@ -160,6 +163,9 @@ fn large_size(words: &ArgMatches<'_>) -> Option<Size> {
     }
     if let Some(log) = words.get_str(LOG) {
         size.log = decimal(log)?;
+    }
+    if let Some(seats) = words.get_str(SEATS) {
+        size.seats = u16::try_from(decimal(seats)?).ok()?;
     }
     Some(Size::Large(size))
 }

@@ -6,7 +6,7 @@ use crate::number::decimal;
 use crate::refused::Refused;
 use crate::volume_file::open_refusal;
 use disk::{Device, FileDevice, SECTOR};
-use geometry::{Geometry, MAX_FILE_BYTES, MAX_LOG, MAX_NAMES, SEATS, SLOTS, Superblock};
+use geometry::{Geometry, MAX_FILE_BYTES, MAX_LOG, MAX_NAMES, Superblock};
 use std::alloc::Global;
 use std::fs::File;
 use std::io::{Read, Write};
@@ -22,6 +22,12 @@ const SECTORS_PER_NODE: u32 = 16;
 const MOST_BY_DEFAULT: u32 = 1_048_576;
 
 const FEWEST_BY_DEFAULT: u32 = 16;
+
+/// By default a volume has this many seats.
+const SEATS: u16 = 5;
+
+/// The slots of each seat.
+const SLOTS: u16 = 8;
 
 /// What a node with its name takes in memory while a mount reads it, if its access control list is
 /// short: 1,125 bytes were measured.
@@ -51,16 +57,21 @@ pub struct LargeSize {
     pub nodes: u32,
     /// The sectors of the log.
     pub log: u32,
+    /// The seats, and the slots of each.
+    pub seats: u16,
+    pub slots: u16,
 }
 
 impl LargeSize {
-    /// A volume of this many sectors with nodes and a log as they are by default.
+    /// A volume of this many sectors with nodes, a log and seats as they are by default.
     pub fn of_sectors(sectors: u32) -> LargeSize {
         let nodes = (sectors / SECTORS_PER_NODE).clamp(FEWEST_BY_DEFAULT, MOST_BY_DEFAULT);
         LargeSize {
             sectors,
             nodes,
             log: MAX_LOG,
+            seats: SEATS,
+            slots: SLOTS,
         }
     }
 
@@ -69,8 +80,8 @@ impl LargeSize {
             sectors: self.sectors,
             nodes: self.nodes,
             log: self.log,
-            seats: SEATS,
-            slots: SLOTS,
+            seats: self.seats,
+            slots: self.slots,
             names: MAX_NAMES,
             file_bytes: MAX_FILE_BYTES,
         }

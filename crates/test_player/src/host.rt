@@ -12,6 +12,9 @@ use test_rows::{Choices, Host, Layout, Refusal, TrialDevice, Turn};
 /// The sectors of the log of a volume of version 3.
 const LOG: u32 = 288;
 
+/// The slots of its seats.
+const SLOTS: u16 = 2;
+
 /// The identity of such a volume.
 const IDENTITY: [u8; 16] = *b"0123456789abcdef";
 
@@ -130,6 +133,7 @@ fn format_large(alloc: Global, device: &mut RowDevice, nodes: u32) -> Result<(),
     let size = LargeSize {
         log: LOG,
         nodes,
+        slots: SLOTS,
         ..LargeSize::of_sectors(device.sectors())
     };
     format_large_device(alloc, device, size, IDENTITY)
