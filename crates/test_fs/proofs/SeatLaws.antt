@@ -17,15 +17,15 @@ one_seat run seat mounted one = record {
         (omega (arith, its), omega (arith, its))
     by_test id false is has = absurd (true≢false (sym has))
 
-pub takes_first : (run : ℕ) (seat : Seat) (seats : Seats) → 0 < run → length seats ≡ 5 → run_of seat.session ≡ 1
-    → AreEdits run (Takes seat ∷ Frees ∷ Frees ∷ Frees ∷ Frees ∷ []) seats
-takes_first run seat (a ∷ b ∷ c ∷ d ∷ e ∷ []) mounted five one = record {
-  can = (tt, (tt, (tt, (tt, (tt, tt)))));
+pub takes_first : (run slots : ℕ) (seat : Seat) (seats : Seats) → 0 < run → length seat.slots ≤ slots → length seats ≡ 5 → run_of seat.session ≡ 1
+    → AreEdits run slots (Takes seat ∷ Frees ∷ Frees ∷ Frees ∷ Frees ∷ []) seats
+takes_first run slots seat (a ∷ b ∷ c ∷ d ∷ e ∷ []) mounted few five one = record {
+  can = (few, (tt, (tt, (tt, (tt, tt)))));
   of_runs = one_seat run seat mounted one;
 }
-takes_first run seat [] mounted five one = absurd (omega (arith, five))
-takes_first run seat (a ∷ []) mounted five one = absurd (omega (arith, five))
-takes_first run seat (a ∷ b ∷ []) mounted five one = absurd (omega (arith, five))
-takes_first run seat (a ∷ b ∷ c ∷ []) mounted five one = absurd (omega (arith, five))
-takes_first run seat (a ∷ b ∷ c ∷ d ∷ []) mounted five one = absurd (omega (arith, five))
-takes_first run seat (a ∷ b ∷ c ∷ d ∷ e ∷ f ∷ seats) mounted five one = absurd (omega (arith, five))
+takes_first run slots seat [] mounted few five one = absurd (omega (arith, five))
+takes_first run slots seat (a ∷ []) mounted few five one = absurd (omega (arith, five))
+takes_first run slots seat (a ∷ b ∷ []) mounted few five one = absurd (omega (arith, five))
+takes_first run slots seat (a ∷ b ∷ c ∷ []) mounted few five one = absurd (omega (arith, five))
+takes_first run slots seat (a ∷ b ∷ c ∷ d ∷ []) mounted few five one = absurd (omega (arith, five))
+takes_first run slots seat (a ∷ b ∷ c ∷ d ∷ e ∷ f ∷ seats) mounted few five one = absurd (omega (arith, five))

@@ -1,7 +1,7 @@
 //! Volumes of version 3: what a format leaves, which sizes and which changed bytes are refused,
 //! that the limits in the first sector are reached, and what crashes leave.
 
-ghost use Rattle.std.specs.Prelude.{◌≡◌, ◌<◌, ℕ, length, IfOk};
+ghost use Rattle.std.specs.Prelude.{◌≡◌, ◌≤◌, ◌<◌, ℕ, length, IfOk};
 ghost use Rattle.model_tree.specs.Seats.SeatEdits.{AreEdits, edits_view};
 ghost use Rattle.model_tree.specs.Seats.Seats.{Seats};
 
@@ -14,7 +14,8 @@ use super::sectors::{Image, put_all, volume_image};
 use disk::{SECTOR, Stop, landings};
 use fs::{Fs, FsFault, Mounted};
 use geometry::{Geometry, Superblock};
-use model_tree::seats::{Seat, SeatEdit, SeatEdits};
+use model_tree::seat_edits::SeatEdits;
+use model_tree::seats::{Seat, SeatEdit};
 use model_tree::status::Status;
 use std::alloc::{AllocError, Global};
 use std::process::Abort;
@@ -28,6 +29,12 @@ type Numbers = (u32, u32, u32, u16, u16, u32, u64);
 /// The node table is sectors 148 to 163, the data region 164 to 266; the seats are 267 to 311, and
 /// the log is behind them.
 const SMALL: Numbers = (600, 16, 288, 5, 2, 4, 10_000);
+
+/// Its five seats have room for eight slots each.
+const EIGHT_SLOTS: Numbers = (700, 16, 288, 5, 8, 4, 10_000);
+
+/// Each of these volumes has as many seats.
+const PLACES: usize = 5;
 
 /// Its data region has 16 sectors, and no volume has fewer.
 const LEAST: Numbers = (513, 16, 288, 5, 2, 1_000, 4_096);
@@ -51,6 +58,8 @@ const SEATED: &str = "@0 0*23 02 @98 0000 \
 /// What may be anything, or is at its limit.
 const GOOD: &str = "no change: 0*1
 another identity: @0 0*48 ff
+four seats: @0 0*29 04
+one slot of each: @0 0*31 01
 as many names as the root has: @0 0*35 03
 as many bytes as the longest file has: @0 0*46 2005
 anything in the log, with no commit record: @312 01 @599 0*4095 01
@@ -69,8 +78,10 @@ one node: @0 0*19 01
 too few sectors for as many nodes: @0 0*19 68
 a log of 287 sectors: @0 0*26 011f
 of 1,023: @0 0*26 03ff
-four seats: @0 0*29 04
-one slot: @0 0*31 01
+no seat: @0 0*29 00
+65 seats: @0 0*29 41
+no slot: @0 0*31 00
+nine slots: @0 0*31 09
 no name: @0 0*35 00
 1,025 names: @0 0*34 0401
 no byte of a file: @0 0*46 0000
@@ -130,7 +141,7 @@ const COPIED: &str =
 the first sector of a free seat, with a byte: @1 00000001 00000001 0000010b @312 0*4095 01";
 
 /// How many sectors a device has, and a geometry of no volume on it.
-const SIZES: [(u32, Numbers); 14] = [
+const SIZES: [(u32, Numbers); 15] = [
     (599, SMALL),
     (601, SMALL),
     (0, SMALL),
@@ -138,9 +149,10 @@ const SIZES: [(u32, Numbers); 14] = [
     (600, (600, 1, 288, 5, 2, 4, 10_000)),
     (1_400, (1_400, 16, 287, 5, 2, 4, 10_000)),
     (1_400, (1_400, 16, 1_023, 5, 2, 4, 10_000)),
-    (1_400, (1_400, 16, 288, 4, 2, 4, 10_000)),
-    (1_400, (1_400, 16, 288, 6, 2, 4, 10_000)),
-    (1_400, (1_400, 16, 288, 5, 3, 4, 10_000)),
+    (1_400, (1_400, 16, 288, 0, 2, 4, 10_000)),
+    (1_400, (1_400, 16, 288, 65, 2, 4, 10_000)),
+    (1_400, (1_400, 16, 288, 5, 0, 4, 10_000)),
+    (1_400, (1_400, 16, 288, 5, 9, 4, 10_000)),
     (600, (600, 16, 288, 5, 2, 0, 10_000)),
     (600, (600, 16, 288, 5, 2, 1_025, 10_000)),
     (600, (600, 16, 288, 5, 2, 4, 0)),
@@ -286,11 +298,11 @@ fn a_full_count_is_returned_second(rt: HostRuntime) -> Result<(), Fail> {
     expect_both(&rt, rt.alloc(), COPIED, MountFault::Damaged, DAMAGED)
 }
 
-/// A session of run 1 takes the first place, and the others are freed.
+/// A session of run 1 takes the first of five places, and the others are freed.
 #[tactic(auto, using(crate::proofs::SeatLaws::takes_first))]
 fn seat_edits(alloc: Global) -> Result<SeatEdits, AllocError>
-    ensures { IfOk result (λ edits. (run : ℕ) (seats : Seats) → 0 < run → length seats ≡ 5
-        → AreEdits run (edits_view edits) seats) }
+    ensures { IfOk result (λ edits. (run slots : ℕ) (seats : Seats) → 0 < run → 1 ≤ slots
+        → length seats ≡ 5 → AreEdits run slots (edits_view edits) seats) }
 {
     let seat = Seat {
         session: [0, 0, 0, 1, 0, 0, 0, 3, 0, 0, 0, 0, 0, 0, 0, 2],
@@ -311,9 +323,12 @@ fn seat_edits(alloc: Global) -> Result<SeatEdits, AllocError>
 /// Mounts a disk, and keeps that seat.
 fn start(alloc: Global, disk: &mut Disk) -> Result<Fs<&mut Disk>, FsFault> {
     let edits = seat_edits(alloc)?;
-    let Ok(Mounted { mut fs, seats: _ }) = Fs::mount_seated(alloc, disk, None) else {
+    let Ok(Mounted { mut fs, seats }) = Fs::mount_seated(alloc, disk, None) else {
         return Err(FsFault::Device);
     };
+    if seats.places.len() != PLACES || fs.version().seat_sizes().slots == 0 {
+        return Err(FsFault::Device);
+    }
     fs.put_seats(&edits)?;
     Ok(fs)
 }
@@ -357,8 +372,8 @@ fn limits_are_reached(rt: HostRuntime) -> Result<(), Fail> {
 }
 
 /// A format and changes, each of which is kept. Counts those that returned.
-fn live(alloc: Global, disk: &mut Disk, done: &mut usize) -> Result<(), FsFault> {
-    if format(alloc, disk, SMALL).is_err() {
+fn live(alloc: Global, numbers: Numbers, disk: &mut Disk, done: &mut usize) -> Result<(), FsFault> {
+    if format(alloc, disk, numbers).is_err() {
         return Err(FsFault::Device);
     }
     *done = 1;
@@ -393,10 +408,10 @@ fn look(alloc: Global, image: Image) -> Result<Found, Fail> {
 
 /// A life that crashes within this step leaves what it kept, with or without what it was doing.
 /// Returns whether there is such a step.
-fn crash(rt: &impl Abort, alloc: Global, step: u64) -> Result<bool, Fail> {
-    let mut disk = filled_disk(alloc, 600, 0, Stop::Within(step))?;
+fn crash(rt: &impl Abort, alloc: Global, numbers: Numbers, step: u64) -> Result<bool, Fail> {
+    let mut disk = filled_disk(alloc, numbers.0, 0, Stop::Within(step))?;
     let mut done = 0;
-    match live(alloc, &mut disk, &mut done) {
+    match live(alloc, numbers, &mut disk, &mut done) {
         Ok(()) => return Ok(false),
         Err(FsFault::Device) => {}
         Err(fault) => return Err(fault.into()),
@@ -414,12 +429,22 @@ fn crash(rt: &impl Abort, alloc: Global, step: u64) -> Result<bool, Fail> {
     Ok(true)
 }
 
-#[test]
-fn crashes_leave_what_was_kept(rt: HostRuntime) -> Result<(), Fail> {
+/// The crashes of a life within each of its steps.
+fn crashes(rt: &impl Abort, alloc: Global, numbers: Numbers) -> Result<(), Fail> {
     for step in 0..MAX_STEPS {
-        if !crash(&rt, rt.alloc(), step)? {
+        if !crash(rt, alloc, numbers, step)? {
             return Ok(());
         }
     }
     Err("too many steps".into())
+}
+
+#[test]
+fn crashes_leave_what_was_kept(rt: HostRuntime) -> Result<(), Fail> {
+    crashes(&rt, rt.alloc(), SMALL)
+}
+
+#[test]
+fn crashes_leave_seats_of_eight_slots(rt: HostRuntime) -> Result<(), Fail> {
+    crashes(&rt, rt.alloc(), EIGHT_SLOTS)
 }
