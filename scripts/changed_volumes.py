@@ -25,7 +25,7 @@ import tempfile
 TOP = pathlib.Path(__file__).resolve().parent.parent
 SECTOR, ZERO = 4096, bytes(4096)
 LOG, BITMAP, SEATS, BEHIND_SEATS, MARK, NODES = 2, 98, 100, 145, 147, 148
-SEAT_SECTORS, SLOT_SECTORS, MAX_OWNER, MAX_RESULT = 9, 4, 1024, 16360
+SLOT_SECTORS, MAX_OWNER, MAX_RESULT = 4, 1024, 16360
 RUNS, NAMES, RECORD = 500, 15, 272
 SCRIPT = f"""A hello 7 7
 A session persist
@@ -87,22 +87,30 @@ class Reading:
         if not (256 <= self.size <= 65536 and 2 <= self.places <= 16384 and 164 + self.places <= self.size):
             raise Unfit("NotVolume")
         need(is_zero(first[24:]))
-        self.log, self.log_sectors, self.seats_start = LOG, 96, SEATS
+        self.log, self.log_sectors = LOG, 96
+        self.seats_start, self.seat_count, self.slots = SEATS, 5, 2
         self.data_end = self.targets_end = self.size
         self.most_names, self.most_bytes = 1024, 1 << 24
 
     def read_large(self, first):
         """What the superblock of version 3 has behind the restart count."""
-        self.log_sectors, seats, slots = number(first, 24, 4), number(first, 28, 2), number(first, 30, 2)
+        self.log_sectors, self.seat_count, self.slots = (number(first, *it) for it in ((24, 4), (28, 2), (30, 2)))
         self.most_names, self.most_bytes, self.identity = number(first, 32, 4), number(first, 40, 8), first[48:64]
-        are_counts = 2 <= self.places <= 4194304 and 288 <= self.log_sectors <= 1022 and (seats, slots) == (5, 2)
+        are_counts = 2 <= self.places <= 4194304 and 288 <= self.log_sectors <= 1022
+        are_counts = are_counts and 1 <= self.seat_count <= 64 and 1 <= self.slots <= 8
         are_limits = 1 <= self.most_names <= 1024 and 1 <= self.most_bytes <= 1 << 24
-        tail = seats * (1 + SLOT_SECTORS * slots) + self.log_sectors
+        tail = self.seat_count * self.seat_sectors() + self.log_sectors
         if not (are_counts and are_limits and 164 + self.places + tail <= self.size):
             raise Unfit("NotVolume")
         need(is_zero(first[36:40]) and is_zero(first[64:]))
         self.data_end = self.seats_start = self.size - tail
         self.log = self.targets_end = self.size - self.log_sectors
+
+    def seat_sectors(self):
+        return 1 + SLOT_SECTORS * self.slots
+
+    def seat_starts(self):
+        return [self.seats_start + self.seat_sectors() * k for k in range(self.seat_count)]
 
     def read_record(self):
         """The commit record: from here on the sectors are those that are read through it."""
@@ -128,13 +136,13 @@ class Reading:
 
     def read_seat(self, first):
         """The first sector of a seat, its id and its owner's length, or None where it is free."""
-        head, whole = self.sectors[first], self.sectors[first : first + SEAT_SECTORS]
+        head, whole = self.sectors[first], self.sectors[first : first + self.seat_sectors()]
         if all(it == ZERO for it in (whole[:1] if self.version == 3 else whole)):
             return None
         slots, length = number(head, 24, 4), number(head, 28, 4)
-        need(head[:4] == b"SESS" and slots in (1, 2) and length <= MAX_OWNER and is_zero(head[32 + length :]))
+        need(head[:4] == b"SESS" and 1 <= slots <= self.slots and length <= MAX_OWNER and is_zero(head[32 + length :]))
         need(1 <= number(head, 4, 4) <= self.count)
-        for slot in range(2):
+        for slot in range(self.slots):
             self.read_slot(first + 1 + SLOT_SECTORS * slot, slot < slots)
         return first, head[4:20], length
 
@@ -146,7 +154,7 @@ class Reading:
             need(is_zero(text[16:24]) and is_zero(text[24 + length :]))
 
     def read_seats(self):
-        self.seats = [it for k in range(5) if (it := self.read_seat(self.seats_start + SEAT_SECTORS * k))]
+        self.seats = [it for first in self.seat_starts() if (it := self.read_seat(first))]
         ids = [it[1] for it in self.seats]
         need(len(ids) == len(set(ids)) and all(self.sectors[it] == ZERO for it in range(BEHIND_SEATS, MARK)))
         need(not ids or (self.version > 1 and self.moved is None))
@@ -278,8 +286,8 @@ def parts_of(reading):
     parts = [(0, 0, 68), (1, 0, 12 + 4 * len(reading.targets)), (2, 0, 2), (BITMAP, 0, 16), (MARK, 0, 12)]
     parts += [(it, 0, 2) for it in (reading.log, reading.data_end - 1, reading.size - 1)]
     parts += [(it, SECTOR - 2, SECTOR) for it in (0, 1, 99, 144, 146, MARK)]
-    parts += [(reading.seats_start + SEAT_SECTORS * k + at, 0, 2) for k in range(5) for at in (0, 1, 5)]
-    parts += [(reading.seats_start + SEAT_SECTORS * k, SECTOR - 2, SECTOR) for k in range(5)] + [(BEHIND_SEATS, 0, 2)]
+    parts += [(first + at, 0, 2) for first in reading.seat_starts() for at in (0, 1, 5)]
+    parts += [(first, SECTOR - 2, SECTOR) for first in reading.seat_starts()] + [(BEHIND_SEATS, 0, 2)]
     for first, _, length in reading.seats:
         parts += [(first, 0, 34 + length), (first, 1054, 1058), (first + 1, 2, 30), (first + 4, SECTOR - 2, SECTOR)]
         end = 24 + number(reading.sectors[first + 1], 12, 4)
@@ -378,7 +386,7 @@ def main(nfs41=TOP / "crates/nfs41/out/nfs41", each="1", nfs41d=TOP / "crates/nf
         path.write_bytes(take_back(path.read_bytes(), 13))
         wrong += try_volume(nfs41, path, "version 1, in a migration", each)
         path = pathlib.Path(folder, "large.img")
-        words = ("format", "--nodes", "16", "--log", "288", path, "2068K")
+        words = ("format", "--nodes", "16", "--log", "288", "--seats", "3", path, "2268K")
         subprocess.run([nfs41d, *words], check=True, stdout=subprocess.DEVNULL)
         wrong += try_version(nfs41, path, 3, each)
     for line in wrong[:20]:

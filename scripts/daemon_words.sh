@@ -188,13 +188,15 @@ formatting() {
     echo "  mode $(stat -c %a new.img), $(stat -c %s new.img) bytes"
     try check new.img
     try format new.img 64M
+    try format --force --nodes 20 --log 288 --seats 64 new.img 16M
     try format --force --nodes 20 --log 288 new.img 3M
     try check new.img
-    for words in 2064K 2068K 1T 16T 17T 16777217M 64 64m 64MB 0G -1G '' M 1.5G; do
+    for words in 2544K 2548K 1T 16T 17T 16777217M 64 64m 64MB 0G -1G '' M 1.5G; do
         rm -f new.img
         try format --nodes 20 --log 288 new.img "$words"
     done
-    for words in '--nodes 1' '--nodes 16100' '--log 287' '--log 1023' '--nodes x' '--log -1'; do
+    for words in '--nodes 1' '--nodes 16100' '--log 287' '--log 1023' '--nodes x' '--log -1' \
+        '--seats 0' '--seats 65' '--seats five'; do
         rm -f new.img
         try format $words new.img 64M
     done

@@ -65,7 +65,7 @@ impl Usage {
         match self {
             Usage::Form => {
                 "nfs41d [[serve] [OPTIONS] FILE [ADDRESS:PORT] | \
-                 format [--force] [--nodes N] [--log SECTORS] FILE SIZE | \
+                 format [--force] [--nodes N] [--log SECTORS] [--seats P] FILE SIZE | \
                  format [--force] FILE SECTORS NODES | check FILE | ls FILE PATH | \
                  get FILE PATH | tar FILE | put FILE TAR | help [COMMAND] | --version]"
             }
