@@ -5,7 +5,7 @@ use Rattle.layout.specs.declared.versions.VersionNumber.{VersionNumber}
 use Rattle.layout.specs.declared.versions.VersionNumber.TheVariants.{One, Two, Three}
 use Rattle.model.specs.Sessions.Session.{SessionLimits}
 
--- if a seat has at most so many slots
+-- on a volume whose seats have `seat_slots` slots
 abbrev pub served_with : (seat_slots : ℕ) → SessionLimits
 served_with seat_slots = record {
   clients = 64;

@@ -7,7 +7,7 @@ ghost use Rattle.compound.specs.Profile.{served_by, served_with};
 
 use layout::places::SEAT_SLOTS;
 use layout::versions::VersionNumber;
-use session::Limits;
+use session::{Limits, MAX_RECORD_BYTES, MAX_SLOTS};
 
 /// The limits of a server whose volume has this version.
 pub(crate) fn limits_by(version: VersionNumber) -> Limits
@@ -27,9 +27,9 @@ fn limits_with(seat_slots: u32) -> Limits
     Limits {
         clients: 64,
         sessions: 32,
-        slots: 8,
+        slots: MAX_SLOTS,
         seat_slots,
         operations: 16,
-        record_bytes: 16_384,
+        record_bytes: MAX_RECORD_BYTES,
     }
 }
