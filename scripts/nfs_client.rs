@@ -10,6 +10,9 @@ use std::time::Duration;
 /// The slots that a session asks for.
 pub const SLOTS: usize = 8;
 
+/// The bytes of a record that a session asks for: those of a READ or WRITE of 1 MiB.
+const RECORD_BYTES: u32 = (1 << 20) + (1 << 13);
+
 /// How long a reply may take.
 const PATIENCE: Duration = Duration::from_secs(60);
 
@@ -553,7 +556,7 @@ impl Client {
         let create = Ops::new().with(Op::CreateSession, |words| {
             words.u64(id).u32(sequence).u32(session_flags());
             for _ in 0..2 {
-                words.u32(0).u32(1 << 20).u32(1 << 20).u32(1 << 14);
+                words.u32(0).u32(RECORD_BYTES).u32(RECORD_BYTES).u32(1 << 14);
                 words.u32(16).u32(SLOTS as u32).u32(0);
             }
             words.u32(0x4000_0000).u32(1).u32(0);
