@@ -12,5 +12,6 @@ pub mod Kept
 pub mod Lists
 pub mod Opening
 pub mod Serials
+pub mod Shortness
 pub mod Taking
 pub mod Writes
