@@ -1,12 +1,16 @@
-//! Why a connection is not listened to any longer.
+//! Why bytes of a stream are not taken.
 
+ghost use Rattle.std.specs.Prelude.{◌≡◌};
+ghost use Rattle.rpc.specs.declared.fault.FeedError.TheVariants as errors;
+
+use std::alloc::AllocError;
 use thiserror::Error;
 
-/// Why bytes of a stream are not taken.
+/// Why bytes of a stream are refused.
 #[derive(Clone, Copy, Debug, PartialEq, Eq, Error)]
 pub enum RecordFault {
     /// A fragment's header brings the record above its limit.
-    #[error("a record above 16384 bytes")]
+    #[error("a record of too many bytes")]
     RecordTooBig,
     /// A fragment's header after the maximal number of fragments.
     #[error("a record of more than 64 fragments")]
@@ -14,4 +18,23 @@ pub enum RecordFault {
     /// A whole record that holds no call.
     #[error("a record that is no call")]
     NotACall,
+}
+
+/// Why a piece of a stream is not taken.
+#[derive(Clone, Copy, Debug, PartialEq, Eq, Error)]
+pub enum FeedError {
+    /// The stream is refused for good.
+    #[error("{0}")]
+    Refused(RecordFault),
+    /// No memory for the piece. Nothing changed, and it may be fed again.
+    #[error("no memory for a record")]
+    Memory,
+}
+
+impl From<AllocError> for FeedError {
+    ghost from_gives = { λ _ error. error ≡ errors.Memory };
+
+    fn from(_: AllocError) -> FeedError {
+        FeedError::Memory
+    }
 }
