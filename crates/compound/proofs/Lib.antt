@@ -1,5 +1,6 @@
 pub mod Agreeing
 pub mod AheadLaws
+pub mod Altering
 pub mod BesideLaws
 pub mod Changing
 pub mod CloseLaws
@@ -7,6 +8,7 @@ pub mod Creating
 pub mod Current
 pub mod Firsts
 pub mod Identity
+pub mod Leaving
 pub mod ListLaws
 pub mod OpenLaws
 pub mod OpenNamedLaws

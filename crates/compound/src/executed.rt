@@ -1,6 +1,7 @@
 //! What an operation does.
 
-use crate::progress::SlotId;
+use crate::progress::{Joined, SlotId};
+use crate::reply_memory::ReplyMemory;
 use wire::{Operation, Outcome, StateId};
 
 /// What an operation leaves of its COMPOUND, beside the result.
@@ -18,8 +19,8 @@ pub enum Effect {
     Opens { number: u64, state: StateId },
     /// The current node keeps no stateid.
     Closes,
-    /// The slot runs the COMPOUND, of the session of this client.
-    Joins { slot: SlotId, client: u64 },
+    /// A slot of a session runs the COMPOUND.
+    Joins(Joined),
 }
 
 /// What an operation does.
@@ -30,10 +31,12 @@ pub enum Executed {
         outcome: Outcome<'static>,
         effect: Effect,
     },
-    /// An OK result, encoded: the values after its status. Nothing changes.
+    /// An OK result, encoded: the values after its status. Nothing changes. It has larger memory
+    /// unless it is short, or fits what each COMPOUND begins with.
     GivesValues {
         operation: Operation,
         values: Vec<u8>,
+        larger: Option<ReplyMemory>,
     },
     /// The COMPOUND is a retry: its whole result is the one that this slot keeps, which
     /// `Table::kept` gives.
