@@ -9,6 +9,7 @@ mod fault;
 mod laws;
 mod mounting;
 mod receiving;
+mod records;
 mod request;
 mod running;
 mod server;
