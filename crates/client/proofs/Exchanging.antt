@@ -1,16 +1,15 @@
 -- A client's record that is sent over a stream, and its outcome.
-use Rattle.std.specs.Bool.{⊤}
 use Rattle.std.proofs.Common.{◌≡◌, ℕ, List, Option, Some, None, Result, Err, inl, inr, refl, sym, ap, ◌∙◌}
 use Rattle.std.specs.Global.{Vec}
 use Rattle.model.specs.Wire.Record.{Prefix, Partial, Refused, Whole, prefix}
+use Rattle.rpc.specs.Assembly.{record_limits}
 use Rattle.wire.specs.declared.outcome.Outcome.{Outcome}
 use Rattle.client.specs.declared.fault.ClientFault.{ClientFault}
 use Rattle.client.specs.declared.fault.ClientFault.TheVariants as faults
 use Rattle.client.specs.Client.{Client, Sent}
 use Rattle.client.specs.Requests.{bytes_kept}
 use Rattle.client.specs.Replies.{NoReply, replied, replied_by}
-use Rattle.client.specs.Streams.{Stream, Passes, Comes, Converses, IsCut, reply_limits}
-use Rattle.client.specs.Views.{known}
+use Rattle.client.specs.Streams.{Stream, Passes, Comes, Converses}
 use Rattle.client.specs.Exchanges.{Exchanges, ResendsKept, Resends}
 
 nothing_by : (client : Client) (sent : Option Sent) → replied_by client sent NoReply ≡ client
@@ -21,24 +20,13 @@ pub replied_nothing : (client : Client) → replied client NoReply ≡ client
 unfolding replied
 replied_nothing client = nothing_by client client.sent
 
--- an error keeps what it says of the bytes read, for whichever result it is an error
-same_cut : {A : Type 0} (read : List ℕ) (e : ClientFault) (r : Result A ClientFault) → r ≡ Err e → IsCut {A = ⊤} read (Err e) → IsCut read r
-same_cut read e r is (inl io) = let fault : e ≡ faults.Io = cc io in inl (is ∙ ap (λ (x : ClientFault). Err x) fault)
-same_cut read e r is (inr memory) =
-    let fault : e ≡ faults.Memory = cc memory.0 in
-    inr (is ∙ ap (λ (x : ClientFault). Err x) fault, memory.1)
-
--- of such an error the client learns nothing
-learns_nothing : (client : Client) (read : List ℕ) (r : Result (Vec Outcome) ClientFault) → IsCut read r → client ≡ known client NoReply r
-learns_nothing client read r (inl io) = rw io (sym (replied_nothing client))
-learns_nothing client read r (inr memory) = rw memory.0 refl
-
 -- no whole record came, or one that is refused
 fails : (client : Client) (bytes read received : List ℕ) (before after : Stream) (came : Prefix) (e : ClientFault) (r : Result (Vec Outcome) ClientFault)
-    → prefix reply_limits read ≡ came → Passes bytes before after read → Comes read came received (Err e) → r ≡ Err e → Exchanges client client bytes before after r
+    → prefix record_limits read ≡ came → Passes bytes before after read → Comes came received (Err e) → r ≡ Err e → Exchanges client client bytes before after r
 fails client bytes read received before after Partial e r is passes comes result_is =
-    let cut = same_cut read e r result_is comes in
-    record { read = read; passes = passes; tells = rw is cut; knows = rw is (learns_nothing client read r cut) }
+    let io : e ≡ faults.Io = cc in
+    let told : r ≡ Err faults.Io = result_is ∙ ap (λ (x : ClientFault). Err x) io in
+    record { read = read; passes = passes; tells = rw is told; knows = rw (is, told) (sym (replied_nothing client)) }
 fails client bytes read received before after (Refused fault) e r is passes comes result_is =
     let garbled : e ≡ faults.Garbled = cc in
     let told : r ≡ Err faults.Garbled = result_is ∙ ap (λ (x : ClientFault). Err x) garbled in
@@ -51,7 +39,7 @@ kept client found bytes received before after e r is (inl none) result_is =
     let memory : e ≡ faults.Memory = cc none.0 in
     rw is (inl (record { refused = result_is ∙ ap (λ (x : ClientFault). Err x) memory; same = refl; untouched = none.1 }))
 kept client found bytes received before after e r is (inr talks) result_is =
-    rw is (inr (fails client bytes talks.read received before after (prefix reply_limits talks.read) e r refl talks.passes talks.comes result_is))
+    rw is (inr (fails client bytes talks.read received before after (prefix record_limits talks.read) e r refl talks.passes talks.comes result_is))
 
 pub not_received : (client : Client) (bytes received : List ℕ) (before after : Stream) (e : ClientFault) (r : Result (Vec Outcome) ClientFault)
     → bytes_kept client.sent ≡ Some bytes → Converses bytes before after received (Err e) → r ≡ Err e → Resends client client before after r

@@ -18,7 +18,7 @@ use Rattle.model.specs.Operations.SetAttr.{sets, set_attributes}
 use Rattle.model.specs.Operations.State.{current_refusals}
 use Rattle.model.specs.Sessions.StateIds.{has_opens}
 use Rattle.model.specs.Operations.Step.{State, Stepped, effect, does}
-use Rattle.model.specs.Server.World.{World, InProgress, Connection, Quiet, Waiting, Busy, Replied, Closed, HasRun, Gives, Replays, exchanged, created_by, tabled, started_in, begun, reclaimed, state_of, refuses, in_room, has_room, too_big, run, result_of, with_result, Turned, Entry, executed_entry, idle, replies, behind, ends, goes_on, closes, is_to_hold, further, is_last, has_run, operates, Next, Refuses, Reads, next_operation, requested, in_progress, called, turned, one, noting}
+use Rattle.model.specs.Server.World.{World, InProgress, Connection, Quiet, Waiting, Busy, Replied, Closed, HasRun, Gives, Replays, exchanged, created_by, tabled, started_in, begun, reclaimed, state_of, refuses, in_room, has_room, run, result_of, with_result, Turned, Entry, executed_entry, idle, replies, behind, ends, goes_on, closes, is_to_hold, further, is_last, has_run, operates, Next, Refuses, Reads, next_operation, requested, in_progress, called, turned, one, noting}
 use Rattle.model_tree.proofs.Trees.KeyedLaws.{at-with_other}
 use Rattle.model.proofs.Operations.StepCases.{does_cases}
 use Rattle.client.specs.Replies.{outcome_number}
@@ -104,9 +104,9 @@ module _ (world : World) (request : InProgress) where
 
   in_room_well : (operation : Argument) (ran : HasRun) → RanWell world operation ran → RanWell world operation (in_room world request (operation_of operation) ran)
   in_room_well operation (Gives (Outcome.Refused number reason) after left) well = well
-  in_room_well operation (Gives (Outcome.Done answer) after left) well = by_room (has_room world.limits.reply_bytes request (operation_of operation) (Outcome.Done answer))
+  in_room_well operation (Gives (Outcome.Done answer) after left) well = by_room (has_room world request (Outcome.Done answer))
     where
-      by_room : (b : Bool) → RanWell world operation (cond b (Gives (Outcome.Done answer) after left) (refuses world request (operation_of operation) (too_big world.limits.reply_bytes request (operation_of operation) (Outcome.Done answer))))
+      by_room : (b : Bool) → RanWell world operation (cond b (Gives (Outcome.Done answer) after left) (refuses world request (operation_of operation) status.RepTooBig))
       by_room true = well
       by_room false = (refl, refl)
   in_room_well operation (Replays result session slot) well = tt

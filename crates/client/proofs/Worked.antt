@@ -20,7 +20,7 @@ use Rattle.model.specs.Sessions.Session.{Running, session_id, begin, started}
 use Rattle.model.specs.Operations.Step.{refusals, effect, does}
 use Rattle.model.specs.Wire.WireAnswers.{outcome_at}
 use Rattle.model.specs.Wire.WireArguments.{arguments_at}
-use Rattle.model.specs.Server.World.{World, InProgress, Quiet, Waiting, Replied, Gives, Next, Reads, Turned, next_operation, run, in_progress, outcome_text, one, arrives, connects, with_connection, with_result, result_of, state_of, has_room, too_big, in_room, refuses, executed_entry, goes_on, ends, behind, noting, has_run, operates}
+use Rattle.model.specs.Server.World.{World, InProgress, Quiet, Waiting, Replied, Gives, Next, Reads, Turned, next_operation, run, in_progress, outcome_text, one, arrives, connects, with_connection, with_result, result_of, state_of, has_room, in_room, refuses, executed_entry, goes_on, ends, behind, noting, has_run, operates}
 use Rattle.client.specs.ExchangeExample.{ExchangeExample, caller, session, asking, client, operations, call, table, world, outcomes, reply}
 use Rattle.client.specs.Joined.{CanBeSent, IsWhole, IsWithin, compound_sent}
 use Rattle.client.specs.Replies.{Gives as Tells, message_of, reply_read, reply_to}
@@ -119,15 +119,7 @@ abbrev running : World
 running = record arrived {
   table = record table {
     sessions =
-        record {
-          client = 4294967297;
-          serial = 1;
-          max_operations = 8;
-          reply_bytes = 1024;
-          cached_bytes = None;
-          slots = record { last = 1; uid = 7; state = Running } ∷ [];
-        }
-        ∷ [];
+        record { client = 4294967297; serial = 1; max_operations = 8; slots = record { last = 1; uid = 7; state = Running } ∷ [] } ∷ [];
   };
 }
 
@@ -136,22 +128,20 @@ left = record begun {
   rest = rest_of;
   context = record { cred = caller; client = 4294967297; run = 1; current = None; saved = None };
   slot = Some (session.id, 0);
-  room = 1008;
-  cached = None;
 }
 
 sequence_runs : run arrived (record begun { rest = rest_of }) 1000 (Argument.Sequence sequence) ≡ Gives first running left
 unfolding run begin started session_id number
 sequence_runs = refl
 
-first_fits : has_room 1024 (record begun { rest = rest_of }) 53 first ≡ true
+first_fits : has_room arrived (record begun { rest = rest_of }) first ≡ true
 unfolding reply_text compound_text outcome_text number counted padded
 first_fits = refl
 
 gives_first : in_room arrived (record begun { rest = rest_of }) 53 (run arrived (record begun { rest = rest_of }) 1000 (Argument.Sequence sequence)) ≡ Gives first running left
 gives_first =
     ap (in_room arrived (record begun { rest = rest_of }) 53) sequence_runs
-    ∙ ap (λ (b : Bool). cond b (Gives first running left) (refuses arrived (record begun { rest = rest_of }) 53 (too_big 1024 (record begun { rest = rest_of }) 53 first))) first_fits
+    ∙ ap (λ (b : Bool). cond b (Gives first running left) (refuses arrived (record begun { rest = rest_of }) 53 status.RepTooBig)) first_fits
 
 abbrev going : InProgress
 going = with_result left first
@@ -190,14 +180,14 @@ root_runs : run beside (record going { rest = [] }) 2000 Argument.PutRootFh ≡ 
 unfolding run does refusals effect
 root_runs = refl
 
-last_fits : has_room 1024 (record going { rest = [] }) 24 last ≡ true
+last_fits : has_room beside (record going { rest = [] }) last ≡ true
 unfolding reply_text compound_text outcome_text number counted padded
 last_fits = refl
 
 gives_last : in_room beside (record going { rest = [] }) 24 (run beside (record going { rest = [] }) 2000 Argument.PutRootFh) ≡ Gives last beside at_root
 gives_last =
     ap (in_room beside (record going { rest = [] }) 24) root_runs
-    ∙ ap (λ (b : Bool). cond b (Gives last beside at_root) (refuses beside (record going { rest = [] }) 24 (too_big 1024 (record going { rest = [] }) 24 last))) last_fits
+    ∙ ap (λ (b : Bool). cond b (Gives last beside at_root) (refuses beside (record going { rest = [] }) 24 status.RepTooBig)) last_fits
 
 abbrev ended : Turned
 ended = ends beside 0 (with_result at_root last) status.Ok false (Some (executed_entry beside going Argument.PutRootFh last beside))

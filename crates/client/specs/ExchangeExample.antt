@@ -50,10 +50,7 @@ limits = record {
     slots = 1;
     seat_slots = 1;
     operations = 8;
-    least_bytes = 1024;
     record_bytes = 1024;
-    cached_bytes = 1024;
-    minds_cached = false;
   };
   records = record { bytes = 1024; fragments = 1 };
   connections = 2;
@@ -80,15 +77,7 @@ table = record {
       }
       ∷ [];
   sessions =
-      record {
-        client = 4294967297;
-        serial = 1;
-        max_operations = 8;
-        reply_bytes = 1024;
-        cached_bytes = None;
-        slots = no_slot ∷ [];
-      }
-      ∷ [];
+      record { client = 4294967297; serial = 1; max_operations = 8; slots = no_slot ∷ [] } ∷ [];
   seats = no_seats;
 }
 

@@ -2,6 +2,7 @@
 use Rattle.std.specs.Prelude.{◌≡◌, ◌⊎◌, ℕ, List, [], map, Option, None, Some, Result, Ok, Err}
 use Rattle.std.specs.Global.{Vec}
 use Rattle.model.specs.Wire.Record.{Prefix, Partial, Refused, Whole, prefix, framed}
+use Rattle.rpc.specs.Assembly.{record_limits}
 use Rattle.wire.specs.declared.outcome.Outcome.{Outcome}
 use Rattle.wire.specs.OutcomeView.{outcome_view}
 use Rattle.client.specs.declared.fault.ClientFault.{ClientFault}
@@ -10,7 +11,7 @@ use Rattle.client.specs.Client.{Client}
 use Rattle.client.specs.Requests.{bytes_kept}
 use Rattle.client.specs.Replies.{ReplyRead, NoReply, reply_to}
 use Rattle.client.specs.Views.{AnswersOk, Refuses, known}
-use Rattle.client.specs.Streams.{Stream, Passes, IsCut, reply_limits}
+use Rattle.client.specs.Streams.{Stream, Passes}
 
 -- what the bytes read are as a reply to the client's record
 abbrev pub reply_in : Client → Prefix → ReplyRead
@@ -18,14 +19,14 @@ reply_in client Partial = NoReply
 reply_in client (Refused fault) = NoReply
 reply_in client (Whole bytes rest) = reply_to client (framed bytes)
 
--- The result for the bytes read: Io or Memory while they are no whole record, Garbled if a header is
--- refused, and otherwise what `reply` returns for the record, after which nothing is read.
-abbrev pub Tells : Client → (read : List ℕ) → Prefix → Result (Vec Outcome) ClientFault → Type 0
-Tells client read Partial r = IsCut read r
-Tells client read (Refused fault) r = r ≡ Err faults.Garbled
-Tells client read (Whole bytes rest) (Ok results) =
+-- The result for the bytes read: Io while they are no whole record, Garbled if a header is refused,
+-- and otherwise what `reply` returns for the record, after which nothing is read.
+abbrev pub Tells : Client → Prefix → Result (Vec Outcome) ClientFault → Type 0
+Tells client Partial r = r ≡ Err faults.Io
+Tells client (Refused fault) r = r ≡ Err faults.Garbled
+Tells client (Whole bytes rest) (Ok results) =
     (rest ≡ []) × AnswersOk (reply_to client (framed bytes)) (map outcome_view results.items)
-Tells client read (Whole bytes rest) (Err e) =
+Tells client (Whole bytes rest) (Err e) =
     (rest ≡ []) × ((e ≡ faults.Memory) ⊎ Refuses (reply_to client (framed bytes)) e)
 
 -- a client that holds the record of these bytes sends it, and reads the reply
@@ -33,8 +34,8 @@ pub record Exchanges (client new : Client) (bytes : List ℕ) (before after : St
     (result : Result (Vec Outcome) ClientFault) : Type 0 where
   pub read : List ℕ
   pub passes : Passes bytes before after read
-  pub tells : Tells client read (prefix reply_limits read) result
-  pub knows : new ≡ known client (reply_in client (prefix reply_limits read)) result
+  pub tells : Tells client (prefix record_limits read) result
+  pub knows : new ≡ known client (reply_in client (prefix record_limits read)) result
 
 -- the call fails, with nothing written, nothing read and nothing changed
 pub record Stays (fault : ClientFault) (client new : Client) (before after : Stream)
@@ -43,7 +44,7 @@ pub record Stays (fault : ClientFault) (client new : Client) (before after : Str
   pub same : new ≡ client
   pub untouched : after ≡ before
 
--- Pending if no record is kept, Memory if there is none for a reply of 16,384 bytes
+-- Pending if no record is kept, Memory if there is none for the reply
 abbrev pub ResendsKept : Option (List ℕ) → (client new : Client) → (before after : Stream)
     → Result (Vec Outcome) ClientFault → Type 0
 ResendsKept None client new before after r = Stays faults.Pending client new before after r

@@ -1,18 +1,19 @@
 -- A record that is sent over a stream, and a record that is read from it: RFC 5531, section 11.
 use Rattle.std.specs.Prelude.{⊤, ◌≡◌, ◌⊎◌, ℕ, ◌+◌, ◌<◌, ◌≤◌, Bool, true, List, [], ◌++◌, length, take, drop, Option, None, Some, Result, Ok, Err}
-use Rattle.std.specs.declared.alloc.AllocError.{AllocError}
 use Rattle.std.specs.Int.{w32, from_be_bytes}
 use Rattle.std.specs.Io.KnownBytes.{Appends, Consumes}
 use Rattle.model.specs.Wire.Record as spec
-use Rattle.model.specs.Wire.Record.{RecordLimits, Gathered, Prefix, Partial, Refused, Whole, prefix, fragment, framed}
+use Rattle.model.specs.Wire.Record.{Gathered, Prefix, Partial, Refused, Whole, prefix, fragment, framed}
 use Rattle.rpc.specs.Assembly.{record_limits, Finds}
 use Rattle.rpc.specs.declared.fragment.Fragment.TheVariants as found
+use Rattle.rpc.specs.declared.fragment.TheConstants.{MAX_RECORD_BYTES}
 use Rattle.client.specs.declared.fault.ClientFault.{ClientFault}
 use Rattle.client.specs.declared.fault.ClientFault.TheVariants as faults
 use Rattle.client.specs.declared.receive.Fetched.{Fetched}
 use Rattle.client.specs.declared.receive.Fetched.TheVariants as fetched
 use Rattle.client.specs.declared.receive.Received.{Received}
 use Rattle.client.specs.declared.receive.Received.TheVariants as received
+use Rattle.client.specs.declared.receive.TheConstants.{ROOM}
 
 -- what is known of a stream: the bytes that its writer holds, and those that its reader has left
 pub record Stream : Type 0 where
@@ -21,10 +22,6 @@ pub record Stream : Type 0 where
 
 abbrev pub stream : (written unread : Option (List ℕ)) → Stream
 stream written unread = record { written = written; unread = unread }
-
--- the most of a reply's record: numbers, so that a constant of the code that is changed is refused
-abbrev pub reply_limits : RecordLimits
-reply_limits = record_limits 1056768
 
 -- Steps
 
@@ -46,42 +43,16 @@ pub record ReadsHeader (old new : Option (List ℕ)) (header : Option ℕ) : Typ
   pub reads : Consumes old new read
   pub is : IsHeader read header
 
--- the memory for a reply: for a record of 16,384 bytes to one of 1,056,768, with a header
-pub record IsRoom (room : List ℕ) : Type 0 where
-  pub least : 16388 ≤ length room
-  pub most : length room ≤ 1056772
-
--- `count` bytes were read, and are in the room from `start` on; what is before them stays
-pub record Fills (old new : Option (List ℕ)) (start count : ℕ) (before room : List ℕ) : Type 0 where
-  pub read : List ℕ
-  pub reads : Consumes old new read
-  pub counted : length read ≡ count
-  pub holds : take (start + count) room ≡ take start before ++ read
-  pub within : start + count ≤ length room
-  pub is_room : IsRoom room
-
--- of `more` bytes; all that came is kept if there is no memory for the rest
-abbrev pub FillsRoom : (old new : Option (List ℕ)) → (start more : ℕ) → (before room : List ℕ)
-    → Result ℕ AllocError → Type 0
-FillsRoom old new start more before room (Ok count) =
-    (count ≤ more) × Fills old new start count before room
-FillsRoom old new start more before room (Err e) =
-    (count : ℕ) × (count < more) × (16388 ≤ start + count)
-    × Fills old new start count before room
-
 -- what the bytes read are, after fragments that hold `size` bytes; what the fragment holds is in
 -- the room after theirs
 abbrev pub IsFetched : (size : ℕ) → (read room : List ℕ) → Gathered → Fetched → Type 0
-IsFetched size read room gathered fetched.Ended = fragment reply_limits gathered read ≡ spec.Waits
-IsFetched size read room gathered fetched.NoMemory =
-    (fragment reply_limits gathered read ≡ spec.Waits) × (16388 ≤ size + length read)
+IsFetched size read room gathered fetched.Ended = fragment record_limits gathered read ≡ spec.Waits
 IsFetched size read room gathered fetched.Refused =
     (4 ≤ length read)
-    × ((fault : spec.RecordFault) × (fragment reply_limits gathered read ≡ spec.Refuses fault))
+    × ((fault : spec.RecordFault) × (fragment record_limits gathered read ≡ spec.Refuses fault))
 IsFetched size read room gathered (fetched.Brings more is_last) =
     (length read ≡ 4 + more) × (drop 4 read ≡ take more (drop (4 + size) room))
-    × (4 + size + more ≤ length room)
-    × ((rest : List ℕ) → Finds reply_limits gathered (read ++ rest) (found.Brings more is_last))
+    × ((rest : List ℕ) → Finds gathered (read ++ rest) (found.Brings more is_last))
 
 pub record Fetches (old new : Option (List ℕ)) (size fragments : ℕ) (before room : List ℕ)
     (fetched : Fetched) : Type 0 where
@@ -90,23 +61,21 @@ pub record Fetches (old new : Option (List ℕ)) (size fragments : ℕ) (before 
   pub is : (gathered : Gathered) → length gathered.bytes ≡ size → gathered.fragments ≡ fragments
       → IsFetched size read room gathered fetched
   pub prefix : take (4 + size) room ≡ take (4 + size) before
-  pub is_room : IsRoom room
+  pub long : length room ≡ length before
 
 -- what the bytes read are: the whole record is in the room after the place of its header
 abbrev pub IsReceived : (read room : List ℕ) → Received → Type 0
-IsReceived read room received.Ended = prefix reply_limits read ≡ Partial
-IsReceived read room received.NoMemory =
-    (prefix reply_limits read ≡ Partial) × (16388 ≤ length read)
+IsReceived read room received.Ended = prefix record_limits read ≡ Partial
 IsReceived read room received.Refused =
-    (fault : spec.RecordFault) × (prefix reply_limits read ≡ Refused fault)
+    (fault : spec.RecordFault) × (prefix record_limits read ≡ Refused fault)
 IsReceived read room (received.Whole size) =
-    (size ≤ 1056768) × (4 + size ≤ length room)
-    × (prefix reply_limits read ≡ Whole (take size (drop 4 room)) [])
+    (size ≤ MAX_RECORD_BYTES) × (prefix record_limits read ≡ Whole (take size (drop 4 room)) [])
 
 pub record Receives (old new : Option (List ℕ)) (room : List ℕ) (came : Received) : Type 0 where
   pub read : List ℕ
   pub reads : Consumes old new read
   pub is : IsReceived read room came
+  pub long : length room ≡ ROOM
 
 -- These bytes are sent, and then bytes are read: none unless all were sent.
 pub record Passes (bytes : List ℕ) (before after : Stream) (read : List ℕ) : Type 0 where
@@ -117,24 +86,20 @@ pub record Passes (bytes : List ℕ) (before after : Stream) (read : List ℕ) :
   pub reads : Consumes before.unread after.unread read
   pub order : (unsent ≡ []) ⊎ (read ≡ [])
 
--- What came is no whole record: Io if a stream failed or ended, Memory if there is none for more of
--- it, which is never so before 16,388 bytes came.
-abbrev pub IsCut : {A : Type 0} → (read : List ℕ) → Result A ClientFault → Type 0
-IsCut read r = (r ≡ Err faults.Io) ⊎ ((r ≡ Err faults.Memory) × (16388 ≤ length read))
-
--- what came is one whole record, returned with a header for one fragment; Garbled if it is too long
-abbrev pub Comes : (read : List ℕ) → Prefix → (received : List ℕ) → Result ⊤ ClientFault → Type 0
-Comes read Partial received r = IsCut read r
-Comes read (Refused fault) received r = r ≡ Err faults.Garbled
-Comes read (Whole bytes rest) received r = (r ≡ Ok tt) × (rest ≡ []) × (received ≡ framed bytes)
+-- what came is one whole record, returned with a header for one fragment; Io if it is none yet,
+-- Garbled if it is too long
+abbrev pub Comes : Prefix → (received : List ℕ) → Result ⊤ ClientFault → Type 0
+Comes Partial received r = r ≡ Err faults.Io
+Comes (Refused fault) received r = r ≡ Err faults.Garbled
+Comes (Whole bytes rest) received r = (r ≡ Ok tt) × (rest ≡ []) × (received ≡ framed bytes)
 
 pub record Talks (bytes : List ℕ) (before after : Stream) (received : List ℕ)
     (result : Result ⊤ ClientFault) : Type 0 where
   pub read : List ℕ
   pub passes : Passes bytes before after read
-  pub comes : Comes read (prefix reply_limits read) received result
+  pub comes : Comes (prefix record_limits read) received result
 
--- Memory if there is none for a reply of 16,384 bytes, and then nothing is written or read
+-- Memory if there is none for the reply, and then nothing is written or read
 abbrev pub Converses : (bytes : List ℕ) → (before after : Stream) → (received : List ℕ)
     → Result ⊤ ClientFault → Type 0
 Converses bytes before after received r =

@@ -181,9 +181,8 @@ impl Client {
     ///
     /// `Pending` and `Memory` as of `request`, and then nothing is written. `Io` if the writer
     /// failed, or the reader failed or ended before the reply was whole: the record is kept, and
-    /// `resend` sends it over another stream. So it is after `Memory` if there is none for a reply
-    /// of more than 16,384 bytes: a part of it was read. `Garbled` also if the reply has more than
-    /// 1,056,768 bytes or 64 fragments (RFC 5531, section 11).
+    /// `resend` sends it over another stream. `Garbled` also if the reply has more than 16,384
+    /// bytes or 64 fragments (RFC 5531, section 11).
     pub fn exchange<'a, R: Read, W: Write>(
         &mut self,
         reader: &mut R,
@@ -200,9 +199,8 @@ impl Client {
         self.resend(reader, writer, received)
     }
 
-    /// Sends the kept record over this stream, and reads its reply, as `exchange` does. `Pending` if
-    /// there is none, and `Memory` if there is none for a reply of 16,384 bytes, and then nothing is
-    /// written.
+    /// Sends the kept record over this stream, and reads its reply, as `exchange` does: `Pending`
+    /// if there is none, `Memory` if there is none for the reply, and then nothing is written.
     pub fn resend<'a, R: Read, W: Write>(
         &mut self,
         reader: &mut R,

@@ -1,6 +1,6 @@
 -- A change on a world is that on its file system: for each operation on the tree whose result has a
 -- length that does not depend on what the operation finds.
-use Rattle.std.proofs.Common.{◌≡◌, ◌<◌, ◌^◌, ℕ, Bool, true, false, if◌then◌else◌, List, ◌++◌, Option, Some, None, Ok, Err, IfOk, true≢false, IsErrOf, refl, sym, ap, ap₂, subst, ◌∙◌, arith}
+use Rattle.std.proofs.Common.{◌≡◌, ◌≤◌, ◌<◌, ◌^◌, ℕ, Bool, true, false, if◌then◌else◌, List, ◌++◌, length, nat_le, Option, Some, None, Err, IfOk, IsErrOf, refl, sym, ap, subst, ◌∙◌, arith}
 use Rattle.layout.specs.Stands.{Kept}
 use Rattle.fs.specs.Changes.{FsChanges, fs_ending}
 use Rattle.fs.specs.FileSystem.{FileSystem}
@@ -17,9 +17,10 @@ use Rattle.model_tree.specs.Refusals.Refusal.{first_refusal}
 use Rattle.model.specs.Server.Runs.{is_done}
 use Rattle.model.specs.Sessions.Session.{Table}
 use Rattle.model.specs.Operations.Step.{State, Stepped, does, effect, refused, refusals, change_refusals, unless_refused, answered}
-use Rattle.model.specs.Server.World.{World, InProgress, Gives, run, stepped, state_of, in_room, has_room, refuses, too_big}
+use Rattle.model.specs.Server.World.{World, InProgress, Gives, run, stepped, state_of, in_room, has_room, refuses, reply_with, outcome_text}
 use Rattle.model_tree.specs.declared.limits.Limits.{Limits}
 use Rattle.model_tree.specs.declared.status.Status.{Status}
+use Rattle.model_tree.specs.declared.status.Status.TheVariants as status
 use Rattle.model.proofs.Sessions.KeptLaws.{refused_length}
 use Rattle.wire.specs.Short.{IsRefusal}
 use Rattle.compound.specs.Operates.{RunsTo, GivesIn, HasResult, ChangesTreeAndOpens, run_in_room, tree_by}
@@ -28,56 +29,63 @@ use Rattle.compound.specs.States.{HasState, shared}
 use Rattle.compound.specs.Trees.{IsHere, IsUp, refusal, fault_result}
 use Rattle.compound.specs.Volumes.{OperationGives, ending}
 use Rattle.compound.proofs.QuietLaws.{leaves_all, left_all}
-use Rattle.compound.specs.Rooms.{IsRoomFor}
-use Rattle.compound.proofs.Rooms.{state_same, has_room_by, too_big_by, gives_refusal}
+use Rattle.compound.proofs.Replies.{room_length}
+use Rattle.compound.proofs.Rooms.{state_same, has_room_by, gives_refusal}
 use Rattle.compound.proofs.Trees.{here, tree_runs}
 use Rattle.compound.proofs.VolumeLaws.{refusal_changes}
+use Rattle.compound.proofs.Creating.{below}
 
--- it succeeds, and this is whether the reply has room for its answer, and why it is refused if not
-abbrev pub HasThisRoom : InProgress → (operation : ℕ) → Bool → Status → Stepped → Type 0
-HasThisRoom request operation room reason stepped =
-    (answer : Answer) × (stepped.outcome ≡ Done answer) × IsRoomFor request operation (Done answer) room reason
+-- it succeeds, and this is whether the reply has room for its answer
+abbrev pub HasThisRoom : InProgress → Bool → Stepped → Type 0
+HasThisRoom request room stepped =
+    (answer : Answer) × (stepped.outcome ≡ Done answer) × (room ≡ nat_le (length (reply_with request (Done answer))) 16368)
 
 -- An outcome in the room that the reply has
 
--- in this world
-record RoomIn (world : World) (request : InProgress) (operation : ℕ) (outcome : Outcome) (room : Bool) (reason : Status) : Type 0 where
-  has_is : has_room world.limits.reply_bytes request operation outcome ≡ room
-  reason_is : too_big world.limits.reply_bytes request operation outcome ≡ reason
-
-in_room_by : (world : World) (request : InProgress) (kind : Argument) (after : Stepped) (answer : Answer) (room : Bool) (reason : Status)
-    → after.outcome ≡ Done answer → RoomIn world request (operation_of kind) (Done answer) room reason
+in_room_by : (world : World) (request : InProgress) (kind : Argument) (after : Stepped) (answer : Answer) (room : Bool)
+    → after.outcome ≡ Done answer → has_room world request (Done answer) ≡ room
     → in_room world request (operation_of kind) (stepped world request after)
     ≡ (if room then stepped world request (record { outcome = Done answer; state = after.state })
-    else refuses world request (operation_of kind) reason)
-in_room_by world request kind after answer room reason done is =
+    else refuses world request (operation_of kind) status.RepTooBig)
+in_room_by world request kind after answer room done is =
     ap (λ (o : Outcome). in_room world request (operation_of kind) (stepped world request (record { outcome = o; state = after.state }))) done
-    ∙ ap₂ (λ (b : Bool) (why : Status). if b then stepped world request (record { outcome = Done answer; state = after.state })
-    else refuses world request (operation_of kind) why) is.has_is is.reason_is
+    ∙ ap (λ (b : Bool). if b then stepped world request (record { outcome = Done answer; state = after.state })
+    else refuses world request (operation_of kind) status.RepTooBig) is
 
-full_by : (first : Option Status) (world : World) (request : InProgress) (state : State) (kind : Argument) (after : Stepped) (answer : Answer) (reason : Status)
-    → after.outcome ≡ Done answer → RoomIn world request (operation_of kind) (Done answer) false reason
+full_by : (first : Option Status) (world : World) (request : InProgress) (state : State) (kind : Argument) (after : Stepped) (answer : Answer)
+    → after.outcome ≡ Done answer → has_room world request (Done answer) ≡ false
     → is_done (unless_refused state kind first after).outcome ≡ true
     → in_room world request (operation_of kind) (stepped world request (unless_refused state kind first after))
-    ≡ refuses world request (operation_of kind) reason
-full_by None world request state kind after answer reason done room is = in_room_by world request kind after answer false reason done room
-full_by (Some first) world request state kind after answer reason done room is = absurd (cc)
+    ≡ refuses world request (operation_of kind) status.RepTooBig
+full_by None world request state kind after answer done room is = in_room_by world request kind after answer false done room
+full_by (Some reason) world request state kind after answer done room is = absurd (cc)
 
-tree_by_first : (first : Option Status) (world : World) (request : InProgress) (state : State) (kind : Argument) (after : Stepped) (answer : Answer) (reason : Status)
-    → after.outcome ≡ Done answer → RoomIn world request (operation_of kind) (Done answer) true reason
+tree_by_first : (first : Option Status) (world : World) (request : InProgress) (state : State) (kind : Argument) (after : Stepped) (answer : Answer)
+    → after.outcome ≡ Done answer → has_room world request (Done answer) ≡ true
     → tree_by world (in_room world request (operation_of kind) (stepped world request (unless_refused state kind first after)))
     ≡ (unless_refused state kind first after).state.tree
-tree_by_first None world request state kind after answer reason done room = ap (tree_by world) (in_room_by world request kind after answer true reason done room)
-tree_by_first (Some first) world request state kind after answer reason done room = refl
+tree_by_first None world request state kind after answer done room = ap (tree_by world) (in_room_by world request kind after answer true done room)
+tree_by_first (Some reason) world request state kind after answer done room = refl
 
-ran_by_first : (first : Option Status) (world : World) (request : InProgress) (state : State) (kind : Argument) (after : Stepped) (answer : Answer) (reason : Status)
-    → after.outcome ≡ Done answer → RoomIn world request (operation_of kind) (Done answer) true reason
+ran_by_first : (first : Option Status) (world : World) (request : InProgress) (state : State) (kind : Argument) (after : Stepped) (answer : Answer)
+    → after.outcome ≡ Done answer → has_room world request (Done answer) ≡ true
     → in_room world request (operation_of kind) (stepped world request (unless_refused state kind first after))
     ≡ stepped world request (unless_refused state kind first after)
-ran_by_first None world request state kind after answer reason done room =
-    in_room_by world request kind after answer true reason done room
+ran_by_first None world request state kind after answer done room =
+    in_room_by world request kind after answer true done room
     ∙ ap (λ (o : Outcome). stepped world request (record { outcome = o; state = after.state })) (sym done)
-ran_by_first (Some first) world request state kind after answer reason done room = refl
+ran_by_first (Some reason) world request state kind after answer done room = refl
+
+-- results of the same length
+pub same_room : (request : InProgress) (answer other : Answer) (room : Bool)
+    → length (outcome_text (Done answer)) ≡ length (outcome_text (Done other))
+    → room ≡ nat_le (length (reply_with request (Done answer))) 16368 → room ≡ nat_le (length (reply_with request (Done other))) 16368
+same_room request answer other room same is =
+    is ∙ ap (λ (n : ℕ). nat_le n 16368) (omega (arith, same, room_length request (Done answer), room_length request (Done other)))
+
+pub is_short : (request : InProgress) (answer : Answer) → true ≡ nat_le (length (reply_with request (Done answer))) 16368
+    → length (reply_with request (Done answer)) ≤ 16368
+is_short request answer room = below _ 16368 room
 
 -- One operation
 
@@ -109,18 +117,15 @@ module _ (now : ℕ) (fs : FileSystem) (request : InProgress) (kind : Argument)
   refused_gives table opens reason does_so =
       gives_refusal now (shared fs table opens) (shared fs table opens) request kind (operation_of kind) reason (refused_runs table opens reason does_so)
 
-  module _ (room : Bool) (reason : Status) (sized : (state : State) → IsHere fs request state → HasThisRoom request (operation_of kind) room reason (effect fs.volume.limits state now kind)) where
-    room_of : (table : Table) (opens : Opens) (world : World) (rest : List ℕ) → HasState world (shared fs table opens) → (answer : Answer) (has : Bool) → room ≡ has
-        → IsRoomFor request (operation_of kind) (Done answer) room reason → RoomIn world (with_rest request rest) (operation_of kind) (Done answer) has reason
-    room_of table opens world rest on answer has same is = record {
-      has_is = has_room_by world (shared fs table opens) (with_rest request rest) (operation_of kind) (Done answer) room on is.has_is ∙ same;
-      reason_is = too_big_by world (shared fs table opens) (with_rest request rest) (operation_of kind) (Done answer) reason on is.reason_is;
-    }
+  module _ (room : Bool) (sized : (state : State) → IsHere fs request state → HasThisRoom request room (effect fs.volume.limits state now kind)) where
+    room_of : (table : Table) (opens : Opens) (world : World) (rest : List ℕ) → HasState world (shared fs table opens) → (answer : Answer)
+        → room ≡ nat_le (length (reply_with request (Done answer))) 16368 → has_room world (with_rest request rest) (Done answer) ≡ room
+    room_of table opens world rest on answer is = has_room_by world (shared fs table opens) (with_rest request rest) (Done answer) room on is
 
     -- it would be done, but its reply has no room
     pub full : (table : Table) (opens : Opens) → room ≡ false
         → ((state : State) → IsHere fs request state → state.opens ≡ opens → is_done (does fs.volume.limits state now kind).outcome ≡ true)
-        → GivesIn now (shared fs table opens) (shared fs table opens) request request kind (Refused (operation_of kind) reason)
+        → GivesIn now (shared fs table opens) (shared fs table opens) request request kind (Refused (operation_of kind) status.RepTooBig)
     unfolding does
     full table opens none done = λ world rest on.
         let state = state_of world (with_rest request rest) in
@@ -129,9 +134,9 @@ module _ (now : ℕ) (fs : FileSystem) (request : InProgress) (kind : Argument)
         ap (in_room world (with_rest request rest) (operation_of kind)) (on_tree world rest)
         ∙ (ap (λ (limits : Limits). in_room world (with_rest request rest) (operation_of kind) (stepped world (with_rest request rest) (does limits state now kind))) on.volume
         ∙ (full_by (first_refusal (refusals fs.volume.limits state kind ++ change_refusals fs.volume.limits state kind (effect fs.volume.limits state now kind).state.tree))
-        world (with_rest request rest) state kind (effect fs.volume.limits state now kind) size.0 reason size.1
-        (room_of table opens world rest on size.0 false none size.2) (done state there on.opens)
-        ∙ ap (λ (after : World). refuses after (with_rest request rest) (operation_of kind) reason) (sym (state_same world (shared fs table opens) on))))
+        world (with_rest request rest) state kind (effect fs.volume.limits state now kind) size.0 size.1
+        (room_of table opens world rest on size.0 size.2 ∙ none) (done state there on.opens)
+        ∙ ap (λ (after : World). refuses after (with_rest request rest) (operation_of kind) status.RepTooBig) (sym (state_same world (shared fs table opens) on))))
 
     -- with room the tree after it is that of the definition
     pub tree_given : (table : Table) (opens : Opens) (world : World) (rest : List ℕ) → room ≡ true → HasState world (shared fs table opens)
@@ -143,8 +148,8 @@ module _ (now : ℕ) (fs : FileSystem) (request : InProgress) (kind : Argument)
         ap (λ ran. tree_by world (in_room world (with_rest request rest) (operation_of kind) ran)) (on_tree world rest)
         ∙ (ap (λ (limits : Limits). tree_by world (in_room world (with_rest request rest) (operation_of kind) (stepped world (with_rest request rest) (does limits state now kind)))) on.volume
         ∙ tree_by_first (first_refusal (refusals fs.volume.limits state kind ++ change_refusals fs.volume.limits state kind (effect fs.volume.limits state now kind).state.tree))
-        world (with_rest request rest) state kind (effect fs.volume.limits state now kind) size.0 reason size.1
-        (room_of table opens world rest on size.0 true some size.2))
+        world (with_rest request rest) state kind (effect fs.volume.limits state now kind) size.0 size.1
+        (room_of table opens world rest on size.0 size.2 ∙ some))
 
     -- and the operation comes to what the definition gives
     pub ran_given : (table : Table) (opens : Opens) (world : World) (rest : List ℕ) → room ≡ true → HasState world (shared fs table opens)
@@ -157,24 +162,24 @@ module _ (now : ℕ) (fs : FileSystem) (request : InProgress) (kind : Argument)
         ap (in_room world (with_rest request rest) (operation_of kind)) (on_tree world rest)
         ∙ (ap (λ (limits : Limits). in_room world (with_rest request rest) (operation_of kind) (stepped world (with_rest request rest) (does limits state now kind))) on.volume
         ∙ ran_by_first (first_refusal (refusals fs.volume.limits state kind ++ change_refusals fs.volume.limits state kind (effect fs.volume.limits state now kind).state.tree))
-        world (with_rest request rest) state kind (effect fs.volume.limits state now kind) size.0 reason size.1
-        (room_of table opens world rest on size.0 true some size.2))
+        world (with_rest request rest) state kind (effect fs.volume.limits state now kind) size.0 size.1
+        (room_of table opens world rest on size.0 size.2 ∙ some))
 
     -- What it comes to that the file system did not do
 
     module _ (keeps_word : Type 0) (given : Given) (new : FileSystem) (before after : ℕ) (up : fs.volume.is_down ≡ false) where
       pub told_gives : (T : Type 0) (opens left : Opens) (why : FsFault) → left ≡ opens → ((state : State) → IsHere fs request state → state.opens ≡ opens → IsNotDone fs state now kind why) → (IsErrOf {T = T} (Err why) fault.NoRoom → room ≡ false)
           → FsChanges keeps_word given fs new before after (fs_ending {T = T} (Err why))
-          → IfOk (fault_result (operation_of kind) reason why) (ChangesTreeAndOpens fs new opens left now request kind)
-      told_gives T opens left (fault.Status why) stays step no_room changes = λ table.
-          let same = left_all keeps_word given fs new before after changes in
-          subst (λ (after : Opens). GivesIn now (shared fs table opens) (shared new table after) request request kind (Refused (operation_of kind) why)) (sym stays)
-          (subst (λ (one : FileSystem). GivesIn now (shared fs table opens) (shared one table opens) request request kind (Refused (operation_of kind) why)) (sym same)
-          (refused_gives table opens why step))
-      told_gives T opens left fault.NoRoom stays step no_room changes = λ table.
+          → IfOk (fault_result (operation_of kind) why) (ChangesTreeAndOpens fs new opens left now request kind)
+      told_gives T opens left (fault.Status reason) stays step no_room changes = λ table.
           let same = left_all keeps_word given fs new before after changes in
           subst (λ (after : Opens). GivesIn now (shared fs table opens) (shared new table after) request request kind (Refused (operation_of kind) reason)) (sym stays)
           (subst (λ (one : FileSystem). GivesIn now (shared fs table opens) (shared one table opens) request request kind (Refused (operation_of kind) reason)) (sym same)
+          (refused_gives table opens reason step))
+      told_gives T opens left fault.NoRoom stays step no_room changes = λ table.
+          let same = left_all keeps_word given fs new before after changes in
+          subst (λ (after : Opens). GivesIn now (shared fs table opens) (shared new table after) request request kind (Refused (operation_of kind) status.RepTooBig)) (sym stays)
+          (subst (λ (one : FileSystem). GivesIn now (shared fs table opens) (shared one table opens) request request kind (Refused (operation_of kind) status.RepTooBig)) (sym same)
           (full table opens (no_room refl) step))
       told_gives T opens left fault.Memory stays step no_room changes = tt
       told_gives T opens left fault.Device stays step no_room changes = tt
@@ -183,16 +188,16 @@ module _ (now : ℕ) (fs : FileSystem) (request : InProgress) (kind : Argument)
       pub told_changes : (T : Type 0) (table : Table) (opens : Opens) (why : FsFault) → ((state : State) → IsHere fs request state → state.opens ≡ opens → IsNotDone fs state now kind why) → IsUp why
           → (IsErrOf {T = T} (Err why) fault.NoRoom → room ≡ false) → (IsErrOf {T = T} (Err why) fault.Device → room ≡ true) → (room ≡ true → (kept : Kept) (lasts : Bool) → OperationGives (shared fs table opens) request now kind kept lasts → given kept lasts)
           → FsChanges keeps_word given fs new before after (fs_ending {T = T} (Err why))
-          → FsChanges keeps_word (OperationGives (shared fs table opens) request now kind) fs new before after (ending (fault_result (operation_of kind) reason why))
-      told_changes T table opens (fault.Status why) step is no_room device_room gives changes =
-          let same = left_all keeps_word given fs new before after changes in
-          refusal_changes keeps_word fs new table opens before after request now kind (operation_of kind) why same (changes.volume_changes.none (λ broken. cc)) up
-          (subst (λ (one : FileSystem). GivesIn now (shared fs table opens) (shared one table opens) request request kind (Refused (operation_of kind) why)) (sym same)
-          (refused_gives table opens why step))
-      told_changes T table opens fault.NoRoom step is no_room device_room gives changes =
+          → FsChanges keeps_word (OperationGives (shared fs table opens) request now kind) fs new before after (ending (fault_result (operation_of kind) why))
+      told_changes T table opens (fault.Status reason) step is no_room device_room gives changes =
           let same = left_all keeps_word given fs new before after changes in
           refusal_changes keeps_word fs new table opens before after request now kind (operation_of kind) reason same (changes.volume_changes.none (λ broken. cc)) up
           (subst (λ (one : FileSystem). GivesIn now (shared fs table opens) (shared one table opens) request request kind (Refused (operation_of kind) reason)) (sym same)
+          (refused_gives table opens reason step))
+      told_changes T table opens fault.NoRoom step is no_room device_room gives changes =
+          let same = left_all keeps_word given fs new before after changes in
+          refusal_changes keeps_word fs new table opens before after request now kind (operation_of kind) status.RepTooBig same (changes.volume_changes.none (λ broken. cc)) up
+          (subst (λ (one : FileSystem). GivesIn now (shared fs table opens) (shared one table opens) request request kind (Refused (operation_of kind) status.RepTooBig)) (sym same)
           (full table opens (no_room refl) step))
       told_changes T table opens fault.Memory step is no_room device_room gives changes =
           leaves_all keeps_word _ fs new before after (left_all keeps_word given fs new before after changes) (changes.volume_changes.none (λ broken. cc))
@@ -215,32 +220,17 @@ is_up now fs state kind fault.Down up bad step = gone fs.volume.is_down up step
 
 -- a refusal is encoded, and sends nothing again
 
-pub refusal_encoded : (request : InProgress) (asked operation : ℕ) (reason : Status) → operation < 2 ^ 32 → IsRefusal reason → HasResult request asked (refusal operation reason)
-refusal_encoded request asked operation reason fits bad = (
-  record {
-    fits = (fits, bad);
-    small = omega (arith, refused_length operation reason);
-    room = tt;
-  },
-  tt,
-)
+refusal_encoded : (request : InProgress) (operation : ℕ) (reason : Status) → operation < 2 ^ 32 → IsRefusal reason → HasResult request (refusal operation reason)
+refusal_encoded request operation reason fits bad = record {
+  fits = (fits, bad);
+  small = omega (arith, refused_length operation reason);
+  room = tt;
+}
 
-pub fault_is_encoded : (request : InProgress) (asked operation : ℕ) (too_big : Status) (why : FsFault) → operation < 2 ^ 32 → IsRefusal too_big → IsUp why
-    → IfOk (fault_result operation too_big why) (HasResult request asked)
-fault_is_encoded request asked operation too_big (fault.Status reason) fits bad is = refusal_encoded request asked operation reason fits is
-fault_is_encoded request asked operation too_big fault.NoRoom fits bad is = refusal_encoded request asked operation too_big fits bad
-fault_is_encoded request asked operation too_big fault.Memory fits bad is = tt
-fault_is_encoded request asked operation too_big fault.Device fits bad is = tt
-fault_is_encoded request asked operation too_big fault.Down fits bad is = tt
-
--- the status for want of room matters only if nothing else refuses
-pub fault_as : (operation : ℕ) (one other : Status) (why : FsFault) → (why ≡ fault.NoRoom → one ≡ other) → fault_result operation one why ≡ fault_result operation other why
-fault_as operation one other (fault.Status reason) same = refl
-fault_as operation one other fault.NoRoom same = ap (λ (reason : Status). Ok (refusal operation reason)) (same refl)
-fault_as operation one other fault.Memory same = refl
-fault_as operation one other fault.Device same = refl
-fault_as operation one other fault.Down same = refl
-
--- what is done but for room is not refused otherwise
-pub not_refused : (fs : FileSystem) (state : State) (now : ℕ) (kind : Argument) (reason : Status) → IsNotDone fs state now kind fault.NoRoom → IsNotDone fs state now kind (fault.Status reason) → ⊥
-not_refused fs state now kind reason done is = true≢false (sym done ∙ ap (λ (stepped : Stepped). is_done stepped.outcome) is)
+pub fault_is_encoded : (request : InProgress) (operation : ℕ) (why : FsFault) → operation < 2 ^ 32 → IsUp why
+    → IfOk (fault_result operation why) (HasResult request)
+fault_is_encoded request operation (fault.Status reason) fits is = refusal_encoded request operation reason fits is
+fault_is_encoded request operation fault.NoRoom fits is = refusal_encoded request operation status.RepTooBig fits (λ zero. omega (arith, zero))
+fault_is_encoded request operation fault.Memory fits is = tt
+fault_is_encoded request operation fault.Device fits is = tt
+fault_is_encoded request operation fault.Down fits is = tt

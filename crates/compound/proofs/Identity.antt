@@ -1,5 +1,5 @@
 -- How long a result of EXCHANGE_ID is.
-use Rattle.std.proofs.Common.{◌≤◌, length, arith}
+use Rattle.std.proofs.Common.{ℕ, ◌+◌, ◌≤◌, length, arith}
 use Rattle.std.proofs.lemmas.List.{length-append}
 use Rattle.xdr.proofs.Sizes.{counted_length}
 use Rattle.xdr.proofs.Numbers.{length-number_32, length-number_64}

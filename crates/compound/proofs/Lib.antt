@@ -1,6 +1,5 @@
 pub mod Agreeing
 pub mod AheadLaws
-pub mod Altering
 pub mod BesideLaws
 pub mod Changing
 pub mod CloseLaws
@@ -8,7 +7,6 @@ pub mod Creating
 pub mod Current
 pub mod Firsts
 pub mod Identity
-pub mod Leaving
 pub mod ListLaws
 pub mod OpenLaws
 pub mod OpenNamedLaws

@@ -13,7 +13,6 @@ use Rattle.model_tree.proofs.Facts.BooleanLaws.{never_both}
 use Rattle.wire.specs.Short.{IsRefusal}
 use Rattle.compound.specs.Operates.{OnlyReads}
 use Rattle.compound.specs.States.{shared}
-use Rattle.model_tree.specs.declared.status.Status.TheVariants as status
 use Rattle.compound.specs.Trees.{IsHere, IsUp, fault_result}
 use Rattle.compound.specs.declared.fault.Fault.TheVariants.{Memory}
 use Rattle.compound.proofs.Rooms.{gives_refusal}
@@ -42,7 +41,7 @@ lists_up fs state now arguments fault.Down up is = never_both fs.volume.is_down 
 
 pub told_lists : (fs : FileSystem) (request : InProgress) (arguments : ReadDirArguments) (why : FsFault)
     → ((state : State) (now : ℕ) → IsHere fs request state → Lists fs state now arguments (Err why))
-    → IfOk (fault_result 26 status.RepTooBig why) (OnlyReads fs request (Argument.ReadDir arguments))
+    → IfOk (fault_result 26 why) (OnlyReads fs request (Argument.ReadDir arguments))
 told_lists fs request arguments (fault.Status reason) step = λ now table opens.
     let kind = Argument.ReadDir arguments in
     gives_refusal now (shared fs table opens) (shared fs table opens) request kind 26 reason
@@ -53,7 +52,7 @@ told_lists fs request arguments fault.Device step = tt
 told_lists fs request arguments fault.Down step = tt
 
 pub told_memory : (fs : FileSystem) (state : State) (now : ℕ) (arguments : ReadDirArguments) (why : FsFault) → fs.volume.is_down ≡ false
-    → Lists fs state now arguments (Err why) → IfErr (fault_result 26 status.RepTooBig why) (λ reason. reason ≡ Memory)
+    → Lists fs state now arguments (Err why) → IfErr (fault_result 26 why) (λ reason. reason ≡ Memory)
 told_memory fs state now arguments (fault.Status reason) up is = tt
 told_memory fs state now arguments fault.NoRoom up is = tt
 told_memory fs state now arguments fault.Memory up is = refl

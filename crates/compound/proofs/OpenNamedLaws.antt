@@ -1,5 +1,5 @@
 -- What an OPEN comes to that is served.
-use Rattle.std.proofs.Common.{subst, ◌≡◌, ◌<◌, ◌≤◌, ◌+◌, ◌^◌, inl, inr, ℕ, Bool, true, false, if◌then◌else◌, List, [], ◌∷◌, ◌++◌, length, Option, Some, None, Result, Ok, Err, refl, sym, ap, ap₂, ◌∙◌, arith, length-append}
+use Rattle.std.proofs.Common.{◌≡◌, ◌<◌, ◌≤◌, ◌+◌, ◌^◌, inl, inr, ℕ, Bool, true, false, if◌then◌else◌, List, [], ◌∷◌, ◌++◌, length, nat_le, Option, Some, None, Result, Ok, Err, refl, sym, ap, ap₂, ◌∙◌, arith, length-append}
 use Rattle.std.proofs.lemmas.Bool.{and_parts, eqb-true}
 use Rattle.std.specs.Int.{w32, w64, to_be_bytes}
 use Rattle.xdr.specs.Forms.{padded, padding, trimmed_bitmap}
@@ -7,8 +7,7 @@ use Rattle.xdr.specs.Grammar.{number}
 use Rattle.xdr.proofs.Sizes.{padded_length}
 use Rattle.xdr.proofs.Numbers.{length-number_32, length-number_64}
 use Rattle.layout.specs.Stands.{Kept}
-use Rattle.fs.specs.Changes.{FsChanges, fs_ending}
-use Rattle.volume.specs.Changes.{Given, Nothing}
+use Rattle.fs.specs.Changes.{FsChanges}
 use Rattle.fs.specs.FileSystem.{FileSystem}
 use Rattle.fs.specs.Opening.{IsFileToOpen, IsOpening, IsOpeningCurrent, IsShortNumber, OpensTree, after_open, open_effect, set_by, type_of}
 use Rattle.fs.specs.Operations.{IsNotDone, IsRefused, does_on}
@@ -39,9 +38,7 @@ use Rattle.model_tree.specs.declared.status.Status.TheVariants as status
 use Rattle.model.proofs.Sessions.TableCalls.{found_passes}
 use Rattle.opens.specs.Views.{opened_stateid}
 use Rattle.wire.specs.Short.{IsRefusal}
-use Rattle.compound.specs.Beside.{opened_answer, ComesToOpen}
-use Rattle.compound.specs.Rooms.{IsRoomFor}
-use Rattle.compound.proofs.Rooms.{same_room}
+use Rattle.compound.specs.Beside.{has_opened_room, opened_answer, ComesToOpen}
 use Rattle.compound.specs.Operates.{run_in_room}
 use Rattle.compound.specs.Runs.{with_rest}
 use Rattle.compound.specs.States.{SharedState, shared}
@@ -50,7 +47,7 @@ use Rattle.compound.specs.declared.fault.Fault.TheVariants as faults
 use Rattle.compound.proofs.QuietLaws.{answers_quietly, leaves_all}
 use Rattle.compound.specs.Trees.{IsHere, IsStatus, IsUp}
 use Rattle.compound.specs.Volumes.{OperationGives, ending, lasts, entry_by}
-use Rattle.compound.proofs.Changing.{HasThisRoom, done_runs, is_up, tree_given}
+use Rattle.compound.proofs.Changing.{HasThisRoom, done_runs, is_up, same_room, tree_given}
 use Rattle.compound.proofs.OpenLaws.{on_tree}
 use Rattle.compound.proofs.SettingLaws.{given_bad}
 use Rattle.compound.proofs.Trees.{all_bad, append_bad, does_bad, here, is_on}
@@ -135,10 +132,10 @@ closed_length : (was_set : List ℕ) → length (outcome_text (Done (opened_answ
 unfolding outcome_text
 closed_length was_set = simp (length-append, length-number_32, length-number_64) (omega (arith, padded_length zeros))
 
-pub opened_room : (request : InProgress) (of serial seqid : ℕ) (change : ChangeInfo) (was_set : List ℕ) (room : Bool) (reason : Status) → IsRoomFor request 18 (Done (opened_answer closed_state no_change_info was_set)) room reason
-    → IsRoomFor request 18 (Done (opened_answer (stateid_of of serial seqid) change was_set)) room reason
-opened_room request of serial seqid change was_set room reason is =
-    same_room request 18 (Done (opened_answer closed_state no_change_info was_set)) (Done (opened_answer (stateid_of of serial seqid) change was_set)) room reason
+pub opened_room : (request : InProgress) (of serial seqid : ℕ) (change : ChangeInfo) (was_set : List ℕ) (room : Bool) → room ≡ has_opened_room request was_set
+    → room ≡ nat_le (length (reply_with request (Done (opened_answer (stateid_of of serial seqid) change was_set)))) 16368
+opened_room request of serial seqid change was_set room is =
+    same_room request (opened_answer closed_state no_change_info was_set) (opened_answer (stateid_of of serial seqid) change was_set) room
     (closed_length was_set ∙ sym (open_length of serial seqid change was_set)) is
 
 -- What is opened has the number that is asked for
@@ -227,28 +224,28 @@ module _ (now : ℕ) (fs : FileSystem) (request : InProgress) (arguments : OpenA
       (step state (record { tree_is = refl; changes_is = refl; context_is = refl }) refl)
 
   pub sized : (of : OpenType) (name : List ℕ) (directory : ℕ) → arguments.opening ≡ Opens_as of (ByName name) → current_number request.context ≡ directory
-      → (room : Bool) (reason : Status) → IsRoomFor request 18 (Done (opened_answer closed_state no_change_info (set_by (open_effect fs.volume.tree directory name of) of))) room reason
-      → (state : State) → IsHere fs request state → HasThisRoom request 18 room reason (effect fs.volume.limits state now (Argument.Open arguments))
+      → (room : Bool) → room ≡ has_opened_room request (set_by (open_effect fs.volume.tree directory name of) of)
+      → (state : State) → IsHere fs request state → HasThisRoom request room (effect fs.volume.limits state now (Argument.Open arguments))
   unfolding effect
-  sized of name directory opening is room reason fits state there = (
+  sized of name directory opening is room fits state there = (
     _,
     refl,
-    opened_room request _ _ _ _ (set_at_open state arguments.opening) room reason
-        (subst (λ (words : List ℕ). IsRoomFor request 18 (Done (opened_answer closed_state no_change_info words)) room reason)
+    opened_room request _ _ _ _ (set_at_open state arguments.opening) room
+        (fits ∙ ap (has_opened_room request)
         (ap (λ (n : ℕ). set_by (open_effect fs.volume.tree n name of) of) (sym is)
         ∙ (ap (λ (context : Context). set_by (open_effect fs.volume.tree (current_number context) name of) of) (sym there.context_is)
         ∙ (ap (λ (tree : Tree). set_by (open_effect tree (current state) name of) of) (sym there.tree_is)
         ∙ (sym (set_is (is_named state.tree (current state) name) (cuts of) of)
-        ∙ ap (set_at_open state) (sym opening))))) fits),
+        ∙ ap (set_at_open state) (sym opening)))))),
   )
 
   pub open_makes : (table : Table) (opens : Opens) (asked : Asked) (is_full : Bool) → request.context.run ≡ fs.volume.run
       → has_current request.context ≡ true → current_number request.context ≡ asked.directory
       → ((state : State) → IsHere fs request state → state.opens ≡ opens → IsOpening fs state asked is_full arguments)
-      → (room : Bool) (reason : Status) → ((state : State) → IsHere fs request state → HasThisRoom request 18 room reason (effect fs.volume.limits state now (Argument.Open arguments))) → room ≡ true
+      → (room : Bool) → ((state : State) → IsHere fs request state → HasThisRoom request room (effect fs.volume.limits state now (Argument.Open arguments))) → room ≡ true
       → (kept : Kept) (lasting : Bool) → OperationGives (shared fs table opens) request now (Argument.Open arguments) kept lasting
       → OpensTree fs request.context.cred now asked is_full kept lasting
-  open_makes table opens asked is_full in_run has is opening room reason fits some kept lasting gives =
+  open_makes table opens asked is_full in_run has is opening room fits some kept lasting gives =
       let state = state_of gives.world (with_rest request gives.rest) in
       let there = here gives.world fs table opens request gives.rest gives.has in
       record {
@@ -256,7 +253,7 @@ module _ (now : ℕ) (fs : FileSystem) (request : InProgress) (arguments : OpenA
         arguments = arguments;
         on = is_on fs request asked.directory state in_run has is there;
         opening = opening state there gives.has.opens;
-        kept = gives.kept ∙ ap (with_tree fs.volume) (tree_given now fs request (Argument.Open arguments) (on_tree now request arguments) room reason fits table opens gives.world gives.rest some gives.has);
+        kept = gives.kept ∙ ap (with_tree fs.volume) (tree_given now fs request (Argument.Open arguments) (on_tree now request arguments) room fits table opens gives.world gives.rest some gives.has);
         quiet = λ none. gives.lasting_is ∙ quiet_ran gives.world (with_rest request gives.rest) arguments (run_in_room gives.world (with_rest request gives.rest) now (Argument.Open arguments)) none;
       }
 
@@ -325,9 +322,3 @@ module _ (now : ℕ) (fs : FileSystem) (request : InProgress) (arguments : OpenA
 pub opened_short : (number short made : ℕ) → IsShortNumber number short → number ≡ made → made < 2 ^ 64 → (short ≡ made) × (0 < short)
 opened_short number short made (inl known) is fits = (known.0 ∙ is, known.1)
 opened_short number short made (inr past) is fits = absurd (omega (arith, past.1, is, fits))
-
--- without room it left all as it was
-pub left_no_room : (keeps_word : Type 0) (given : Given) (fs new : FileSystem) (before after : ℕ) (T : Type 0) (why : FsFault) → why ≡ fault.NoRoom
-    → FsChanges keeps_word given fs new before after (fs_ending {T = T} (Err why)) → FsChanges keeps_word given fs new before after Nothing
-left_no_room keeps_word given fs new before after T why none changes =
-    subst (λ (of : FsFault). FsChanges keeps_word given fs new before after (fs_ending {T = T} (Err of))) none changes

@@ -1,15 +1,16 @@
 -- What an operation comes to is what one of any kind does.
 use Rattle.std.proofs.Common.{◌≡◌, ℕ, true, false, Result, Ok, Err, refl, sym, ap, ◌∙◌}
 use Rattle.disk.specs.declared.device.Device.{Ghosts}
+use Rattle.fs.specs.FileSystem.{FileSystem}
 use Rattle.fs.specs.Views.{fs_failures}
 use Rattle.layout.specs.declared.versions.VersionNumber.{VersionNumber}
-use Rattle.model.specs.Operations.Operation.{Argument, operation_of}
+use Rattle.model.specs.Operations.Operation.{Argument}
 use Rattle.model.specs.Server.World.{InProgress}
 use Rattle.model.specs.Sessions.Opens.{Opens}
 use Rattle.model.specs.Sessions.Session.{Table}
 use Rattle.compound.specs.Engines.{Changes, ChangesState, ChangesClients, Runs, RunsState, files_in, state_in}
 use Rattle.compound.specs.Memory.{OrMemory}
-use Rattle.compound.specs.Operates.{IsAnswered, IsReplyKept, JoinsBy, Operates, Reads}
+use Rattle.compound.specs.Operates.{IsAnswered, IsReplyKept, Operates, Reads}
 use Rattle.compound.specs.States.{Agrees, SharedState, shared}
 use Rattle.compound.specs.Volumes.{ending}
 use Rattle.compound.specs.declared.engine.Engine.{Engine}
@@ -19,7 +20,7 @@ use Rattle.compound.specs.declared.fault.Fault.{Fault}
 use Rattle.compound.specs.declared.fault.Fault.TheVariants.{Memory}
 use Rattle.session.specs.Views.{reply_kept}
 use Rattle.compound.proofs.Outcomes.{on_err}
-use Rattle.compound.proofs.OwnResults.{if_answered, if_joins, if_kept, result_answered, result_joins, result_kept}
+use Rattle.compound.proofs.OwnResults.{if_answered, if_kept, result_answered, result_kept}
 use Rattle.compound.proofs.QuietLaws.{leaves_all}
 use Rattle.compound.proofs.TablesGo.{leaves_seats}
 use Rattle.compound.proofs.VolumeLaws.{is_quiet, quiet_changes, tree_changes}
@@ -31,10 +32,8 @@ module _ (keeps_word : Type 0) (now : ℕ) (old : SharedState) (before : ℕ) (r
       → RunsState keeps_word now old new before after request operation result
   tree_runs new after result changes = record {
     gives = changes.gives;
-    answered = if_answered request (operation_of operation) result changes.answered;
-    kept = if_kept request (operation_of operation) new.table result changes.answered;
-    joins = if_joins old.table.settings request (operation_of operation) result changes.answered;
-    settings = ap (λ (t : Table). t.settings) changes.table;
+    answered = if_answered request result changes.answered;
+    kept = if_kept request new.table result changes.answered;
     table = on_err result changes.table;
     opens = changes.opens;
     volume = tree_changes keeps_word old request now operation leaves (λ keeps. (agrees keeps).seats) new.files before after (ending result) changes.volume;
@@ -43,14 +42,12 @@ module _ (keeps_word : Type 0) (now : ℕ) (old : SharedState) (before : ℕ) (r
   module _ (quiet : is_quiet operation ≡ true) (up : old.files.volume.is_down ≡ false) where
     -- it leaves the file system
     pub quiet_runs : (table : Table) (opens : Opens) (done : Executed) → Operates now old (shared old.files table opens) request operation done
-        → IsAnswered request (operation_of operation) done → IsReplyKept table done → JoinsBy old.table.settings request done → table.settings ≡ old.table.settings
+        → IsAnswered request done → IsReplyKept table done
         → RunsState keeps_word now old (shared old.files table opens) before before request operation (Ok done)
-    quiet_runs table opens done gives answered kept joins settings = record {
+    quiet_runs table opens done gives answered kept = record {
       gives = λ keeps. gives;
       answered = answered;
       kept = kept;
-      joins = joins;
-      settings = settings;
       table = tt;
       opens = tt;
       volume = tree_changes keeps_word old request now operation leaves (λ keeps. (agrees keeps).seats) old.files before before (ending {T = Executed} (Ok done))
@@ -63,8 +60,6 @@ module _ (keeps_word : Type 0) (now : ℕ) (old : SharedState) (before : ℕ) (r
       gives = λ keeps. tt;
       answered = tt;
       kept = tt;
-      joins = tt;
-      settings = refl;
       table = refl;
       opens = refl;
       volume = rw memory (leaves_all keeps_word _ _ _ _ _ refl refl);
@@ -73,7 +68,7 @@ module _ (keeps_word : Type 0) (now : ℕ) (old : SharedState) (before : ℕ) (r
 -- a reply that is sent again is there
 pub operated_kept : (now : ℕ) (old new : SharedState) (request : InProgress) (operation : Argument) (done : Executed) → Operates now old new request operation done → IsReplyKept new.table done
 operated_kept now old new request operation (execution.Gives outcome left) runs = tt
-operated_kept now old new request operation (execution.GivesValues kind values larger) runs = tt
+operated_kept now old new request operation (execution.GivesValues kind values) runs = tt
 operated_kept now old new request operation (execution.Replays slot) runs = (runs.0, ap (λ (s : SharedState). reply_kept slot.session slot.slot s.table) runs.1 ∙ runs.2)
 
 -- With all that a turn works on
@@ -92,8 +87,7 @@ module _ {D : Type 0} {g : Ghosts D} (old : Engine D g) (request : InProgress) (
       same = record { fs = refl; table = refl; opens = refl };
       state = quiet_runs g.keeps_word old.moment (state_in old) (fs_failures old.fs.now) request operation leaves agrees quiet up
           (state_in old).table (state_in old).opens done (reads.gives old.moment (state_in old).table (state_in old).opens)
-          (result_answered request (operation_of operation) done reads.answered) (result_kept request (operation_of operation) (state_in old).table done reads.answered)
-          (result_joins (state_in old).table.settings request (operation_of operation) done reads.answered) refl;
+          (result_answered request done reads.answered) (result_kept request (state_in old).table done reads.answered);
     }
 
     pub reads_or : (result : Result Executed Fault) → OrMemory result (Reads (files_in old) request operation) → Runs old old request operation result
@@ -108,15 +102,12 @@ module _ {D : Type 0} {g : Ghosts D} (old : Engine D g) (request : InProgress) (
         → (table : Table) (result : Result Executed Fault) → ChangesClients version (state_in old).table table (state_in old).opens request operation result
         → RunsState g.keeps_word old.moment (state_in old) (shared (files_in old) table (state_in old).opens) (fs_failures old.fs.now) (fs_failures old.fs.now) request operation result
     table_or version same table (Ok done) changes = quiet_runs g.keeps_word old.moment (state_in old) (fs_failures old.fs.now) request operation leaves agrees quiet up
-        table (state_in old).opens done (changes.2 old.moment (files_in old) (sym same))
-        (result_answered request (operation_of operation) done changes.0) (result_kept request (operation_of operation) table done changes.0)
-        (result_joins (state_in old).table.settings request (operation_of operation) done changes.0) changes.1
+        table (state_in old).opens done (changes.1 old.moment (files_in old) (sym same))
+        (result_answered request done changes.0) (result_kept request table done changes.0)
     table_or version same table (Err reason) refused = record {
       gives = λ keeps. tt;
       answered = tt;
       kept = tt;
-      joins = tt;
-      settings = ap (λ (t : Table). t.settings) refused.1;
       table = refused.1;
       opens = refl;
       volume = rw refused.0 (leaves_all g.keeps_word _ _ _ _ _ refl refl);

@@ -2,7 +2,7 @@
 use Rattle.std.proofs.Common.{◌≡◌, ◌∙◌, ap, sym, ℕ, Result, Ok, Err, IfOk, IfErr, OnErr, IsErrAnd}
 use Rattle.disk.specs.declared.device.Device.{Ghosts}
 use Rattle.fs.specs.FileSystem.{FileSystem}
-use Rattle.model.specs.Operations.Operation.{Argument, operation_of}
+use Rattle.model.specs.Operations.Operation.{Argument}
 use Rattle.model.specs.Server.World.{InProgress}
 use Rattle.model.specs.Sessions.Opens.{Opens}
 use Rattle.model.specs.Sessions.Session.{Table}
@@ -38,7 +38,7 @@ or_weaker (Ok done) weaker holds = weaker done holds
 or_weaker (Err reason) weaker memory = memory
 
 pub read_or : (files : FileSystem) (request : InProgress) (operation : Argument) (result : Result Executed Fault)
-    → IfOk result (OnlyReads files request operation) → IfOk result (HasResult request (operation_of operation)) → IfErr result (λ reason. reason ≡ Memory)
+    → IfOk result (OnlyReads files request operation) → IfOk result (HasResult request) → IfErr result (λ reason. reason ≡ Memory)
     → OrMemory result (Reads files request operation)
 read_or files request operation (Ok done) gives answered memory = record { answered = answered; gives = gives }
 read_or files request operation (Err reason) gives answered memory = memory
@@ -50,7 +50,7 @@ fault_of (Ok done) = Memory
 fault_of (Err reason) = reason
 
 module _ {D : Type 0} {g : Ghosts D} (reading : Reading D g) (old new : Opens) (operation : Argument) where
-  pub opened_answered : (result : Result Executed Fault) → OrMemory result (ChangesOpens reading old new operation) → IfOk result (HasResult (request_read reading) (operation_of operation))
+  pub opened_answered : (result : Result Executed Fault) → OrMemory result (ChangesOpens reading old new operation) → IfOk result (HasResult (request_read reading))
   opened_answered (Ok done) changes = changes.answered
   opened_answered (Err reason) memory = tt
 
@@ -66,14 +66,3 @@ pub opened_if : {D : Type 0} {g : Ghosts D} (now : ℕ) (table : Table) (reading
     → IfOk result (Operates now (shared (files_read reading) table old) (shared (files_read reading) table new) (request_read reading) operation)
 opened_if now table reading old new operation (Ok done) changes = changes.gives now table
 opened_if now table reading old new operation (Err reason) memory = tt
-
-pub read_memory : (files : FileSystem) (request : InProgress) (operation : Argument) (result : Result Executed Fault)
-    → OrMemory result (HasResult request (operation_of operation))
-    → ((now : ℕ) (table : Table) (opens : Opens) → OrMemory result (Operates now (shared files table opens) (shared files table opens) request operation))
-    → OrMemory result (Reads files request operation)
-read_memory files request operation (Ok done) answered gives = record { answered = answered; gives = gives }
-read_memory files request operation (Err reason) answered gives = answered
-
-pub or_if : {T : Type 0} (P : T → Type 0) (result : Result T Fault) → OrMemory result P → IfOk result P
-or_if P (Ok done) holds = holds
-or_if P (Err reason) memory = tt

@@ -1,5 +1,5 @@
 -- READ, by the call that reads a file.
-use Rattle.std.proofs.Common.{Result, Ok, ◌≡◌, ℕ, Bool, true, false, if◌then◌else◌, ◌∷◌, Option, Some, None, Err, IfOk, refl, sym, ap, subst, ◌∙◌}
+use Rattle.std.proofs.Common.{◌≡◌, ℕ, Bool, true, false, if◌then◌else◌, ◌∷◌, Option, Some, None, Err, IfOk, refl, sym, ap, subst, ◌∙◌}
 use Rattle.layout.specs.Stands.{Kept}
 use Rattle.fs.specs.Changes.{FsChanges}
 use Rattle.fs.specs.FileSystem.{FileSystem}
@@ -27,11 +27,8 @@ use Rattle.wire.specs.Short.{IsRefusal}
 use Rattle.compound.specs.Operates.{RunsTo, GivesIn, ChangesTreeAndOpens, run_in_room, tree_by}
 use Rattle.compound.specs.Runs.{with_rest}
 use Rattle.compound.specs.States.{shared}
-use Rattle.compound.specs.Memory.{OrMemory}
 use Rattle.compound.specs.Trees.{IsHere, IsUp, fault_result}
-use Rattle.compound.specs.declared.executed.Executed.{Executed}
-use Rattle.compound.specs.declared.fault.Fault.{Fault}
-use Rattle.compound.specs.Volumes.{OperationGives, ending, fault_ending}
+use Rattle.compound.specs.Volumes.{OperationGives, ending}
 use Rattle.compound.proofs.QuietLaws.{leaves_all, left_all, answers_quietly}
 use Rattle.compound.proofs.Rooms.{gives_refusal, state_same}
 use Rattle.compound.proofs.Telling.{OnTree}
@@ -45,10 +42,10 @@ read_on_tree arguments = λ world request now. refl
 
 -- It leaves the tree
 
-tree_roomed : (world : World) (request : InProgress) (number : ℕ) (answer : Answer) (reason : Status) (room : Bool)
-    → tree_by world (if room then Gives (Done answer) world request else refuses world request number reason) ≡ world.tree
-tree_roomed world request number answer reason true = refl
-tree_roomed world request number answer reason false = refl
+tree_roomed : (world : World) (request : InProgress) (number : ℕ) (answer : Answer) (room : Bool)
+    → tree_by world (if room then Gives (Done answer) world request else refuses world request number status.RepTooBig) ≡ world.tree
+tree_roomed world request number answer true = refl
+tree_roomed world request number answer false = refl
 
 tree_kept : (world : World) (request : InProgress) (now : ℕ) (arguments : ReadArguments)
     → tree_by world (run_in_room world request now (Argument.Read arguments)) ≡ world.tree
@@ -58,7 +55,7 @@ tree_kept world request now arguments = by_refusal _
     by_refusal : (refusal : Option Status) → tree_by world (in_room world request 25
         (stepped world request (unless_refused (state_of world request) (Argument.Read arguments) refusal
         (effect world.limits.volume (state_of world request) now (Argument.Read arguments))))) ≡ world.tree
-    by_refusal None = tree_roomed world request 25 _ _ _
+    by_refusal None = tree_roomed world request 25 _ _
     by_refusal (Some reason) = refl
 
 pub read_tree : (fs : FileSystem) (table : Table) (opens : Opens) (request : InProgress) (now : ℕ) (arguments : ReadArguments) (after : Kept) (lasts : Bool)
@@ -126,7 +123,7 @@ module _ (now : ℕ) (fs : FileSystem) (opens : Opens) (request : InProgress) (a
   module _ (keeps_word : Type 0) (new : FileSystem) (before after : ℕ) where
     pub told_reads : (T : Type 0) (why : FsFault) → Says fs opens request (λ state. IsNotRead fs state now (Argument.Read arguments) why)
         → FsChanges keeps_word (IsTree fs.volume fs.volume.tree) fs new before after (reading_ending {T = T} (Err why))
-        → IfOk (fault_result 25 status.RepTooBig why) (ChangesTreeAndOpens fs new opens opens now request (Argument.Read arguments))
+        → IfOk (fault_result 25 why) (ChangesTreeAndOpens fs new opens opens now request (Argument.Read arguments))
     told_reads T (fault.Status reason) step changes = λ table.
         subst (λ (one : FileSystem). GivesIn now (shared fs table opens) (shared one table opens) request request (Argument.Read arguments) (Refused 25 reason))
         (sym (left_all keeps_word (IsTree fs.volume fs.volume.tree) fs new before after changes))
@@ -146,18 +143,9 @@ module _ (now : ℕ) (fs : FileSystem) (opens : Opens) (request : InProgress) (a
         → FsChanges keeps_word (OperationGives (shared fs table opens) request now (Argument.Read arguments)) fs new before after Nothing
     read_nothing table changes = leaves_all keeps_word _ fs new before after (left_all keeps_word (IsTree fs.volume fs.volume.tree) fs new before after changes) (changes.volume_changes.none (λ broken. cc))
 
-    -- if it has a result, or has no memory for that
-    pub read_ended : (P : Executed → Type 0) (result : Result Executed Fault) → OrMemory result P → (table : Table) → fs.volume.is_down ≡ false
-        → FsChanges keeps_word (IsTree fs.volume fs.volume.tree) fs new before after Nothing
-        → FsChanges keeps_word (OperationGives (shared fs table opens) request now (Argument.Read arguments)) fs new before after (ending result)
-    read_ended P (Ok done) or table up changes = read_quietly table up changes
-    read_ended P (Err reason) or table up changes =
-        subst (λ (why : Fault). FsChanges keeps_word (OperationGives (shared fs table opens) request now (Argument.Read arguments)) fs new before after (fault_ending why))
-        (sym or) (read_nothing table changes)
-
     pub told_changes : (T : Type 0) (table : Table) (why : FsFault) → fs.volume.is_down ≡ false → Says fs opens request (λ state. IsNotRead fs state now (Argument.Read arguments) why)
         → FsChanges keeps_word (IsTree fs.volume fs.volume.tree) fs new before after (reading_ending {T = T} (Err why))
-        → FsChanges keeps_word (OperationGives (shared fs table opens) request now (Argument.Read arguments)) fs new before after (ending (fault_result 25 status.RepTooBig why))
+        → FsChanges keeps_word (OperationGives (shared fs table opens) request now (Argument.Read arguments)) fs new before after (ending (fault_result 25 why))
     told_changes T table (fault.Status reason) up step changes = read_quietly table up changes
     told_changes T table fault.NoRoom up step changes = read_quietly table up changes
     told_changes T table fault.Memory up step changes = read_nothing table changes

@@ -57,8 +57,8 @@ pub refused_not_ok : (request : InProgress) (operation : ℕ) (reason : Status) 
 refused_not_ok request operation reason is = subst NotOk is (next_not_ok request)
 
 pub refused_encoded : (request : InProgress) (operation : ℕ) (reason : Status) → next_operation request ≡ Refuses operation reason → operation < 2 ^ 32
-    → (room : ℕ) → IsEncoded room request (model.Refused operation reason)
-refused_encoded request operation reason is fits room = record {
+    → IsEncoded request (model.Refused operation reason)
+refused_encoded request operation reason is fits = record {
   fits = (fits, refused_not_ok request operation reason is);
   small = omega (arith, refused_length operation reason);
   room = tt;

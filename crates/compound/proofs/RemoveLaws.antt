@@ -1,5 +1,5 @@
 -- REMOVE on a world is that on its file system.
-use Rattle.std.proofs.Common.{◌≡◌, ℕ, Bool, true, false, List, length, refl, ap, ◌∙◌, arith, length-append}
+use Rattle.std.proofs.Common.{◌≡◌, ℕ, Bool, true, false, List, length, nat_le, refl, ap, ◌∙◌, arith, length-append}
 use Rattle.xdr.proofs.Numbers.{length-number_32, length-number_64}
 use Rattle.layout.specs.Stands.{Kept}
 use Rattle.fs.specs.FileSystem.{FileSystem}
@@ -14,15 +14,12 @@ use Rattle.model.specs.Operations.Operation.{Argument}
 use Rattle.model.specs.Sessions.Session.{Table}
 use Rattle.model.specs.Sessions.StateIds.{without_number}
 use Rattle.model.specs.Operations.Step.{State, does, effect, answered}
-use Rattle.model.specs.Server.World.{World, InProgress, run, stepped, state_of, outcome_text}
+use Rattle.model.specs.Server.World.{World, InProgress, run, stepped, state_of, reply_with, outcome_text}
 use Rattle.compound.specs.Runs.{with_rest}
 use Rattle.compound.specs.States.{shared}
 use Rattle.compound.specs.Trees.{IsHere, IsUp, removed_answer}
 use Rattle.compound.specs.Volumes.{OperationGives}
-use Rattle.compound.specs.Rooms.{IsRoomFor}
-use Rattle.model_tree.specs.declared.status.Status.{Status}
-use Rattle.compound.proofs.Rooms.{same_room}
-use Rattle.compound.proofs.Changing.{HasThisRoom, is_up, tree_given}
+use Rattle.compound.proofs.Changing.{HasThisRoom, is_up, same_room, tree_given}
 use Rattle.compound.proofs.Trees.{here, is_on, is_there, of_request, remove_bad}
 use Rattle.volume.specs.VolumeState.{with_tree}
 
@@ -30,11 +27,11 @@ text_length : (before after : ℕ) → length (outcome_text (Done (removed_answe
 unfolding outcome_text
 text_length before after = simp (length-append, length-number_32, length-number_64) (omega arith)
 
-pub removed_room : (request : InProgress) (before after before_2 after_2 : ℕ) (room : Bool) (reason : Status)
-    → IsRoomFor request 28 (Done (removed_answer before after)) room reason
-    → IsRoomFor request 28 (Done (removed_answer before_2 after_2)) room reason
-removed_room request before after before_2 after_2 room reason is =
-    same_room request 28 (Done (removed_answer before after)) (Done (removed_answer before_2 after_2)) room reason
+pub removed_room : (request : InProgress) (before after before_2 after_2 : ℕ) (room : Bool)
+    → room ≡ nat_le (length (reply_with request (Done (removed_answer before after)))) 16368
+    → room ≡ nat_le (length (reply_with request (Done (removed_answer before_2 after_2)))) 16368
+removed_room request before after before_2 after_2 room is =
+    same_room request (removed_answer before after) (removed_answer before_2 after_2) room
     (omega (arith, text_length before after, text_length before_2 after_2)) is
 
 module _ (now : ℕ) (fs : FileSystem) (request : InProgress) (name : List ℕ) where
@@ -43,10 +40,10 @@ module _ (now : ℕ) (fs : FileSystem) (request : InProgress) (name : List ℕ) 
   unfolding run
   on_tree world rest = refl
 
-  pub sized : (room : Bool) (reason : Status) → IsRoomFor request 28 (Done (removed_answer 0 0)) room reason
-      → (state : State) → IsHere fs request state → HasThisRoom request 28 room reason (effect fs.volume.limits state now (Argument.Remove name))
+  pub sized : (room : Bool) → room ≡ nat_le (length (reply_with request (Done (removed_answer 0 0)))) 16368
+      → (state : State) → IsHere fs request state → HasThisRoom request room (effect fs.volume.limits state now (Argument.Remove name))
   unfolding effect
-  sized room reason is state there = (_, refl, removed_room request 0 0 _ _ room reason is)
+  sized room is state there = (_, refl, removed_room request 0 0 _ _ room is)
 
   pub does_remove : (new : FileSystem) (made : Removed) (before : Opens) (state : State) → IsHere fs request state → state.opens ≡ before
       → does_on fs state now (Argument.Remove name) ≡ removed new.volume.tree new.changes state made
@@ -68,11 +65,11 @@ module _ (now : ℕ) (fs : FileSystem) (request : InProgress) (name : List ℕ) 
 
   pub remove_makes : (table : Table) (opens : Opens) (directory : ℕ) → request.context.run ≡ fs.volume.run
       → has_current request.context ≡ true → current_number request.context ≡ directory
-      → (room : Bool) (reason : Status) → IsRoomFor request 28 (Done (removed_answer 0 0)) room reason → room ≡ true
+      → (room : Bool) → room ≡ nat_le (length (reply_with request (Done (removed_answer 0 0)))) 16368 → room ≡ true
       → (kept : Kept) (lasts : Bool) → OperationGives (shared fs table opens) request now (Argument.Remove name) kept lasts
       → MakesTree fs request.context.cred directory now (Argument.Remove name) kept lasts
-  remove_makes table opens directory in_run has is room reason fits some kept lasts gives = record {
+  remove_makes table opens directory in_run has is room fits some kept lasts gives = record {
     state = state_of gives.world (with_rest request gives.rest);
     on = is_on fs request directory _ in_run has is (here gives.world fs table opens request gives.rest gives.has);
-    kept = gives.kept ∙ ap (with_tree fs.volume) (tree_given now fs request (Argument.Remove name) on_tree room reason (sized room reason fits) table opens gives.world gives.rest some gives.has);
+    kept = gives.kept ∙ ap (with_tree fs.volume) (tree_given now fs request (Argument.Remove name) on_tree room (sized room fits) table opens gives.world gives.rest some gives.has);
   }

@@ -1,5 +1,5 @@
 -- RENAME on a world is that on its file system.
-use Rattle.std.proofs.Common.{◌≡◌, ℕ, Bool, true, false, not, List, length, Option, Some, None, refl, sym, ap, ap₂, subst, ◌∙◌, arith, length-append}
+use Rattle.std.proofs.Common.{◌≡◌, ℕ, Bool, true, false, not, List, length, nat_le, Option, Some, None, refl, sym, ap, ap₂, subst, ◌∙◌, arith, length-append}
 use Rattle.xdr.proofs.Numbers.{length-number_32, length-number_64}
 use Rattle.layout.specs.Stands.{Kept}
 use Rattle.fs.specs.FileSystem.{FileSystem}
@@ -27,9 +27,7 @@ use Rattle.compound.specs.States.{shared}
 use Rattle.compound.specs.Trees.{IsHere, IsUp, AreBoth, no_change, renamed_answer}
 use Rattle.compound.specs.Volumes.{OperationGives, lasts, entry_by}
 use Rattle.compound.proofs.Current.{after_some, after_none}
-use Rattle.compound.specs.Rooms.{IsRoomFor}
-use Rattle.compound.proofs.Rooms.{same_room}
-use Rattle.compound.proofs.Changing.{HasThisRoom, is_up, tree_given}
+use Rattle.compound.proofs.Changing.{HasThisRoom, is_up, same_room, tree_given}
 use Rattle.compound.proofs.Trees.{here, is_on, is_there, of_request, rename_bad}
 use Rattle.volume.specs.VolumeState.{with_tree}
 
@@ -39,20 +37,20 @@ text_length : (source target : Change) → length (outcome_text (Done (renamed_a
 unfolding outcome_text
 text_length source target = simp (length-append, length-number_32, length-number_64) (omega arith)
 
-pub renamed_room : (request : InProgress) (source target source_2 target_2 : Change) (room : Bool) (reason : Status)
-    → IsRoomFor request 29 (Done (renamed_answer source target)) room reason
-    → IsRoomFor request 29 (Done (renamed_answer source_2 target_2)) room reason
-renamed_room request source target source_2 target_2 room reason is =
-    same_room request 29 (Done (renamed_answer source target)) (Done (renamed_answer source_2 target_2)) room reason
+pub renamed_room : (request : InProgress) (source target source_2 target_2 : Change) (room : Bool)
+    → room ≡ nat_le (length (reply_with request (Done (renamed_answer source target)))) 16368
+    → room ≡ nat_le (length (reply_with request (Done (renamed_answer source_2 target_2)))) 16368
+renamed_room request source target source_2 target_2 room is =
+    same_room request (renamed_answer source target) (renamed_answer source_2 target_2) room
     (omega (arith, text_length source target, text_length source_2 target_2)) is
 
-rename_sized : (same : Bool) (state : State) (now : ℕ) (arguments : RenameArguments) (request : InProgress) (room : Bool) (reason : Status)
-    → IsRoomFor request 29 (Done (renamed_answer no_change no_change)) room reason
-    → HasThisRoom request 29 room reason (rename same state now arguments)
-rename_sized true state now arguments request room reason is =
-    (_, refl, renamed_room request no_change no_change (record { before = _; after = _ }) (record { before = _; after = _ }) room reason is)
-rename_sized false state now arguments request room reason is =
-    (_, refl, renamed_room request no_change no_change (record { before = _; after = _ }) (record { before = _; after = _ }) room reason is)
+rename_sized : (same : Bool) (state : State) (now : ℕ) (arguments : RenameArguments) (request : InProgress) (room : Bool)
+    → room ≡ nat_le (length (reply_with request (Done (renamed_answer no_change no_change)))) 16368
+    → HasThisRoom request room (rename same state now arguments)
+rename_sized true state now arguments request room is =
+    (_, refl, renamed_room request no_change no_change (record { before = _; after = _ }) (record { before = _; after = _ }) room is)
+rename_sized false state now arguments request room is =
+    (_, refl, renamed_room request no_change no_change (record { before = _; after = _ }) (record { before = _; after = _ }) room is)
 
 -- Its first tests
 
@@ -87,10 +85,10 @@ module _ (now : ℕ) (fs : FileSystem) (request : InProgress) (arguments : Renam
   unfolding run
   on_tree world rest = refl
 
-  pub sized : (room : Bool) (reason : Status) → IsRoomFor request 29 (Done (renamed_answer no_change no_change)) room reason
-      → (state : State) → IsHere fs request state → HasThisRoom request 29 room reason (effect fs.volume.limits state now (Argument.Rename arguments))
+  pub sized : (room : Bool) → room ≡ nat_le (length (reply_with request (Done (renamed_answer no_change no_change)))) 16368
+      → (state : State) → IsHere fs request state → HasThisRoom request room (effect fs.volume.limits state now (Argument.Rename arguments))
   unfolding effect
-  sized room reason is state there = rename_sized (is_same_name state.context arguments) state now arguments request room reason is
+  sized room is state there = rename_sized (is_same_name state.context arguments) state now arguments request room is
 
   pub does_rename : (new : FileSystem) (made : Renamed) (before : Opens) (same : Bool) (state : State) → IsHere fs request state → state.opens ≡ before
       → is_same_name state.context arguments ≡ same
@@ -126,12 +124,12 @@ module _ (now : ℕ) (fs : FileSystem) (request : InProgress) (arguments : Renam
       is_up now fs state (Argument.Rename arguments) why up (rename_bad fs.volume.limits state now arguments) (step state (is_on_both numbers in_run both state (is_there fs request)))
 
   pub rename_makes : (table : Table) (opens : Opens) (numbers : ℕ × ℕ) → request.context.run ≡ fs.volume.run → AreBoth request.context numbers
-      → (room : Bool) (reason : Status) → IsRoomFor request 29 (Done (renamed_answer no_change no_change)) room reason → room ≡ true
+      → (room : Bool) → room ≡ nat_le (length (reply_with request (Done (renamed_answer no_change no_change)))) 16368 → room ≡ true
       → (kept : Kept) (lasting : Bool) → OperationGives (shared fs table opens) request now (Argument.Rename arguments) kept lasting
       → RenamesTree fs request.context.cred numbers.0 numbers.1 now arguments kept lasting
-  rename_makes table opens numbers in_run both room reason fits some kept lasting gives = record {
+  rename_makes table opens numbers in_run both room fits some kept lasting gives = record {
     state = state_of gives.world (with_rest request gives.rest);
     on = is_on_both numbers in_run both _ (here gives.world fs table opens request gives.rest gives.has);
-    kept = gives.kept ∙ ap (with_tree fs.volume) (tree_given now fs request (Argument.Rename arguments) on_tree room reason (sized room reason fits) table opens gives.world gives.rest some gives.has);
+    kept = gives.kept ∙ ap (with_tree fs.volume) (tree_given now fs request (Argument.Rename arguments) on_tree room (sized room fits) table opens gives.world gives.rest some gives.has);
     quiet = λ same. gives.lasting_is ∙ quiet_ran gives.world (with_rest request gives.rest) arguments (run_in_room gives.world (with_rest request gives.rest) now (Argument.Rename arguments)) same;
   }

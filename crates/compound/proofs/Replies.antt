@@ -12,8 +12,6 @@ use Rattle.model.specs.Server.World.{InProgress, outcome_text, reply_with, resul
 use Rattle.model_tree.specs.declared.status.Status.{Status}
 use Rattle.model.proofs.Sessions.KeptLaws.{refused_length}
 use Rattle.compound.specs.Operates.{IsEncoded}
-use Rattle.compound.specs.Turns.{result_of_ended}
-use Rattle.compound.specs.declared.ended.Ended.{Ended}
 
 pub reply_length : (xid : ℕ) (status : Status) (tag : List ℕ) (count : ℕ) (results more : List ℕ)
     → length (reply_text xid (Success (compound_text status tag count (results ++ more)))) ≡ 32 + length (counted tag) + length results + length more
@@ -44,23 +42,18 @@ result_within xid result bytes is =
     let behind : drop 28 bytes ≡ result = ap (drop 28) is ∙ result_behind xid result in
     rw (size, behind) (take_all (length result) result (omega arith))
 
-pub tag_brief : (tag : List ℕ) → length tag ≤ 255 → length (counted tag) ≤ 260
+pub tag_brief : (tag : List ℕ) → length tag ≤ 255 → length (counted tag) ≤ 262
 tag_brief tag short = omega (arith, counted_length tag)
 
 -- an OK result has room, and any other one exceeds it by a few bytes
-pub encoded_short : (room : ℕ) (request : InProgress) (outcome : Outcome) → IsEncoded room request outcome
-    → 32 + length (counted request.tag) + length request.results ≤ room
-    → 32 + length (counted request.tag) + length request.results + length (outcome_text outcome) ≤ room + 12
-encoded_short room request (Done answer) encode brief = omega (arith, encode.room, room_length request (Done answer))
-encoded_short room request (Refused operation reason) encode brief = omega (arith, brief, refused_length operation reason)
+pub encoded_short : (request : InProgress) (outcome : Outcome) → IsEncoded request outcome
+    → 32 + length (counted request.tag) + length request.results ≤ 16368
+    → 32 + length (counted request.tag) + length request.results + length (outcome_text outcome) ≤ 16380
+encoded_short request (Done answer) encode brief = omega (arith, encode.room, room_length request (Done answer))
+encoded_short request (Refused operation reason) encode brief = omega (arith, brief, refused_length operation reason)
 
 -- how many bytes a whole result has
 pub result_length : (request : InProgress) (last : Status)
     → 24 + length (result_of request last) ≡ 32 + length (counted request.tag) + length request.results
 unfolding compound_text
 result_length request last = simp (length-append, length-number_32) (omega arith)
-
-pub ended_length : (ended : Ended) → 24 + length (result_of_ended ended)
-    ≡ 32 + length (counted ended.tag.bytes.now) + length ended.progress.memory.results.bytes
-unfolding compound_text
-ended_length ended = simp (length-append, length-number_32) (omega arith)

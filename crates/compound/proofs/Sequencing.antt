@@ -1,5 +1,5 @@
 -- SEQUENCE and RECLAIM_COMPLETE on a world are those on its table.
-use Rattle.std.proofs.Common.{◌≡◌, ℕ, ◌-◌, Bool, true, Option, Some, None, false, if◌then◌else◌, ap, ap₂, sym, ◌∙◌}
+use Rattle.std.proofs.Common.{◌≡◌, ℕ, Bool, true, Option, Some, None, false, if◌then◌else◌, ap, sym, ◌∙◌}
 use Rattle.std.specs.List.{find}
 use Rattle.model.specs.Operations.Answer.{Answer, Outcome, SequenceAnswer}
 use Rattle.model.specs.Sessions.Opens.{Opens}
@@ -18,27 +18,24 @@ unfolding run
 ran_sequence world request now arguments old wanted {fs} {opens} on is =
     ap (begun world request arguments) (ap (sessions.begin request.context.cred.uid request.count arguments) on.table_is ∙ is)
 
--- the request once the slot of this client's session runs it, with the room of the session
-abbrev pub taken_on : InProgress → SequenceArguments → (client room : ℕ) → (cached : Option ℕ) → InProgress
-taken_on request arguments client room cached = record request {
+-- the request once the slot of this client's session runs it
+abbrev pub taken_on : InProgress → SequenceArguments → (client : ℕ) → InProgress
+taken_on request arguments client = record request {
   context = record request.context { client = client };
   slot = Some (arguments.session, arguments.slot);
-  room = room;
-  cached = cached;
 }
 
-pub begun_ok : (world : World) (request : InProgress) (arguments : SequenceArguments) (old new : Table) (session : Session) (client room : ℕ) (cached : Option ℕ) (answer : SequenceAnswer)
+pub begun_ok : (world : World) (request : InProgress) (arguments : SequenceArguments) (old new : Table) (session : Session) (client : ℕ) (answer : SequenceAnswer)
     → world.table ≡ old → find (is_session arguments.session) old.sessions ≡ Some session
-    → client ≡ session.client → room ≡ session.reply_bytes - 16 → cached ≡ (if arguments.cache_this then session.cached_bytes else None) → answer ≡ sequence_answer arguments session → new ≡ started request.context.cred.uid arguments old
-    → begun world request arguments sessions.Runs ≡ Gives (Outcome.Done (Answer.Sequence answer)) (with_table world new) (taken_on request arguments client room cached)
-begun_ok world request arguments old new session client room cached answer is found of roomy caches same after =
+    → client ≡ session.client → answer ≡ sequence_answer arguments session → new ≡ started request.context.cred.uid arguments old
+    → begun world request arguments sessions.Runs ≡ Gives (Outcome.Done (Answer.Sequence answer)) (with_table world new) (taken_on request arguments client)
+begun_ok world request arguments old new session client answer is found of same after =
     ap (λ (table : Table). started_in world request arguments (find (is_session arguments.session) table.sessions)) is
     ∙ (ap (started_in world request arguments) found
     ∙ (ap (λ (table : Table). gives (with_table world (started request.context.cred.uid arguments table)) (of_session request arguments session) (Answer.Sequence (sequence_answer arguments session))) is
     ∙ (ap (λ (table : Table). gives (with_table world table) (of_session request arguments session) (Answer.Sequence (sequence_answer arguments session))) (sym after)
     ∙ (ap (λ (one : SequenceAnswer). gives (with_table world new) (of_session request arguments session) (Answer.Sequence one)) (sym same)
-    ∙ (ap (λ (number : ℕ). gives (with_table world new) (taken_on request arguments number (session.reply_bytes - 16) (if arguments.cache_this then session.cached_bytes else None)) (Answer.Sequence answer)) (sym of)
-    ∙ ap₂ (λ (bytes : ℕ) (most : Option ℕ). gives (with_table world new) (taken_on request arguments client bytes most) (Answer.Sequence answer)) (sym roomy) (sym caches))))))
+    ∙ ap (λ (number : ℕ). gives (with_table world new) (taken_on request arguments number) (Answer.Sequence answer)) (sym of)))))
 
 pub begun_err : (world : World) (request : InProgress) (arguments : SequenceArguments) (reason : Status) (old new : Table)
     → world.table ≡ old → new ≡ old

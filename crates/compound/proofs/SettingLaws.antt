@@ -1,5 +1,5 @@
 -- What a SETATTR comes to.
-use Rattle.std.proofs.Common.{◌≡◌, ℕ, Bool, true, false, if◌then◌else◌, List, [], ◌∷◌, ◌++◌, unwrap_or, refl, ap, ◌∙◌}
+use Rattle.std.proofs.Common.{◌≡◌, ℕ, Bool, true, false, if◌then◌else◌, List, [], ◌∷◌, ◌++◌, length, nat_le, unwrap_or, refl, ap, ◌∙◌}
 use Rattle.layout.specs.Stands.{Kept}
 use Rattle.fs.specs.FileSystem.{FileSystem}
 use Rattle.fs.specs.Operations.{IsNotDone, does_on}
@@ -28,7 +28,6 @@ use Rattle.compound.specs.Runs.{with_rest}
 use Rattle.compound.specs.States.{shared}
 use Rattle.compound.specs.Trees.{IsHere, IsUp}
 use Rattle.compound.specs.Volumes.{OperationGives, lasts, entry_by}
-use Rattle.compound.specs.Rooms.{IsRoomFor}
 use Rattle.compound.proofs.Changing.{HasThisRoom, is_up, tree_given}
 use Rattle.compound.proofs.Trees.{all_bad, append_bad, does_bad, here, is_on, values_bad}
 use Rattle.compound.proofs.VerdictLaws.{verdict_bad}
@@ -80,10 +79,10 @@ module _ (now : ℕ) (fs : FileSystem) (request : InProgress) (arguments : SetAt
   unfolding run
   on_tree world rest = refl
 
-  pub sized : (room : Bool) (reason : Status) → IsRoomFor request 34 (Done (was_set arguments)) room reason
-      → (state : State) → IsHere fs request state → HasThisRoom request 34 room reason (effect fs.volume.limits state now (Argument.SetAttr arguments))
+  pub sized : (room : Bool) → room ≡ nat_le (length (reply_with request (Done (was_set arguments)))) 16368
+      → (state : State) → IsHere fs request state → HasThisRoom request room (effect fs.volume.limits state now (Argument.SetAttr arguments))
   unfolding effect
-  sized room reason is state there = (was_set arguments, set_done (sets arguments) state now arguments, is)
+  sized room is state there = (was_set arguments, set_done (sets arguments) state now arguments, is)
 
   pub does_set : (new : FileSystem) (opens : Opens) (state : State) → IsHere fs request state → state.opens ≡ opens
       → does_on fs state now (Argument.SetAttr arguments) ≡ after_setting new.volume.tree new.changes state arguments
@@ -107,10 +106,10 @@ module _ (now : ℕ) (fs : FileSystem) (request : InProgress) (arguments : SetAt
   pub set_makes : (table : Table) (opens : Opens) (asked : Setting) → request.context.run ≡ fs.volume.run
       → has_current request.context ≡ true → current_number request.context ≡ asked.number
       → ((state : State) → IsHere fs request state → state.opens ≡ opens → IsSetting state asked arguments)
-      → (room : Bool) (reason : Status) → IsRoomFor request 34 (Done (was_set arguments)) room reason → room ≡ true
+      → (room : Bool) → room ≡ nat_le (length (reply_with request (Done (was_set arguments)))) 16368 → room ≡ true
       → (kept : Kept) (lasting : Bool) → OperationGives (shared fs table opens) request now (Argument.SetAttr arguments) kept lasting
       → SetsTree fs request.context.cred now asked kept lasting
-  set_makes table opens asked in_run has is setting room reason fits some kept lasting gives =
+  set_makes table opens asked in_run has is setting room fits some kept lasting gives =
       let state = state_of gives.world (with_rest request gives.rest) in
       let there = here gives.world fs table opens request gives.rest gives.has in
       record {
@@ -118,6 +117,6 @@ module _ (now : ℕ) (fs : FileSystem) (request : InProgress) (arguments : SetAt
         arguments = arguments;
         on = is_on fs request asked.number state in_run has is there;
         setting = setting state there gives.has.opens;
-        kept = gives.kept ∙ ap (with_tree fs.volume) (tree_given now fs request (Argument.SetAttr arguments) on_tree room reason (sized room reason fits) table opens gives.world gives.rest some gives.has);
+        kept = gives.kept ∙ ap (with_tree fs.volume) (tree_given now fs request (Argument.SetAttr arguments) on_tree room (sized room fits) table opens gives.world gives.rest some gives.has);
         quiet = λ none. gives.lasting_is ∙ quiet_ran gives.world (with_rest request gives.rest) arguments (run_in_room gives.world (with_rest request gives.rest) now (Argument.SetAttr arguments)) none;
       }

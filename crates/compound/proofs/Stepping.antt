@@ -3,13 +3,13 @@ use Rattle.std.proofs.Common.{◌≡◌, ◌+◌, ℕ, Bool, List, refl, sym, ap
 use Rattle.model.specs.Operations.Answer as model
 use Rattle.model.specs.Wire.Record.{framed}
 use Rattle.model.specs.Wire.Rpc.{Success, reply_text}
-use Rattle.model.specs.Sessions.Session.{Table, Settings}
+use Rattle.model.specs.Sessions.Session.{Table}
 use Rattle.model.specs.Server.World as world
 use Rattle.model.specs.Server.World.{World, InProgress, Turned, Replied, with_connection}
-use Rattle.compound.specs.Operates.{MayJoin, left_by_effect}
+use Rattle.compound.specs.Operates.{left_by_effect}
 use Rattle.compound.specs.Runs.{noted, with_rest}
 use Rattle.compound.specs.Views.{Asked}
-use Rattle.compound.specs.States.{SharedState, HasState, IsShortIn, with_state}
+use Rattle.compound.specs.States.{SharedState, HasState, with_state}
 use Rattle.compound.specs.Steps.{GoesFurther, RequestGoesOn, RequestSteps, stepped_on}
 use Rattle.compound.specs.Turns.{TurnsTo, ResultLeaves, repeated}
 use Rattle.compound.proofs.Rooms.{state_same}
@@ -27,7 +27,7 @@ left_rest effect.Saves altered request rest = refl
 left_rest effect.Restores altered request rest = refl
 left_rest (effect.Opens number state) altered request rest = refl
 left_rest effect.Closes altered request rest = refl
-left_rest (effect.Joins joined) altered request rest = refl
+left_rest (effect.Joins slot client) altered request rest = refl
 
 -- nor the results before it
 pub left_answered : (left : Effect) (request : InProgress) → (left_by_effect left request).answered ≡ request.answered
@@ -37,7 +37,7 @@ left_answered effect.Saves request = refl
 left_answered effect.Restores request = refl
 left_answered (effect.Opens number state) request = refl
 left_answered effect.Closes request = refl
-left_answered (effect.Joins joined) request = refl
+left_answered (effect.Joins slot client) request = refl
 
 -- nor whether it has ended, nor its run
 pub left_ended : (left : Effect) (request : InProgress) → (left_by_effect left request).ended ≡ request.ended
@@ -47,7 +47,7 @@ left_ended effect.Saves request = refl
 left_ended effect.Restores request = refl
 left_ended (effect.Opens number state) request = refl
 left_ended effect.Closes request = refl
-left_ended (effect.Joins joined) request = refl
+left_ended (effect.Joins slot client) request = refl
 
 pub left_run : (left : Effect) (request : InProgress) → (left_by_effect left request).context.run ≡ request.context.run
 left_run effect.Stays request = refl
@@ -56,17 +56,7 @@ left_run effect.Saves request = refl
 left_run effect.Restores request = refl
 left_run (effect.Opens number state) request = refl
 left_run effect.Closes request = refl
-left_run (effect.Joins joined) request = refl
-
--- the reply is short after it too, if seats hold each
-pub left_short : (settings : Settings) (left : Effect) (request : InProgress) → MayJoin settings request left → IsShortIn settings request.room → IsShortIn settings (left_by_effect left request).room
-left_short settings effect.Stays request may short = short
-left_short settings (effect.Moves number) request may short = short
-left_short settings effect.Saves request may short = short
-left_short settings effect.Restores request may short = short
-left_short settings (effect.Opens number state) request may short = short
-left_short settings effect.Closes request may short = short
-left_short settings (effect.Joins joined) request may short = may.1
+left_run (effect.Joins slot client) request = refl
 
 pub steps_to : (now : ℕ) (old middle : SharedState) (new : Table) (asked before : Asked) (request left after : InProgress) (outcome : model.Outcome) (done : Stepped)
     → TurnsTo now old middle request left outcome → before ≡ asked → after ≡ left → ResultLeaves middle.table new before after outcome done
@@ -97,16 +87,15 @@ further_as : (request left : InProgress) (done : Stepped) → left.answered ≡ 
 further_as request left (stepped.Ran progress) counts ends is = (sym ends ∙ is.0, is.1 ∙ ap (λ (n : ℕ). n + 1) counts)
 further_as request left (stepped.Answered reply) counts ends is = tt
 
-pub goes_on_as : (run : ℕ) (table : Table) (asked before : Asked) (request left after : InProgress) (done : Stepped) → before ≡ asked → after ≡ left
+pub goes_on_as : (run : ℕ) (asked before : Asked) (request left after : InProgress) (done : Stepped) → before ≡ asked → after ≡ left
     → left.context.run ≡ run → left.answered ≡ request.answered → left.ended ≡ request.ended
-    → RequestGoesOn after.context.run table before after done → RequestGoesOn run table asked request done
-goes_on_as run table asked before request left after done same is runs counts ends goes =
-    let at_left = subst (λ (one : InProgress). RequestGoesOn one.context.run table before one done) is goes in
-    let at_asked = subst (λ (one : Asked). RequestGoesOn left.context.run table one left done) same at_left in
-    let at_run = subst (λ (r : ℕ). RequestGoesOn r table asked left done) runs at_asked in
+    → RequestGoesOn after.context.run before after done → RequestGoesOn run asked request done
+goes_on_as run asked before request left after done same is runs counts ends goes =
+    let at_left = subst (λ (one : InProgress). RequestGoesOn one.context.run before one done) is goes in
+    let at_asked = subst (λ (one : Asked). RequestGoesOn left.context.run one left done) same at_left in
+    let at_run = subst (λ (r : ℕ). RequestGoesOn r asked left done) runs at_asked in
     record {
       stays = at_run.stays;
       further = further_as request left done counts ends at_run.further;
       fits = at_run.fits;
-      suits = at_run.suits;
     }

@@ -79,7 +79,7 @@ module _ {A : Type 0} (told : Table → A) (world : World) where
   room_stays : (request : InProgress) (operation : ℕ) (ran : HasRun) → RanStays ran → RanStays (in_room world request operation ran)
   room_stays request operation (Gives (Refused number reason) after left) stays = stays
   room_stays request operation (Gives (Done answer) after left) stays =
-      either RanStays (has_room world.limits.reply_bytes request operation (Done answer)) _ _ (λ has. stays) (λ none. refl)
+      either RanStays (has_room world request (Done answer)) _ _ (λ has. stays) (λ none. refl)
   room_stays request operation (Replays result session slot) stays = stays
 
 -- The seats
@@ -99,93 +99,93 @@ seats_after world request now operation leaves =
     room_stays (λ t. t.seats) world request (operation_of operation) (run world request now operation)
     (run_stays (λ t. t.seats) world (seat_calls world.table) request now operation leaves)
 
--- The run, and its settings
+-- The run
 
 abbrev SameRun : Table → Table → Type 0
-SameRun table new = (new.run ≡ table.run) × (new.settings ≡ table.settings)
+SameRun table new = new.run ≡ table.run
 
-record_run : (limits : SessionLimits) (uid : ℕ) (arguments : ExchangeIdArguments) (table cleared : Table) → SameRun table cleared → SameRun table (new_record limits uid arguments table cleared).1
+record_run : (limits : SessionLimits) (uid : ℕ) (arguments : ExchangeIdArguments) (table cleared : Table) → cleared.run ≡ table.run → SameRun table (new_record limits uid arguments table cleared).1
 record_run limits uid arguments table cleared same =
     let first = without_unconfirmed arguments.owner cleared in
-    either (λ (r : Result ExchangeIdAnswer Status × Table). SameRun table r.1) (is_full_of_clients limits (yielding limits first)) _ _ (λ full. (refl, refl))
+    either (λ (r : Result ExchangeIdAnswer Status × Table). SameRun table r.1) (is_full_of_clients limits (yielding limits first)) _ _ (λ full. refl)
     (λ room. yielding_is (SameRun table) limits first same (λ number. same))
 
 exchange_by_run : (limits : SessionLimits) (opens : ℕ → Bool) (uid : ℕ) (arguments : ExchangeIdArguments) (table : Table) (known : Option Client)
     → SameRun table (exchange_by limits opens uid arguments table known).1
-exchange_by_run limits opens uid arguments table None = record_run limits uid arguments table table (refl, refl)
+exchange_by_run limits opens uid arguments table None = record_run limits uid arguments table table refl
 exchange_by_run limits opens uid arguments table (Some client) =
     either (λ (r : Result ExchangeIdAnswer Status × Table). SameRun table r.1) (client.principal == uid) _ _
     (λ mine. either (λ (r : Result ExchangeIdAnswer Status × Table). SameRun table r.1) (bytes_eq client.verifier arguments.verifier) _ _
-    (λ same. (refl, refl)) (λ other. record_run limits uid arguments table table (refl, refl)))
+    (λ same. refl) (λ other. record_run limits uid arguments table table refl))
     (λ others. either (λ (r : Result ExchangeIdAnswer Status × Table). SameRun table r.1) (has_state opens table client.number) _ _
-    (λ has. (refl, refl)) (λ none. record_run limits uid arguments table (without_client client.number table) (refl, refl)))
+    (λ has. refl) (λ none. record_run limits uid arguments table (without_client client.number table) refl))
 
-pub exchange_run : (limits : SessionLimits) (opens : ℕ → Bool) (uid : ℕ) (arguments : ExchangeIdArguments) (table : Table) → SameRun table (exchange_id limits opens uid arguments table).1
+exchange_run : (limits : SessionLimits) (opens : ℕ → Bool) (uid : ℕ) (arguments : ExchangeIdArguments) (table : Table) → SameRun table (exchange_id limits opens uid arguments table).1
 unfolding exchange_id
 exchange_run limits opens uid arguments table =
     either (λ (r : Result ExchangeIdAnswer Status × Table). SameRun table r.1) (has_only exchange_flags arguments.flags) _ _
-    (λ may. exchange_by_run limits opens uid arguments table (find (is_confirmed_of arguments.owner) table.clients)) (λ not. (refl, refl))
+    (λ may. exchange_by_run limits opens uid arguments table (find (is_confirmed_of arguments.owner) table.clients)) (λ not. refl)
 
-pub destroy_client_run : (opens : ℕ → Bool) (number : ℕ) (table : Table) → SameRun table (destroy_client_id opens number table).1
+destroy_client_run : (opens : ℕ → Bool) (number : ℕ) (table : Table) → SameRun table (destroy_client_id opens number table).1
 unfolding destroy_client_id
 destroy_client_run opens number table = by_client (find (is_client number) table.clients)
   where
     by_client : (known : Option Client) → SameRun table (destroy_client_by opens number table known).1
-    by_client None = (refl, refl)
+    by_client None = refl
     by_client (Some client) =
-        either (λ (r : Option Status × Table). SameRun table r.1) (has_state opens table number) _ _ (λ has. (refl, refl)) (λ none. (refl, refl))
+        either (λ (r : Option Status × Table). SameRun table r.1) (has_state opens table number) _ _ (λ has. refl) (λ none. refl)
 
-pub reclaim_run : (number : ℕ) (table : Table) → SameRun table (reclaim_complete number table).1
+reclaim_run : (number : ℕ) (table : Table) → SameRun table (reclaim_complete number table).1
 unfolding reclaim_complete
 reclaim_run number table = by_client (find (is_client number) table.clients)
   where
     by_client : (known : Option Client) → SameRun table (reclaim_by number table known).1
-    by_client None = (refl, refl)
-    by_client (Some client) = either (λ (r : Option Status × Table). SameRun table r.1) client.has_reclaimed _ _ (λ has. (refl, refl)) (λ none. (refl, refl))
+    by_client None = refl
+    by_client (Some client) = either (λ (r : Option Status × Table). SameRun table r.1) client.has_reclaimed _ _ (λ has. refl) (λ none. refl)
 
 run_calls : (table : Table) → StayCalls (λ t. t.run) table
 unfolding started
 run_calls table = record {
-  exchanges = λ limits opens uid arguments. (exchange_run limits opens uid arguments table).0;
-  destroys_client = λ opens number. (destroy_client_run opens number table).0;
-  reclaims = λ number. (reclaim_run number table).0;
+  exchanges = λ limits opens uid arguments. exchange_run limits opens uid arguments table;
+  destroys_client = λ opens number. destroy_client_run opens number table;
+  reclaims = λ number. reclaim_run number table;
   starts = λ uid arguments. refl;
 }
 
 module _ (limits : SessionLimits) (arguments : CreateSessionArguments) (client : Client) (table : Table) where
   unless_run : (refusal : Option Status) → SameRun table (create_unless limits arguments client table refusal).table
-  unless_run (Some reason) = (refl, refl)
-  unless_run None = (refl, refl)
+  unless_run (Some reason) = refl
+  unless_run None = refl
 
   again_run : (kept : Option CreateSessionAnswer) → SameRun table (create_again limits arguments client table kept).table
   again_run None = unless_run (first_refusal (create_refusals limits arguments client table))
   again_run (Some answer) =
       either (λ (o : CreateSessionOutcome). SameRun table o.table) (next_number arguments.sequence == client.sequence) _ _
-      (λ same. (refl, refl)) (λ other. unless_run (first_refusal (create_refusals limits arguments client table)))
+      (λ same. refl) (λ other. unless_run (first_refusal (create_refusals limits arguments client table)))
 
-pub create_run : (limits : SessionLimits) (uid : ℕ) (arguments : CreateSessionArguments) (table : Table) → SameRun table (create_session limits uid arguments table).table
+create_run : (limits : SessionLimits) (uid : ℕ) (arguments : CreateSessionArguments) (table : Table) → SameRun table (create_session limits uid arguments table).table
 unfolding create_session
 create_run limits uid arguments table = by_client (find (is_client arguments.client) table.clients)
   where
     by_client : (known : Option Client) → SameRun table (create_by limits uid arguments table known).table
-    by_client None = (refl, refl)
+    by_client None = refl
     by_client (Some client) =
-        either (λ (o : CreateSessionOutcome). SameRun table o.table) (client.principal == uid) _ _ (λ mine. again_run limits arguments client table client.kept) (λ other. (refl, refl))
+        either (λ (o : CreateSessionOutcome). SameRun table o.table) (client.principal == uid) _ _ (λ mine. again_run limits arguments client table client.kept) (λ other. refl)
 
-pub destroy_run : (id : List ℕ) (table : Table) → SameRun table (destroy_session id table).1
+destroy_run : (id : List ℕ) (table : Table) → SameRun table (destroy_session id table).1
 unfolding destroy_session
 destroy_run id table = by_session (find (is_session id) table.sessions)
   where
     by_session : (known : Option Session) → SameRun table (destroy_by id table known).1
-    by_session None = either (λ (r : Option Status × Table). SameRun table r.1) (has_seat id table.seats) _ _ (λ has. (refl, refl)) (λ none. (refl, refl))
-    by_session (Some session) = either (λ (r : Option Status × Table). SameRun table r.1) (is_running session) _ _ (λ runs. (refl, refl)) (λ rests. (refl, refl))
+    by_session None = either (λ (r : Option Status × Table). SameRun table r.1) (has_seat id table.seats) _ _ (λ has. refl) (λ none. refl)
+    by_session (Some session) = either (λ (r : Option Status × Table). SameRun table r.1) (is_running session) _ _ (λ runs. refl) (λ rests. refl)
 
 run_keeps_run : (world : World) (request : InProgress) (now : ℕ) (operation : Argument) → (world_by world (run world request now operation)).table.run ≡ world.table.run
 unfolding run
 run_keeps_run world request now (Argument.CreateSession arguments) =
     created_stays (λ t. t.run) world request (create_session world.limits.sessions request.context.cred.uid arguments world.table) _
-    (create_run world.limits.sessions request.context.cred.uid arguments world.table).0
-run_keeps_run world request now (Argument.DestroySession id) = tabled_stays (λ t. t.run) world request _ _ _ (destroy_run id world.table).0
+    (create_run world.limits.sessions request.context.cred.uid arguments world.table)
+run_keeps_run world request now (Argument.DestroySession id) = tabled_stays (λ t. t.run) world request _ _ _ (destroy_run id world.table)
 run_keeps_run world request now operation = run_stays (λ t. t.run) world (run_calls world.table) request now operation refl
 
 pub run_after : (world : World) (request : InProgress) (now : ℕ) (operation : Argument)
@@ -197,7 +197,3 @@ run_after world request now operation =
 pub finish_run : (id : List ℕ) (place : ℕ) (holds : Bool) (reply : List ℕ) (table : Table) → (finish id place holds reply table).run ≡ table.run
 unfolding finish
 finish_run id place holds reply table = refl
-
-pub finish_settings : (id : List ℕ) (place : ℕ) (holds : Bool) (reply : List ℕ) (table : Table) → (finish id place holds reply table).settings ≡ table.settings
-unfolding finish
-finish_settings id place holds reply table = refl

@@ -1,5 +1,5 @@
 -- What a result leaves, whole or encoded.
-use Rattle.std.proofs.Common.{◌≡◌, ℕ, ◌+◌, ◌≤◌, Bool, true, false, not, ◌&&◌, if◌then◌else◌, List, [], ◌++◌, length, Option, Some, refl, sym, ap, ap₂, subst, ◌∙◌, arith, length-append}
+use Rattle.std.proofs.Common.{◌≡◌, ℕ, ◌+◌, ◌≤◌, Bool, true, false, not, ◌&&◌, if◌then◌else◌, List, [], ◌++◌, length, Option, Some, refl, sym, ap, ap₂, subst, ◌∙◌, arith, length-append, nat_le, leb-true}
 use Rattle.std.specs.Global.{Vec}
 use Rattle.std.specs.Int.{w32}
 use Rattle.xdr.specs.Forms.{counted}
@@ -24,9 +24,7 @@ use Rattle.compound.specs.declared.progress.Progress.{Progress}
 use Rattle.compound.specs.declared.step.Stepped.TheVariants as stepped
 use Rattle.compound.specs.declared.encoded_result.EncodedResult.{EncodedResult}
 use Rattle.compound.specs.declared.encoded_result.EncodedResult.TheVariants as encoded
-use Rattle.compound.specs.Rooms.{IsRoomFor, IsRoomOf, size_with}
 use Rattle.compound.proofs.Replies.{room_length, encoded_short, tag_brief}
-use Rattle.compound.proofs.Rooms.{room_by_size}
 use Rattle.compound.proofs.Resuming.{more_follow}
 
 -- its encoding is that of the definition
@@ -38,7 +36,7 @@ done_text answer = refl
 encoded_is : (operation : ℕ) (values : List ℕ) (answer : Answer) → EncodesAnswer operation values answer → encoded_text operation values ≡ outcome_text (Done answer)
 encoded_is operation values answer is = ap₂ encoded_text (sym is.number_is) (sym is.values_are) ∙ done_text answer
 
-pub encoded_length : (operation : ℕ) (values : List ℕ) → length (encoded_text operation values) ≡ 8 + length values
+encoded_length : (operation : ℕ) (values : List ℕ) → length (encoded_text operation values) ≡ 8 + length values
 encoded_length operation values = omega (
   arith,
   length-append (number w32 operation) (number w32 0 ++ values),
@@ -48,25 +46,28 @@ encoded_length operation values = omega (
 )
 
 -- how much room it needs
-pub room_encoded : (request : InProgress) (operation : ℕ) (values : List ℕ) (answer : Answer) → EncodesAnswer operation values answer
+room_encoded : (request : InProgress) (operation : ℕ) (values : List ℕ) (answer : Answer) → EncodesAnswer operation values answer
     → length (reply_with request (Done answer)) ≡ 32 + length (counted request.tag) + length request.results + (8 + length values)
 room_encoded request operation values answer is =
     omega (arith, room_length request (Done answer), ap length (encoded_is operation values answer is), encoded_length operation values)
 
--- the room is that of the answer, by its size
-pub room_for_encoded : (request : InProgress) (operation number : ℕ) (values : List ℕ) (answer : Answer) (size : ℕ) (room : Bool) (reason : Status) → EncodesAnswer operation values answer
-    → size ≡ length values → IsRoomOf request number (size_with request (8 + size)) room reason → IsRoomFor request number (Done answer) room reason
-room_for_encoded request operation number values answer size room reason is same has =
-    room_by_size request number (Done answer) (size_with request (8 + size)) room reason (omega (arith, room_encoded request operation values answer is, same)) has
+pub room_for_encoded : (request : InProgress) (operation : ℕ) (values : List ℕ) (answer : Answer) (size : ℕ) (room : Bool) → EncodesAnswer operation values answer
+    → size ≡ length values → room ≡ nat_le (32 + length (counted request.tag) + length request.results + (8 + size)) 16368
+    → room ≡ nat_le (length (reply_with request (Done answer))) 16368
+room_for_encoded request operation values answer size room is same has =
+    has ∙ (ap (λ (n : ℕ). nat_le (32 + length (counted request.tag) + length request.results + (8 + n)) 16368) same
+    ∙ ap (λ (n : ℕ). nat_le n 16368) (sym (room_encoded request operation values answer is)))
 
-pub has_room_for : (room : ℕ) (request : InProgress) (operation : ℕ) (values : List ℕ) (size : ℕ) → size ≡ length values
-    → size_with request (8 + size) ≤ room → HasRoomFor room request (encoded_text operation values)
-has_room_for room request operation values size same has = omega (arith, same, encoded_length operation values, has)
+pub has_room_for : (request : InProgress) (operation : ℕ) (values : List ℕ) (size : ℕ) → size ≡ length values
+    → nat_le (32 + length (counted request.tag) + length request.results + (8 + size)) 16368 ≡ true
+    → HasRoomFor request (encoded_text operation values)
+has_room_for request operation values size same has =
+    omega (arith, same, encoded_length operation values, leb-true (32 + length (counted request.tag) + length request.results + (8 + size)) 16368 has)
 
 -- the first result has room, if its values are few
-pub first_has_room : (room : ℕ) (request : InProgress) (operation : ℕ) (values : List ℕ) → length request.tag ≤ 255 → request.results ≡ [] → length values ≤ 4096 → 16368 ≤ room
-    → HasRoomFor room request (encoded_text operation values)
-first_has_room room request operation values short none few least =
+pub first_has_room : (request : InProgress) (operation : ℕ) (values : List ℕ) → length request.tag ≤ 255 → request.results ≡ [] → length values ≤ 4096
+    → HasRoomFor request (encoded_text operation values)
+first_has_room request operation values short none few =
     omega (arith, tag_brief request.tag short, ap length none, encoded_length operation values)
 
 pub first_encoded_room : (request : InProgress) (operation : ℕ) (values : List ℕ) (answer : Answer) → EncodesAnswer operation values answer → length request.tag ≤ 255 → request.results ≡ []
@@ -98,23 +99,23 @@ last_is request result outcome is =
 
 -- How long the reply is
 
-pub told_short : (room : ℕ) (request : InProgress) (result : EncodedResult) → CanBeAdded room request result
-    → 32 + length (counted request.tag) + length request.results ≤ room
-    → 32 + length (counted request.tag) + length request.results + length (text_of_result result) ≤ room + 12
-told_short room request (encoded.Whole outcome) can brief = encoded_short room request (outcome_view outcome.now) can brief
-told_short room request (encoded.Values operation values) can brief = omega (arith, can)
+pub told_short : (request : InProgress) (result : EncodedResult) → CanBeAdded request result
+    → 32 + length (counted request.tag) + length request.results ≤ 16368
+    → 32 + length (counted request.tag) + length request.results + length (text_of_result result) ≤ 16380
+told_short request (encoded.Whole outcome) can brief = encoded_short request (outcome_view outcome.now) can brief
+told_short request (encoded.Values operation values) can brief = omega (arith, can)
 
-pub ok_room : (room : ℕ) (request : InProgress) (result : EncodedResult) → CanBeAdded room request result → is_ok result ≡ true
-    → 32 + length (counted request.tag) + length request.results + length (text_of_result result) ≤ room
-ok_room room request (encoded.Whole outcome) can ok = by_outcome (outcome_view outcome.now) refl
+pub ok_room : (request : InProgress) (result : EncodedResult) → CanBeAdded request result → is_ok result ≡ true
+    → 32 + length (counted request.tag) + length request.results + length (text_of_result result) ≤ 16368
+ok_room request (encoded.Whole outcome) can ok = by_outcome (outcome_view outcome.now) refl
   where
-    by_outcome : (of : Outcome) → outcome_view outcome.now ≡ of → 32 + length (counted request.tag) + length request.results + length (outcome_text (outcome_view outcome.now)) ≤ room
-    by_outcome (Done answer) is = omega (arith, room_length request (outcome_view outcome.now), has)
+    by_outcome : (of : Outcome) → outcome_view outcome.now ≡ of → 32 + length (counted request.tag) + length request.results + length (outcome_text (outcome_view outcome.now)) ≤ 16368
+    by_outcome (Done answer) is = omega (arith, room_length request (outcome_view outcome.now), room)
       where
-        has : length (reply_with request (outcome_view outcome.now)) ≤ room
-        has = subst (λ (o : Outcome). length (reply_with request o) ≤ room) (sym is) (subst (HasRoom room request) is can.room)
+        room : length (reply_with request (outcome_view outcome.now)) ≤ 16368
+        room = subst (λ (o : Outcome). length (reply_with request o) ≤ 16368) (sym is) (subst (HasRoom request) is can.room)
     by_outcome (Refused n reason) is = let never : ⊥ = cc in absurd never
-ok_room room request (encoded.Values operation values) can ok = can
+ok_room request (encoded.Values operation values) can ok = can
 
 -- After an OK result that is not the last one the COMPOUND goes on
 
@@ -167,14 +168,14 @@ holds_told table asked request result outcome progress last holds pushed is = λ
 -- or the reply is there
 pub ends_told : (old new : Table) (asked : Asked) (request : InProgress) (result : EncodedResult) (outcome : Outcome) (reply : Vec ℕ) → (is_ok result && not (is_last request)) ≡ false
     → is_to_hold request old ≡ false
-    → reply.items ≡ framed (reply_text request.xid (Success (result_of (with_encoded request result) (status_of_result result))))
-    → new ≡ kept_by request.slot false (result_of (with_encoded request result) (status_of_result result)) old → Tells result outcome
+    → reply.items ≡ framed (reply_text request.xid (Success (result_of (with_last request result) (status_of_result result))))
+    → new ≡ kept_by request.slot false (result_of (with_last request result) (status_of_result result)) old → Tells result outcome
     → ResultLeaves old new asked request outcome (stepped.Answered reply)
 ends_told old new asked request result outcome reply last none reply_is kept is = λ world number executed here.
     let ended = behind_last world number request outcome executed (ap (λ (b : Bool). b && not (is_last request)) (sym (ok_is result outcome is)) ∙ last) in
     let made = closes_unseated world number (with_result request outcome) (status_of outcome) executed (ap (is_to_hold request) here ∙ none) in
-    let text : result_of (with_encoded request result) (status_of_result result) ≡ result_of (with_result request outcome) (status_of outcome) =
-    ap₂ result_of (request_is request result outcome is) (status_is result outcome is) in
+    let text : result_of (with_last request result) (status_of_result result) ≡ result_of (with_result request outcome) (status_of outcome) =
+    ap₂ result_of (last_is request result outcome is) (status_is result outcome is) in
     let turn = ended ∙ made in (
       ap (λ (t : Turned). t.turn) turn,
       ap (λ (t : Turned). t.world) turn

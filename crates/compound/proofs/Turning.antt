@@ -1,22 +1,17 @@
 -- A turn of a request, by what its next operation gave.
-use Rattle.std.proofs.Common.{◌≡◌, ℕ, Bool, true, false, ◌&&◌, ◌||◌, List, Option, Some, None, refl, sym, ap, ◌∙◌}
+use Rattle.std.proofs.Common.{◌≡◌, ℕ, Bool, true, false, ◌||◌, List, Option, Some, None, refl, sym, ap, ◌∙◌}
 use Rattle.layout.specs.Stands.{Kept}
 use Rattle.model.specs.Operations.Answer as model
-use Rattle.model.specs.Operations.Operation.{Argument, operation_of}
-use Rattle.model.specs.Server.Runs.{is_done}
+use Rattle.model.specs.Operations.Operation.{Argument}
 use Rattle.model_tree.specs.Seats.Seats.{Seats}
 use Rattle.model.specs.Sessions.Session.{Table, finish}
 use Rattle.model.specs.Server.World as turns
-use Rattle.model.specs.Server.World.{World, InProgress, HasRun, Entry, Turned, Refuses, Reads, next_operation, operates, further, has_run, noting, behind, closes, is_to_hold, kept_by, result_of, with_result, is_last, executed_entry, may_alter}
+use Rattle.model.specs.Server.World.{World, InProgress, HasRun, Entry, Turned, Refuses, Reads, next_operation, operates, further, has_run, noting, behind, closes, is_to_hold, kept_by, result_of, with_result, is_last, executed_entry}
 use Rattle.model_tree.specs.declared.status.Status.{Status}
 use Rattle.model_tree.specs.declared.status.Status.TheVariants as status
 use Rattle.wire.specs.OutcomeView.{outcome_view}
 use Rattle.compound.specs.Operates.{Operates, GivesIn, run_in_room, world_by, left_by_effect}
-use Rattle.wire.specs.declared.outcome.Outcome.{Outcome}
-use Rattle.wire.specs.declared.outcome.Outcome.TheVariants as outcomes
-use Rattle.compound.specs.Runs.{gives_done, makes_change, noted, with_rest}
-use Rattle.compound.specs.declared.executed.Effect.{Effect}
-use Rattle.compound.proofs.Altering.{change_done}
+use Rattle.compound.specs.Runs.{makes_change, noted, with_rest}
 use Rattle.compound.specs.States.{SharedState, with_state}
 use Rattle.compound.specs.Steps.{stepped_on}
 use Rattle.compound.specs.Turns.{TurnsExecuted, TurnsTo}
@@ -38,35 +33,25 @@ pub read_turn : (world : World) (number now : ℕ) (request : InProgress) (opera
 read_turn world number now request operation rest ran going next runs =
     goes_next world number now request going ∙ ap (operates world number now request) next ∙ ap (has_run world number (with_rest request rest) operation) runs
 
--- an operation that is done and may change the tree made the change that it made
 turns_to : (now : ℕ) (old new : SharedState) (request left : InProgress) (operation : Argument) (rest : List ℕ) (altered : Bool) (outcome : model.Outcome) → request.ended ≡ None
-    → next_operation request ≡ Reads operation rest
-    → altered ≡ (makes_change old.files.changes new.files.changes operation && (may_alter (operation_of operation) && is_done outcome))
+    → next_operation request ≡ Reads operation rest → altered ≡ makes_change old.files.changes new.files.changes operation
     → GivesIn now old new request left operation outcome
     → TurnsTo now old new request (noted altered (with_rest left rest)) outcome
 turns_to now old new request left operation rest altered outcome going next is ran = λ world number served.
     let executed : Option Entry = Some (executed_entry world (with_rest request rest) operation outcome (with_state world new)) in
     let same : makes_change world.changes new.files.changes operation ≡ altered =
-    sym (change_done world (with_rest request rest) now operation outcome (with_state world new) (with_rest left rest) (ran world rest served))
-    ∙ (ap (λ (before : ℕ). makes_change before new.files.changes operation && (may_alter (operation_of operation) && is_done outcome)) served.changes ∙ sym is) in (
+    ap (λ (before : ℕ). makes_change before new.files.changes operation) served.changes ∙ sym is in (
       executed,
       read_turn world number now request operation rest _ going next (ran world rest served)
           ∙ ap (λ (a : Bool). behind (with_state world new) number (noted a (with_rest left rest)) outcome executed) same,
     )
 
--- by what was executed
-done_as : (outcome : Outcome) (left : Effect) → gives_done (execution.Gives outcome left) ≡ is_done (outcome_view outcome)
-done_as (outcomes.Done answer) left = refl
-done_as (outcomes.Refused operation reason) left = refl
-
 pub turns_read : (now : ℕ) (old new : SharedState) (request : InProgress) (operation : Argument) (rest : List ℕ) (altered : Bool) (done : Executed) → request.ended ≡ None
-    → next_operation request ≡ Reads operation rest
-    → altered ≡ (makes_change old.files.changes new.files.changes operation && (may_alter (operation_of operation) && gives_done done))
+    → next_operation request ≡ Reads operation rest → altered ≡ makes_change old.files.changes new.files.changes operation
     → Operates now old new request operation done → TurnsExecuted now old new request rest altered done
 turns_read now old new request operation rest altered (execution.Gives outcome left) going next is ran =
-    turns_to now old new request (left_by_effect left request) operation rest altered (outcome_view outcome) going next
-    (is ∙ ap (λ (b : Bool). makes_change old.files.changes new.files.changes operation && (may_alter (operation_of operation) && b)) (done_as outcome left)) ran
-turns_read now old new request operation rest altered (execution.GivesValues kind values larger) going next is ran = (
+    turns_to now old new request (left_by_effect left request) operation rest altered (outcome_view outcome) going next is ran
+turns_read now old new request operation rest altered (execution.GivesValues kind values) going next is ran = (
   ran.0,
   ran.1,
   turns_to now old new request request operation rest altered (model.Done ran.0) going next is ran.2,
@@ -105,12 +90,6 @@ kept_seats : (slot : Option (List ℕ × ℕ)) (result : List ℕ) (table : Tabl
 unfolding finish
 kept_seats None result table = refl
 kept_seats (Some slot) result table = refl
-
--- the settings of the run stay
-pub kept_settings : (slot : Option (List ℕ × ℕ)) (holds : Bool) (result : List ℕ) (table : Table) → (kept_by slot holds result table).settings ≡ table.settings
-unfolding finish
-kept_settings None holds result table = refl
-kept_settings (Some slot) holds result table = refl
 
 closes_keeps : (world : World) (number : ℕ) (request : InProgress) (last : Status) (executed : Option Entry) → Keeps world (closes world number request last executed)
 closes_keeps world number request last executed =

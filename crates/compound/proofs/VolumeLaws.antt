@@ -1,5 +1,5 @@
 -- What operations and turns do to a file system, by the definition.
-use Rattle.std.proofs.Common.{◌≡◌, ℕ, Bool, true, false, ◌&&◌, ◌||◌, List, Option, Some, None, Result, Ok, Err, refl, sym, ap, ◌∙◌, inl, inr}
+use Rattle.std.proofs.Common.{◌≡◌, ℕ, Bool, true, false, ◌&&◌, ◌||◌, List, length, nat_le, Option, Some, None, Result, Ok, Err, refl, sym, ap, ◌∙◌, inl, inr}
 use Rattle.std.specs.Result.{IsErrAnd}
 use Rattle.layout.specs.Stands.{Kept}
 use Rattle.volume.specs.Changes.{Given, Ending, Done}
@@ -22,7 +22,6 @@ use Rattle.model_tree.specs.declared.status.Status.{Status}
 use Rattle.model_tree.specs.declared.status.Status.TheVariants as status
 use Rattle.fs.specs.Operations.{MakesTree, new_directory}
 use Rattle.compound.specs.Operates.{GivesIn, run_in_room, tree_by, world_by}
-use Rattle.compound.specs.Rooms.{IsRoomFor}
 use Rattle.compound.specs.Runs.{with_rest}
 use Rattle.compound.specs.States.{SharedState, HasState, shared}
 use Rattle.compound.specs.Steps.{stepped_on}
@@ -178,15 +177,15 @@ other_changes keeps_word state failed request now kind up =
     (λ after lasting gives. gives.lasting_is ∙ other_quiet gives.world (with_rest request gives.rest) now kind)
 
 -- CREATE of a directory, if the reply has room for its result, is that of the file system
-pub made_gives : (reason : Status) (fs : FileSystem) (table : Table) (opens : Opens) (request : InProgress) (now parent : ℕ) (name : List ℕ) (given : Attributes) → request.context.run ≡ fs.volume.run
+pub made_gives : (fs : FileSystem) (table : Table) (opens : Opens) (request : InProgress) (now parent : ℕ) (name : List ℕ) (given : Attributes) → request.context.run ≡ fs.volume.run
     → has_current request.context ≡ true → current_number request.context ≡ parent
-    → IsRoomFor request 6 (model.Done (made_answer 0 0 (trimmed given.bitmap))) true reason
+    → true ≡ nat_le (length (reply_with request (model.Done (made_answer 0 0 (trimmed given.bitmap))))) 16368
     → (after : Kept) (lasting : Bool) → OperationGives (shared fs table opens) request now (new_directory name given) after lasting
     → MakesTree fs request.context.cred parent now (new_directory name given) after lasting
-made_gives reason fs table opens request now parent name given in_run has is room after lasting gives = record {
+made_gives fs table opens request now parent name given in_run has is room after lasting gives = record {
   state = state_of gives.world (with_rest request gives.rest);
   on = is_on fs request parent _ in_run has is (here gives.world fs table opens request gives.rest gives.has);
-  kept = gives.kept ∙ ap (with_tree fs.volume) (tree_made now fs table opens request name given reason gives.world gives.rest gives.has room);
+  kept = gives.kept ∙ ap (with_tree fs.volume) (tree_made now fs table opens request name given gives.world gives.rest gives.has room);
 }
 
 -- an operation that leaves the file system as it is

@@ -1,5 +1,5 @@
 -- What a WRITE and a COMMIT come to.
-use Rattle.std.proofs.Common.{◌≡◌, ◌+◌, ℕ, Bool, true, false, not, List, ◌∷◌, ◌++◌, length, Option, Some, None, Err, Result, refl, sym, ap, ◌∙◌, arith, length-append}
+use Rattle.std.proofs.Common.{◌≡◌, ◌+◌, ℕ, Bool, true, false, not, List, ◌∷◌, ◌++◌, length, nat_le, Option, Some, None, Err, Result, refl, sym, ap, ◌∙◌, arith, length-append}
 use Rattle.std.specs.Int.{w64, to_be_bytes}
 use Rattle.xdr.specs.Forms.{padded, padding}
 use Rattle.xdr.specs.Grammar.{number}
@@ -33,9 +33,8 @@ use Rattle.compound.specs.Runs.{with_rest}
 use Rattle.compound.specs.States.{shared}
 use Rattle.compound.specs.Trees.{IsHere, IsUp}
 use Rattle.compound.specs.Volumes.{OperationGives, lasts, entry_by}
-use Rattle.compound.specs.Rooms.{IsRoomFor}
-use Rattle.compound.proofs.Changing.{HasThisRoom, is_up, ran_given, tree_given}
-use Rattle.compound.proofs.Rooms.{same_room, state_same}
+use Rattle.compound.proofs.Changing.{HasThisRoom, is_up, ran_given, same_room, tree_given}
+use Rattle.compound.proofs.Rooms.{state_same}
 use Rattle.compound.proofs.Trees.{append_bad, does_bad, here, is_on}
 use Rattle.compound.proofs.VerdictLaws.{verdict_bad}
 use Rattle.volume.specs.VolumeState.{kept_of, with_tree}
@@ -52,18 +51,18 @@ committed_length : (of : ℕ) → length (outcome_text (Done (committed_answer o
 unfolding outcome_text
 committed_length of = simp (length-append, length-number_32, verifier_length) (omega arith)
 
-pub written_room : (request : InProgress) (of stable count : ℕ) (room : Bool) (reason : Status)
-    → IsRoomFor request 38 (Done (written_answer 0 0 0)) room reason
-    → IsRoomFor request 38 (Done (written_answer of stable count)) room reason
-written_room request of stable count room reason is =
-    same_room request 38 (Done (written_answer 0 0 0)) (Done (written_answer of stable count)) room reason
+pub written_room : (request : InProgress) (of stable count : ℕ) (room : Bool)
+    → room ≡ nat_le (length (reply_with request (Done (written_answer 0 0 0)))) 16368
+    → room ≡ nat_le (length (reply_with request (Done (written_answer of stable count)))) 16368
+written_room request of stable count room is =
+    same_room request (written_answer 0 0 0) (written_answer of stable count) room
     (omega (arith, written_length 0 0 0, written_length of stable count)) is
 
-pub committed_room : (request : InProgress) (of : ℕ) (room : Bool) (reason : Status)
-    → IsRoomFor request 5 (Done (committed_answer 0)) room reason
-    → IsRoomFor request 5 (Done (committed_answer of)) room reason
-committed_room request of room reason is =
-    same_room request 5 (Done (committed_answer 0)) (Done (committed_answer of)) room reason (omega (arith, committed_length 0, committed_length of)) is
+pub committed_room : (request : InProgress) (of : ℕ) (room : Bool)
+    → room ≡ nat_le (length (reply_with request (Done (committed_answer 0)))) 16368
+    → room ≡ nat_le (length (reply_with request (Done (committed_answer of)))) 16368
+committed_room request of room is =
+    same_room request (committed_answer 0) (committed_answer of) room (omega (arith, committed_length 0, committed_length of)) is
 
 -- Each refusal has a status that is not OK
 
@@ -117,12 +116,12 @@ module _ (now : ℕ) (fs : FileSystem) (request : InProgress) (arguments : Write
   unfolding run
   write_on_tree world rest = refl
 
-  pub write_sized : (room : Bool) (reason : Status) → IsRoomFor request 38 (Done (written_answer 0 0 0)) room reason
-      → (state : State) → IsHere fs request state → HasThisRoom request 38 room reason (effect fs.volume.limits state now (Argument.Write arguments))
+  pub write_sized : (room : Bool) → room ≡ nat_le (length (reply_with request (Done (written_answer 0 0 0)))) 16368
+      → (state : State) → IsHere fs request state → HasThisRoom request room (effect fs.volume.limits state now (Argument.Write arguments))
   unfolding effect
-  write_sized room reason is state there =
+  write_sized room is state there =
       let done = write_done (has_bytes arguments) fs.volume.limits state now arguments in
-      (written_answer state.context.run arguments.stable done.0, done.1, written_room request state.context.run arguments.stable done.0 room reason is)
+      (written_answer state.context.run arguments.stable done.0, done.1, written_room request state.context.run arguments.stable done.0 room is)
 
   pub does_write : (new : FileSystem) (opens : Opens) (count : ℕ) (state : State) → IsHere fs request state → state.opens ≡ opens
       → does_on fs state now (Argument.Write arguments) ≡ after_write new.volume.tree new.changes state arguments count
@@ -142,19 +141,19 @@ module _ (now : ℕ) (fs : FileSystem) (request : InProgress) (arguments : Write
   pub write_makes : (table : Table) (opens : Opens) (number : ℕ) (verdict : Result (Unit {0}) Status) (asked : Writing) → request.context.run ≡ fs.volume.run
       → has_current request.context ≡ true → current_number request.context ≡ number
       → ((state : State) → IsHere fs request state → state.opens ≡ opens → IsWriting state verdict asked arguments)
-      → (room : Bool) (reason : Status) → IsRoomFor request 38 (Done (written_answer 0 0 0)) room reason → room ≡ true
+      → (room : Bool) → room ≡ nat_le (length (reply_with request (Done (written_answer 0 0 0)))) 16368 → room ≡ true
       → (kept : Kept) (lasting : Bool) → OperationGives (shared fs table opens) request now (Argument.Write arguments) kept lasting
       → WritesTree fs request.context.cred number now verdict asked kept lasting
-  write_makes table opens number verdict asked in_run has is writing room reason fits some kept lasting gives =
+  write_makes table opens number verdict asked in_run has is writing room fits some kept lasting gives =
       let state = state_of gives.world (with_rest request gives.rest) in
       let there = here gives.world fs table opens request gives.rest gives.has in
-      let ran = ran_given now fs request (Argument.Write arguments) write_on_tree room reason (write_sized room reason fits) table opens gives.world gives.rest some gives.has in
+      let ran = ran_given now fs request (Argument.Write arguments) write_on_tree room (write_sized room fits) table opens gives.world gives.rest some gives.has in
       record {
         state = state;
         arguments = arguments;
         on = is_on fs request number state in_run has is there;
         writing = writing state there gives.has.opens;
-        kept = gives.kept ∙ ap (with_tree fs.volume) (tree_given now fs request (Argument.Write arguments) write_on_tree room reason (write_sized room reason fits) table opens gives.world gives.rest some gives.has);
+        kept = gives.kept ∙ ap (with_tree fs.volume) (tree_given now fs request (Argument.Write arguments) write_on_tree room (write_sized room fits) table opens gives.world gives.rest some gives.has);
         lasting_is = gives.lasting_is ∙ ap (λ (r : HasRun). lasts (entry_by gives.world (with_rest request gives.rest) (Argument.Write arguments) r)) ran;
       }
 
@@ -164,10 +163,10 @@ module _ (now : ℕ) (fs : FileSystem) (request : InProgress) (arguments : Commi
   unfolding run
   commit_on_tree world rest = refl
 
-  pub commit_sized : (room : Bool) (reason : Status) → IsRoomFor request 5 (Done (committed_answer 0)) room reason
-      → (state : State) → IsHere fs request state → HasThisRoom request 5 room reason (effect fs.volume.limits state now (Argument.Commit arguments))
+  pub commit_sized : (room : Bool) → room ≡ nat_le (length (reply_with request (Done (committed_answer 0)))) 16368
+      → (state : State) → IsHere fs request state → HasThisRoom request room (effect fs.volume.limits state now (Argument.Commit arguments))
   unfolding effect
-  commit_sized room reason is state there = (committed_answer state.context.run, refl, committed_room request state.context.run room reason is)
+  commit_sized room is state there = (committed_answer state.context.run, refl, committed_room request state.context.run room is)
 
   pub does_commit : (new : FileSystem) (opens : Opens) (state : State) → IsHere fs request state → state.opens ≡ opens
       → does_on fs state now (Argument.Commit arguments) ≡ answered (record state { tree = new.volume.tree; changes = new.changes }) (committed_answer state.context.run)
@@ -194,12 +193,12 @@ module _ (now : ℕ) (fs : FileSystem) (request : InProgress) (arguments : Commi
       unless_tree (Some reason) = refl
 
   pub commit_makes : (table : Table) (opens : Opens)
-      → (room : Bool) (reason : Status) → IsRoomFor request 5 (Done (committed_answer 0)) room reason → room ≡ true
+      → (room : Bool) → room ≡ nat_le (length (reply_with request (Done (committed_answer 0)))) 16368 → room ≡ true
       → (kept : Kept) (lasting : Bool) → OperationGives (shared fs table opens) request now (Argument.Commit arguments) kept lasting
       → kept ≡ kept_of fs.volume
-  commit_makes table opens room reason fits some kept lasting gives =
+  commit_makes table opens room fits some kept lasting gives =
       let there = here gives.world fs table opens request gives.rest gives.has in
-      gives.kept ∙ ap (with_tree fs.volume) (tree_given now fs request (Argument.Commit arguments) commit_on_tree room reason (commit_sized room reason fits) table opens gives.world gives.rest some gives.has
+      gives.kept ∙ ap (with_tree fs.volume) (tree_given now fs request (Argument.Commit arguments) commit_on_tree room (commit_sized room fits) table opens gives.world gives.rest some gives.has
       ∙ (kept_tree fs.volume.limits (state_of gives.world (with_rest request gives.rest)) ∙ there.tree_is))
 
 -- Without a current filehandle: the bytes of a WRITE are bytes, which the definition tests first

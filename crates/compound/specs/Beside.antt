@@ -1,31 +1,25 @@
 -- What the operations of a COMPOUND see of a file system, and of what is open beside it.
-use Rattle.std.specs.Prelude.{◌≡◌, ℕ, Bool, List, Some, Result, Ok, Err}
+use Rattle.std.specs.Prelude.{◌≡◌, ℕ, Bool, List, length, nat_le, Some, Result, Ok, Err}
 use Rattle.fs.specs.FileSystem.{FileSystem}
-use Rattle.fs.specs.Opening.{IsOpening, has_room_for, set_by}
+use Rattle.fs.specs.Opening.{has_room_for, set_by}
 use Rattle.fs.specs.declared.opening.OpenEffect.{OpenEffect}
 use Rattle.fs.specs.declared.opening.OpenRoom.{OpenRoom}
-use Rattle.fs.specs.Operations.{IsNotDone, IsOn, does_on}
-use Rattle.fs.specs.declared.fault.FsFault.TheVariants as faults
-use Rattle.fs.specs.declared.opening.Opening.{Opening}
-use Rattle.model_tree.specs.declared.acl.Cred.{Cred}
+use Rattle.fs.specs.Operations.{does_on}
 use Rattle.model.specs.Operations.Answer.{Answer, Done}
 use Rattle.model.specs.Operations.Context.{without_stateid}
 use Rattle.model.specs.Sessions.Opens.{Open, Opens}
 use Rattle.model.specs.Operations.Open.{at_opened, no_change_info}
-use Rattle.model.specs.Operations.Operation.{Argument, ChangeInfo, CloseArguments, OpenArguments, OpenType, StateId}
+use Rattle.model.specs.Operations.Operation.{Argument, ChangeInfo, CloseArguments, OpenType, StateId}
 use Rattle.model_tree.specs.Refusals.Refusal.{first_refusal}
 use Rattle.model.specs.Operations.Step.{State, answered, refused}
 use Rattle.model.specs.Sessions.StateIds.{Found, Names, close_refusals, closed_state, opened, without_open}
-use Rattle.model.specs.Operations.OperationNumber.{OP_OPEN}
-use Rattle.model.specs.Server.World.{InProgress, has_room, too_big}
+use Rattle.model.specs.Server.World.{InProgress, reply_with}
 use Rattle.model_tree.specs.declared.status.Status.{Status}
 use Rattle.opens.specs.Views.{opened_stateid}
 use Rattle.compound.specs.Operates.{RunsTo}
 use Rattle.compound.specs.States.{SharedState}
 use Rattle.compound.specs.Trees.{IsHere}
-use Rattle.compound.specs.Rooms.{IsRoom}
-use Rattle.compound.specs.declared.progress.TheConstants.{MAX_REPLY_BYTES}
-use Rattle.compound.specs.declared.room.Room.{Room}
+use Rattle.compound.specs.declared.results.TheConstants.{MAX_REPLY_BYTES}
 
 -- a state of the request on this file system, with these opens
 pub record IsBeside (fs : FileSystem) (opens : Opens) (request : InProgress) (state : State) : Type
@@ -70,30 +64,13 @@ opened_answer state change was_set =
 -- whether the reply has room for it, which depends only on what was set
 abbrev pub has_opened_room : InProgress → (was_set : List ℕ) → Bool
 has_opened_room request was_set =
-    has_room MAX_REPLY_BYTES request OP_OPEN
-    (Done (opened_answer closed_state no_change_info was_set))
-
-abbrev pub IsOpenedRoom : InProgress → (was_set : List ℕ) → Room → Type 0
-IsOpenedRoom request was_set =
-    IsRoom request OP_OPEN (Done (opened_answer closed_state no_change_info was_set))
-
-abbrev pub opened_too_big : InProgress → (was_set : List ℕ) → Status
-opened_too_big request was_set =
-    too_big MAX_REPLY_BYTES request OP_OPEN
-    (Done (opened_answer closed_state no_change_info was_set))
+    nat_le (length (reply_with request (Done (opened_answer closed_state no_change_info was_set))))
+    MAX_REPLY_BYTES
 
 -- and for each effect that an OPEN by a name may have
 abbrev pub HasOpenRoom : InProgress → OpenType → OpenRoom → Type 0
 HasOpenRoom request how room =
     (effect : OpenEffect) → has_room_for room effect ≡ has_opened_room request (set_by effect how)
-
--- what is asked of a file system by a name is refused so
-abbrev pub IsRefusedOpen : FileSystem → Cred → (moment : ℕ) → Opening → (is_full : Bool) → Status
-    → Type 0
-IsRefusedOpen fs cred moment asked is_full reason =
-    (state : State) (arguments : OpenArguments) → IsOn fs cred asked.directory state
-    → IsOpening fs state asked is_full arguments
-    → IsNotDone fs state moment (Argument.Open arguments) (faults.Status reason)
 
 -- an operation comes to this open, with this change of its directory and these attributes set
 abbrev pub ComesToOpen : (now : ℕ) → (old new : SharedState) → InProgress → (asked : Open)

@@ -37,12 +37,11 @@ abbrev pub CanBeEncoded : EncodedResult → Type 0
 CanBeEncoded (encoded.Whole outcome) = answers.outcome.Fits (outcome_view outcome.now)
 CanBeEncoded (encoded.Values operation values) = ⊤
 
--- a reply of this many bytes has room for it
-abbrev pub CanBeAdded : (room : ℕ) → InProgress → EncodedResult → Type 0
-CanBeAdded room request (encoded.Whole outcome) =
-    IsEncoded room request (outcome_view outcome.now)
-CanBeAdded room request (encoded.Values operation values) =
-    HasRoomFor room request (encoded_text (number_of operation) values.now)
+-- the reply has room for it
+abbrev pub CanBeAdded : InProgress → EncodedResult → Type 0
+CanBeAdded request (encoded.Whole outcome) = IsEncoded request (outcome_view outcome.now)
+CanBeAdded request (encoded.Values operation values) =
+    HasRoomFor request (encoded_text (number_of operation) values.now)
 
 -- the request after it
 abbrev pub with_encoded : InProgress → EncodedResult → InProgress

@@ -5,11 +5,11 @@ use Rattle.fs.specs.Changes.{FsChanges}
 use Rattle.fs.specs.FileSystem.{FileSystem}
 use Rattle.fs.specs.Views.{fs_of, fs_failures, AltersFs}
 use Rattle.layout.specs.declared.versions.VersionNumber.{VersionNumber}
-use Rattle.model.specs.Operations.Operation.{Argument, operation_of}
+use Rattle.model.specs.Operations.Operation.{Argument}
 use Rattle.model.specs.Server.World.{InProgress}
 use Rattle.model.specs.Sessions.Opens.{Opens}
 use Rattle.model.specs.Sessions.Session.{Table}
-use Rattle.compound.specs.Operates.{Operates, ChangesTableIn, HasResult, IsAnswered, IsReplyKept, JoinsBy}
+use Rattle.compound.specs.Operates.{Operates, ChangesTableIn, HasResult, IsAnswered, IsReplyKept}
 use Rattle.compound.specs.States.{Agrees, SharedState, shared_of}
 use Rattle.compound.specs.Steps.{RequestGoesOn, RequestSteps, stepped_on}
 use Rattle.compound.specs.Views.{asked_of, in_progress_of}
@@ -41,7 +41,7 @@ pub record ChangesState (keeps_word : Type 0) (now : ℕ) (old new : SharedState
     (before after : ℕ) (request : InProgress) (operation : Argument)
     (result : Result Executed Fault) : Type 0 where
   pub gives : keeps_word → IfOk result (Operates now old new request operation)
-  pub answered : IfOk result (HasResult request (operation_of operation))
+  pub answered : IfOk result (HasResult request)
   pub table : new.table ≡ old.table
   pub opens : OnErr result (new.opens ≡ old.opens)
   pub volume : FsChanges keeps_word (OperationGives old request now operation) old.files new.files
@@ -54,15 +54,13 @@ pub record Changes {D : Type 0} {g : Ghosts D} (old new : Engine D g) (request :
       (fs_failures old.fs.now) (fs_failures new.fs.now) request operation result
 
 -- The same of any operation: one on the sessions may change the table and the seats, and a COMPOUND
--- that is a retry sends again a reply that is there. The settings of the run stay.
+-- that is a retry sends again a reply that is there.
 pub record RunsState (keeps_word : Type 0) (now : ℕ) (old new : SharedState)
     (before after : ℕ) (request : InProgress) (operation : Argument)
     (result : Result Executed Fault) : Type 0 where
   pub gives : keeps_word → IfOk result (Operates now old new request operation)
-  pub answered : IfOk result (IsAnswered request (operation_of operation))
+  pub answered : IfOk result (IsAnswered request)
   pub kept : IfOk result (IsReplyKept new.table)
-  pub joins : IfOk result (JoinsBy old.table.settings request)
-  pub settings : new.table.settings ≡ old.table.settings
   pub table : OnErr result (new.table ≡ old.table)
   pub opens : OnErr result (new.opens ≡ old.opens)
   pub volume : FsChanges keeps_word (RunGives old request now operation) old.files new.files
@@ -79,8 +77,7 @@ pub record Runs {D : Type 0} {g : Ghosts D} (old new : Engine D g) (request : In
 abbrev pub ChangesClients : VersionNumber → (old new : Table) → Opens → InProgress → Argument
     → Result Executed Fault → Type 0
 ChangesClients version old new opens request operation (Ok done) =
-    HasResult request (operation_of operation) done × (new.settings ≡ old.settings)
-    × ChangesTableIn version old new opens request operation done
+    HasResult request done × ChangesTableIn version old new opens request operation done
 ChangesClients version old new opens request operation (Err reason) =
     (reason ≡ Memory) × (new ≡ old)
 
@@ -89,10 +86,9 @@ pub record StepsTo {D : Type 0} {g : Ghosts D} (old new : Engine D g) (running :
     (result : Result Stepped StepError) : Type 0 where
   pub step : g.keeps_word → IfOk result (RequestSteps old.moment (state_in old) (state_in new)
       (asked_of running) (in_progress_of running))
-  pub goes_on : IfOk result (RequestGoesOn (files_in old).volume.run (state_in new).table
-      (asked_of running) (in_progress_of running))
+  pub goes_on : IfOk result (RequestGoesOn (files_in old).volume.run (asked_of running)
+      (in_progress_of running))
   pub back : IfErr result (λ failed. failed.progress ≡ running.progress)
-  pub settings : (state_in new).table.settings ≡ (state_in old).table.settings
   pub table : OnErr result ((state_in new).table ≡ (state_in old).table)
   pub opens : OnErr result ((state_in new).opens ≡ (state_in old).opens)
   pub volume : AltersFs old.fs.now new.fs.now (TurnGives (state_in old)

@@ -9,7 +9,6 @@ pub mod Operates
 pub mod Pages
 pub mod Profile
 pub mod Readings
-pub mod Rooms
 pub mod Runs
 pub mod States
 pub mod Steps

@@ -1,32 +1,17 @@
 -- What the next operation of a COMPOUND does to what it works on.
-use Rattle.std.specs.Prelude.{◌≡◌, ◌≤◌, true, ◌||◌, length, drop, Result, IfOk, OnErr}
+use Rattle.std.specs.Prelude.{◌≡◌, ◌≤◌, length, drop, Result, IfOk, OnErr}
 use Rattle.disk.specs.declared.device.Device.{Ghosts}
 use Rattle.fs.specs.Views.{AltersFs}
-use Rattle.model.specs.Sessions.Session.{Settings}
 use Rattle.compound.specs.Engines.{BorrowsSame, state_in}
-use Rattle.compound.specs.Operates.{IsAnsweredIn, IsReplyKept, JoinsBy}
-use Rattle.compound.specs.Rooms.{CanHold, room_by}
+use Rattle.compound.specs.Operates.{IsAnswered, IsReplyKept}
 use Rattle.compound.specs.Steps.{stepped_on}
 use Rattle.compound.specs.Turns.{TurnsExecuted}
-use Rattle.compound.specs.Views.{asked_of, in_progress_of, size_so_far}
+use Rattle.compound.specs.Views.{in_progress_of}
 use Rattle.compound.specs.Volumes.{TurnGives, ending}
 use Rattle.compound.specs.declared.engine.Engine.{Engine}
 use Rattle.compound.specs.declared.fault.Fault.{Fault}
-use Rattle.compound.specs.declared.progress.TheConstants.{MAX_REPLY_BYTES}
-use Rattle.compound.specs.declared.reply_memory.TheConstants.{SHORT_RESULT}
 use Rattle.compound.specs.declared.running.Running.{Running}
 use Rattle.compound.specs.declared.step.Ran.{Ran}
-
--- What it leaves on any device: the reply has room for its result, and memory. If it made a change
--- that has to last, so far the reply is short.
-pub record CanBeLeft (settings : Settings) (running : Running) (ran : Ran) : Type 0 where
-  pub answered : IsAnsweredIn
-      (room_by (running.progress.altered || ran.altered) running.progress.room)
-      (in_progress_of running) ran.done
-  pub memory : CanHold running.progress.memory ran.spare SHORT_RESULT
-  pub short : ran.altered ≡ true
-      → size_so_far (asked_of running) running.progress ≤ MAX_REPLY_BYTES
-  pub joins : JoinsBy settings (in_progress_of running) ran.done
 
 -- it ran, or was refused before it ran, and the COMPOUND has not changed yet
 pub record RunsNext {D : Type 0} {g : Ghosts D} (old new : Engine D g) (running : Running)
@@ -36,8 +21,7 @@ pub record RunsNext {D : Type 0} {g : Ghosts D} (old new : Engine D g) (running 
       (state_in new) (in_progress_of running)
       (drop ran.position running.compound.operations.now) ran.altered ran.done)
   pub within : IfOk result (λ ran. ran.position ≤ length running.compound.operations.now)
-  pub left : IfOk result (CanBeLeft (state_in old).table.settings running)
-  pub settings : (state_in new).table.settings ≡ (state_in old).table.settings
+  pub answered : IfOk result (λ ran. IsAnswered (in_progress_of running) ran.done)
   pub kept : IfOk result (λ ran. IsReplyKept (state_in new).table ran.done)
   pub table : OnErr result ((state_in new).table ≡ (state_in old).table)
   pub opens : OnErr result ((state_in new).opens ≡ (state_in old).opens)

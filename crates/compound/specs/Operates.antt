@@ -1,5 +1,5 @@
 -- One operation that was read, with the room that the reply has for its result, by the definition.
-use Rattle.std.specs.Prelude.{◌≡◌, ℕ, ◌≤◌, Bool, true, false, List, ◌++◌, length, Option, None, Some, ⊤}
+use Rattle.std.specs.Prelude.{◌≡◌, ℕ, ◌+◌, ◌≤◌, ◌<◌, ◌^◌, Bool, true, false, List, ◌++◌, length, Some, ⊤}
 use Rattle.std.specs.Int.{w32}
 use Rattle.fs.specs.FileSystem.{FileSystem}
 use Rattle.layout.specs.declared.versions.VersionNumber.{VersionNumber}
@@ -8,28 +8,26 @@ use Rattle.model.specs.Operations.Context.{at_node, saving, restored, without_st
 use Rattle.model.specs.Operations.Open.{at_opened}
 use Rattle.model.specs.Sessions.Opens.{Opens}
 use Rattle.model.specs.Operations.Operation.{Argument, operation_of}
-use Rattle.model.specs.Sessions.Session.{Table, Settings}
+use Rattle.model.specs.Sessions.Session.{Table}
 use Rattle.model_tree.specs.Trees.Tree.{Tree}
 use Rattle.model.specs.Wire.WireAnswers as answers
 use Rattle.model.specs.Server.World as turns
-use Rattle.model.specs.Server.World.{World, InProgress, HasRun, run, in_room, outcome_text, reply_with, room_for}
+use Rattle.model.specs.Server.World.{World, InProgress, HasRun, run, in_room, outcome_text, reply_with}
 use Rattle.session.specs.Views.{reply_kept}
 use Rattle.wire.specs.Numbers.{number_of}
 use Rattle.wire.specs.OutcomeView.{outcome_view}
 use Rattle.wire.specs.declared.outcome.Outcome.{Outcome}
 use Rattle.wire.specs.SmallViews.{state_view}
+use Rattle.xdr.specs.Forms.{counted}
 use Rattle.xdr.specs.Grammar.{number}
 use Rattle.compound.specs.Runs.{with_rest}
-use Rattle.compound.specs.Rooms.{IsLarger, size_with}
-use Rattle.compound.specs.States.{SharedState, HasState, IsShortIn, with_state, shared}
+use Rattle.compound.specs.States.{SharedState, HasState, with_state, shared}
 use Rattle.compound.specs.Views.{slot_of}
 use Rattle.compound.specs.declared.executed.Effect.{Effect}
 use Rattle.compound.specs.declared.executed.Effect.TheVariants as effect
 use Rattle.compound.specs.declared.executed.Executed.{Executed}
 use Rattle.compound.specs.declared.executed.Executed.TheVariants as execution
-use Rattle.compound.specs.declared.progress.TheConstants.{MAX_REPLY_BYTES}
-use Rattle.compound.specs.declared.reply_memory.ReplyMemory.{ReplyMemory}
-use Rattle.compound.specs.declared.reply_memory.TheConstants.{SHORT_RESULT}
+use Rattle.compound.specs.declared.results.TheConstants.{AROUND_RESULTS, MAX_REPLY_BYTES}
 
 abbrev pub left_by_effect : Effect → InProgress → InProgress
 left_by_effect effect.Stays request = request
@@ -40,18 +38,11 @@ left_by_effect effect.Restores request = record request { context = restored req
 left_by_effect (effect.Opens number state) request =
     record request { context = at_opened request.context number (state_view state) }
 left_by_effect effect.Closes request = record request { context = without_stateid request.context }
-left_by_effect (effect.Joins joined) request =
+left_by_effect (effect.Joins slot client) request =
     record request {
-      context = record request.context { client = joined.client };
-      slot = Some (slot_of joined.slot);
-      room = joined.room;
-      cached = joined.cached;
+      context = record request.context { client = client };
+      slot = Some (slot_of slot);
     }
-
--- it is none of a SEQUENCE: the slot and the room stay
-abbrev pub IsOwn : Effect → Type 0
-IsOwn (effect.Joins joined) = ⊥
-IsOwn _ = Unit {0}
 
 -- the operation runs, and its result is there if the reply has room for it
 abbrev pub run_in_room : World → InProgress → (now : ℕ) → Argument → HasRun
@@ -87,7 +78,7 @@ abbrev pub Operates : (now : ℕ) → (old new : SharedState) → InProgress →
     → Type 0
 Operates now old new request operation (execution.Gives outcome left) =
     GivesIn now old new request (left_by_effect left request) operation (outcome_view outcome)
-Operates now old new request operation (execution.GivesValues kind values larger) =
+Operates now old new request operation (execution.GivesValues kind values) =
     (answer : model.Answer) × EncodesAnswer (number_of kind) values.items answer
     × GivesIn now old new request request operation (model.Done answer)
 Operates now old new request operation (execution.Replays slot) =
@@ -133,88 +124,56 @@ world_by world (turns.Replays reply session slot) = world
 abbrev pub tree_by : World → HasRun → Tree
 tree_by world ran = (world_by world ran).tree
 
--- an OK result has room in the reply, of this many bytes, whatever follows the operation
-abbrev pub HasRoom : (room : ℕ) → InProgress → model.Outcome → Type 0
-HasRoom room request (model.Done answer) = length (reply_with request (model.Done answer)) ≤ room
-HasRoom room request (model.Refused operation reason) = ⊤
+-- an OK result has room in the reply, whatever follows the operation
+abbrev pub HasRoom : InProgress → model.Outcome → Type 0
+HasRoom request (model.Done answer) =
+    length (reply_with request (model.Done answer)) ≤ MAX_REPLY_BYTES
+HasRoom request (model.Refused operation reason) = ⊤
 
 -- the OK result of this answer, which is encoded in few bytes
 pub record IsShortOutcome (answer : model.Answer) (outcome : Outcome) : Type 0 where
   pub is : outcome_view outcome ≡ model.Done answer
   pub fits : answers.outcome.Fits (outcome_view outcome)
-  pub small : length (outcome_text (outcome_view outcome)) ≤ SHORT_RESULT
+  pub small : length (outcome_text (outcome_view outcome)) < 2 ^ 63
 
--- a reply of this many bytes has room for these bytes after the results so far
-abbrev pub HasRoomFor : (room : ℕ) → InProgress → (text : List ℕ) → Type 0
-HasRoomFor room request text = size_with request (length text) ≤ room
+-- a reply has room for these bytes after the results so far
+abbrev pub HasRoomFor : InProgress → (text : List ℕ) → Type 0
+HasRoomFor request text =
+    AROUND_RESULTS + length (counted request.tag) + length request.results + length text
+    ≤ MAX_REPLY_BYTES
 
 -- a result can be encoded, in few bytes
-pub record IsEncoded (most : ℕ) (request : InProgress) (outcome : model.Outcome) : Type 0 where
+pub record IsEncoded (request : InProgress) (outcome : model.Outcome) : Type 0 where
   pub fits : answers.outcome.Fits outcome
-  pub small : length (outcome_text outcome) ≤ SHORT_RESULT
-  pub room : HasRoom most request outcome
+  pub small : length (outcome_text outcome) < 2 ^ 63
+  pub room : HasRoom request outcome
 
--- the room for the result of the operation of this number
-abbrev pub room_of : InProgress → (operation : ℕ) → ℕ
-room_of request operation = room_for MAX_REPLY_BYTES request operation
-
--- an encoded result has room, and larger memory if it needs that
-pub record HasValues (most : ℕ) (request : InProgress) (text : List ℕ)
-    (grown : Option ReplyMemory) : Type 0 where
-  pub room : HasRoomFor most request text
-  pub larger : IsLarger (length request.results) (length text) grown
-
--- an operation that ran has a result of its own, and a reply of this many bytes has room for it
-abbrev pub HasResultIn : (room : ℕ) → InProgress → Executed → Type 0
-HasResultIn room request (execution.Gives outcome left) =
-    IsEncoded room request (outcome_view outcome) × IsOwn left
-HasResultIn room request (execution.GivesValues kind values larger) =
-    HasValues room request (encoded_text (number_of kind) values.items) larger
-HasResultIn room request (execution.Replays slot) = ⊥
-
--- by the number of the operation
-abbrev pub HasResult : InProgress → (operation : ℕ) → Executed → Type 0
-HasResult request operation = HasResultIn (room_of request operation) request
+-- an operation that ran has a result of its own, and the reply has room for it
+abbrev pub HasResult : InProgress → Executed → Type 0
+HasResult request (execution.Gives outcome left) = IsEncoded request (outcome_view outcome)
+HasResult request (execution.GivesValues kind values) =
+    HasRoomFor request (encoded_text (number_of kind) values.items)
+HasResult request (execution.Replays slot) = ⊥
 
 -- it only reads, and has a result
 pub record Reads (files : FileSystem) (request : InProgress) (operation : Argument)
     (done : Executed) : Type 0 where
-  pub answered : HasResult request (operation_of operation) done
+  pub answered : HasResult request done
   pub gives : OnlyReads files request operation done
 
 -- or its slot keeps the whole reply
-abbrev pub IsAnsweredIn : (room : ℕ) → InProgress → Executed → Type 0
-IsAnsweredIn room request (execution.Gives outcome left) =
-    IsEncoded room request (outcome_view outcome)
-IsAnsweredIn room request (execution.GivesValues kind values larger) =
-    HasValues room request (encoded_text (number_of kind) values.items) larger
-IsAnsweredIn room request (execution.Replays slot) = ⊤
-
-abbrev pub IsAnswered : InProgress → (operation : ℕ) → Executed → Type 0
-IsAnswered request operation = IsAnsweredIn (room_of request operation) request
-
--- a slot of a session runs a COMPOUND only from its first operation on, and the reply of that is
--- short if seats hold each
-abbrev pub MayJoin : Settings → InProgress → Effect → Type 0
-MayJoin settings request (effect.Joins joined) =
-    (request.answered ≡ 0) × IsShortIn settings joined.room
-MayJoin settings request _ = Unit {0}
-
-abbrev pub JoinsBy : Settings → InProgress → Executed → Type 0
-JoinsBy settings request (execution.Gives outcome left) = MayJoin settings request left
-JoinsBy settings request (execution.GivesValues kind values larger) = Unit {0}
-JoinsBy settings request (execution.Replays slot) = Unit {0}
+abbrev pub IsAnswered : InProgress → Executed → Type 0
+IsAnswered request (execution.Gives outcome left) = IsEncoded request (outcome_view outcome)
+IsAnswered request (execution.GivesValues kind values) =
+    HasRoomFor request (encoded_text (number_of kind) values.items)
+IsAnswered request (execution.Replays slot) = ⊤
 
 -- what is sent again is there
 abbrev pub IsReplyKept : Table → Executed → Type 0
 IsReplyKept table (execution.Gives outcome left) = Unit {0}
-IsReplyKept table (execution.GivesValues kind values larger) = Unit {0}
+IsReplyKept table (execution.GivesValues kind values) = Unit {0}
 IsReplyKept table (execution.Replays slot) =
     (reply : List ℕ) × (reply_kept slot.session slot.slot table ≡ Some reply)
-
--- a request before its first operation
-abbrev pub IsFirst : InProgress → Type 0
-IsFirst request = (request.answered ≡ 0) × (request.cached ≡ None)
 
 -- the operations that come only first in a COMPOUND
 abbrev pub comes_first : Argument → Bool

@@ -3,7 +3,7 @@ use Rattle.std.specs.Prelude.{ℕ}
 use Rattle.disk.specs.declared.device.Device.{Ghosts}
 use Rattle.fs.specs.FileSystem.{FileSystem}
 use Rattle.fs.specs.Views.{fs_of}
-use Rattle.model.specs.Operations.Operation.{Argument, operation_of}
+use Rattle.model.specs.Operations.Operation.{Argument}
 use Rattle.model.specs.Server.World.{InProgress}
 use Rattle.model.specs.Sessions.Opens.{Opens}
 use Rattle.compound.specs.Operates.{Reads, HasResult, ChangesTreeAndOpens}
@@ -24,6 +24,6 @@ ReadsAs reading = Reads (files_read reading) (request_read reading)
 -- the operation gives this, and changes only the opens
 pub record ChangesOpens {D : Type 0} {g : Ghosts D} (reading : Reading D g) (old new : Opens)
     (operation : Argument) (done : Executed) : Type 0 where
-  pub answered : HasResult (request_read reading) (operation_of operation) done
+  pub answered : HasResult (request_read reading) done
   pub gives : (now : ℕ) → ChangesTreeAndOpens (files_read reading) (files_read reading) old new now
       (request_read reading) operation done

@@ -1,12 +1,11 @@
 -- What all COMPOUNDs of a server work on: the file system, the clients and sessions, and what these
 -- have open.
-use Rattle.std.specs.Prelude.{ℕ, ◌≡◌, ◌≤◌, false, None}
+use Rattle.std.specs.Prelude.{ℕ, ◌≡◌, false}
 use Rattle.fs.specs.FileSystem.{FileSystem}
 use Rattle.fs.specs.Views.{fs_of}
 use Rattle.fs.specs.declared.fs.Fs.{Fs}
 use Rattle.model.specs.Sessions.Opens.{Opens}
-use Rattle.model.specs.declared.holding.Holding.TheVariants.{All}
-use Rattle.model.specs.Sessions.Session.{Table, Settings}
+use Rattle.model.specs.Sessions.Session.{Table}
 use Rattle.model.specs.Server.World.{World, InProgress}
 use Rattle.session.specs.Views.{table_of}
 use Rattle.session.specs.declared.table.Table as code
@@ -45,16 +44,6 @@ pub record HasState (world : World) (state : SharedState) : Type 0 where
 pub record Agrees (files : FileSystem) (table : Table) : Type 0 where
   pub run : table.run ≡ files.volume.run
   pub seats : table.seats ≡ files.volume.seats
-
--- if seats hold each reply, this room for one is as short as before a session
-abbrev pub IsShortIn : Settings → (room : ℕ) → Type 0
-IsShortIn settings room = settings.holding ≡ All → room ≤ most_reply_bytes
-
--- what a server keeps of each request that has begun: that, and that before its first operation it
--- asks for no cached reply
-pub record Suits (table : Table) (request : InProgress) : Type 0 where
-  pub short : IsShortIn table.settings request.room
-  pub first : request.answered ≡ 0 → request.cached ≡ None
 
 -- a file system that is up, in the run in which the request began
 pub record CanServe (files : FileSystem) (request : InProgress) : Type 0 where

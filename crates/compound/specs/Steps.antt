@@ -5,7 +5,7 @@ use Rattle.fs.specs.FileSystem.{FileSystem}
 use Rattle.model.specs.Server.World as world
 use Rattle.model.specs.Server.World.{World, Connection, Busy, Replied, Turn, Turned, InProgress, further, with_connection}
 use Rattle.model.specs.Sessions.Session.{Table}
-use Rattle.compound.specs.States.{Agrees, SharedState, HasState, Suits, with_state}
+use Rattle.compound.specs.States.{Agrees, SharedState, HasState, with_state}
 use Rattle.compound.specs.Views.{Asked, resumed, fits_operations}
 use Rattle.compound.specs.declared.step.Stepped.{Stepped}
 use Rattle.compound.specs.declared.step.Stepped.TheVariants as stepped
@@ -17,7 +17,6 @@ pub record CanRun (keeps_word : Type 0) (files : FileSystem) (table : Table)
   pub run : request.context.run ≡ files.volume.run
   pub more : request.ended ≡ None
   pub agrees : keeps_word → Agrees files table
-  pub suits : Suits table request
 
 -- a turn of the request
 abbrev pub stepped_on : World → (number now : ℕ) → InProgress → Turned
@@ -57,15 +56,9 @@ abbrev pub still_fits : Asked → Stepped → Bool
 still_fits asked (stepped.Ran progress) = fits_operations asked progress
 still_fits asked (stepped.Answered reply) = true
 
--- and suits the table after the step
-abbrev pub StillSuits : Table → Asked → Stepped → Type 0
-StillSuits table asked (stepped.Ran progress) = Suits table (resumed asked progress)
-StillSuits table asked (stepped.Answered reply) = Unit {0}
-
--- what a step leaves of a request, on any device, with this table
-pub record RequestGoesOn (run : ℕ) (table : Table) (asked : Asked) (request : InProgress)
-    (done : Stepped) : Type 0 where
+-- what a step leaves of a request, on any device
+pub record RequestGoesOn (run : ℕ) (asked : Asked) (request : InProgress) (done : Stepped)
+    : Type 0 where
   pub stays : StaysInRun run done
   pub further : GoesFurther request done
   pub fits : still_fits asked done ≡ true
-  pub suits : StillSuits table asked done

@@ -13,6 +13,7 @@ use Rattle.model.specs.Operations.Operation.{Argument, ChangeInfo, RenameArgumen
 use Rattle.model.specs.Operations.Step.{State, refused}
 use Rattle.model.specs.Server.World.{InProgress}
 use Rattle.model_tree.specs.declared.status.Status.{Status}
+use Rattle.model_tree.specs.declared.status.Status.TheVariants as status
 use Rattle.wire.specs.Short.{IsRefusal}
 use Rattle.wire.specs.declared.outcome.Outcome.TheVariants as outcomes
 use Rattle.compound.specs.declared.fault.Fault.{Fault}
@@ -64,13 +65,12 @@ abbrev pub refusal : (operation : ℕ) → Status → Executed
 refusal operation reason = execution.Gives (outcomes.Refused operation reason) effect.Stays
 
 -- what an operation comes to that its file system did not do
--- and whose refusal is this if its reply has no room
-abbrev pub fault_result : (operation : ℕ) → (too_big : Status) → FsFault → Result Executed Fault
-fault_result operation too_big (fault.Status reason) = Ok (refusal operation reason)
-fault_result operation too_big fault.NoRoom = Ok (refusal operation too_big)
-fault_result operation too_big fault.Memory = Err faults.Memory
-fault_result operation too_big fault.Device = Err faults.Device
-fault_result operation too_big fault.Down = Err faults.Device
+abbrev pub fault_result : (operation : ℕ) → FsFault → Result Executed Fault
+fault_result operation (fault.Status reason) = Ok (refusal operation reason)
+fault_result operation fault.NoRoom = Ok (refusal operation status.RepTooBig)
+fault_result operation fault.Memory = Err faults.Memory
+fault_result operation fault.Device = Err faults.Device
+fault_result operation fault.Down = Err faults.Device
 
 -- change values before and after
 abbrev pub change_answer : (before after : ℕ) → ChangeInfo

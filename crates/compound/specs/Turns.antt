@@ -2,7 +2,7 @@
 use Rattle.std.specs.Prelude.{◌≡◌, ℕ, Bool, true, false, List, Option, Some, None}
 use Rattle.model.specs.Operations.Answer as model
 use Rattle.model.specs.Wire.Record.{framed}
-use Rattle.model.specs.Wire.Rpc.{Success, compound_text, reply_text}
+use Rattle.model.specs.Wire.Rpc.{Success, reply_text}
 use Rattle.model_tree.specs.Seats.SeatEdits.{edited_all, edits_view}
 use Rattle.model.specs.Sessions.Session.{Table}
 use Rattle.model.specs.Server.World as turns
@@ -16,7 +16,6 @@ use Rattle.compound.specs.Runs.{noted, with_rest}
 use Rattle.compound.specs.Views.{Asked}
 use Rattle.compound.specs.States.{SharedState, HasState, with_state}
 use Rattle.compound.specs.Steps.{stepped_on, turn_of_step, connection_by}
-use Rattle.compound.specs.declared.ended.Ended.{Ended}
 use Rattle.compound.specs.declared.executed.Executed.{Executed}
 use Rattle.compound.specs.declared.executed.Executed.TheVariants as execution
 use Rattle.compound.specs.declared.step.Stepped.{Stepped}
@@ -52,7 +51,7 @@ abbrev pub TurnsExecuted : (now : ℕ) → (old new : SharedState) → InProgres
 TurnsExecuted now old new request rest altered (execution.Gives outcome left) =
     TurnsTo now old new request (noted altered (with_rest (left_by_effect left request) rest))
     (outcome_view outcome)
-TurnsExecuted now old new request rest altered (execution.GivesValues kind values larger) =
+TurnsExecuted now old new request rest altered (execution.GivesValues kind values) =
     (answer : model.Answer) × EncodesAnswer (number_of kind) values.items answer
     × TurnsTo now old new request (noted altered (with_rest request rest)) (model.Done answer)
 TurnsExecuted now old new request rest altered (execution.Replays slot) =
@@ -68,11 +67,6 @@ ResultLeaves old new asked request outcome done =
     → ((behind world number request outcome executed).turn ≡ turn_of_step done)
     × ((behind world number request outcome executed).world
     ≡ with_connection (with_table world new) number (connection_by asked done))
-
--- the whole result of one that has ended
-abbrev pub result_of_ended : Ended → List ℕ
-result_of_ended ended = compound_text ended.status ended.tag.bytes.now ended.progress.answered
-    ended.progress.memory.results.bytes
 
 -- the edits of the seats by which one holds the reply, or none
 abbrev pub AreOfReply : (slot : Option (List ℕ × ℕ)) → (result : List ℕ) → Table → Option SeatEdits

@@ -17,11 +17,7 @@ use Rattle.compound.specs.declared.progress.HandlePlace.{HandlePlace}
 use Rattle.compound.specs.declared.progress.SlotId.{SlotId}
 use Rattle.compound.specs.declared.next.Next.{Next}
 use Rattle.compound.specs.declared.next.Next.TheVariants as nexts
-use Rattle.model.specs.Sessions.Session.{Table}
-use Rattle.compound.specs.Rooms.{room_so_far}
-use Rattle.compound.specs.States.{Suits}
-use Rattle.compound.specs.declared.progress.TheConstants.{MAX_REPLY_BYTES, MAX_REFUSAL_BYTES}
-use Rattle.compound.specs.declared.room.TheConstants.{AROUND_RESULTS}
+use Rattle.compound.specs.declared.results.TheConstants.{AROUND_RESULTS, MAX_REPLY_BYTES, MAX_REFUSAL_BYTES}
 use Rattle.model_tree.specs.declared.status.Status.{Status}
 
 -- a filehandle, with the stateid that goes with it
@@ -60,11 +56,9 @@ resumed asked progress = record {
   count = asked.compound.count;
   rest = drop progress.position asked.compound.operations;
   answered = progress.answered;
-  results = progress.memory.results.bytes;
+  results = progress.results.bytes;
   context = context_of asked.cred progress;
   slot = option_map slot_of progress.slot;
-  room = progress.room;
-  cached = progress.cached;
   altered = progress.altered;
   ended = progress.ended;
 }
@@ -72,14 +66,14 @@ resumed asked progress = record {
 -- the bytes of its reply up to the end of the results so far
 abbrev pub size_so_far : Asked → Progress → ℕ
 size_so_far asked progress =
-    AROUND_RESULTS + length (counted asked.compound.tag) + length progress.memory.results.bytes
+    AROUND_RESULTS + length (counted asked.compound.tag) + length progress.results.bytes
 
--- Operations are left, and the reply has room for the results so far. Once the last result is
--- there, which a seat is to hold, they are short, and that one may be a refusal without room.
+-- Operations are left, and the reply has room for the results so far. Once the last result is there,
+-- that one may be a refusal without room.
 abbrev pub may_go_on : Asked → Progress → (ended : Option Status) → Bool
 may_go_on asked progress None =
     nat_lt progress.answered asked.compound.count
-    && nat_le (size_so_far asked progress) (room_so_far progress)
+    && nat_le (size_so_far asked progress) MAX_REPLY_BYTES
 may_go_on asked progress (Some last) =
     nat_le (size_so_far asked progress) (MAX_REPLY_BYTES + MAX_REFUSAL_BYTES)
 
@@ -92,12 +86,10 @@ fits_operations asked progress =
 -- no operation was done in this run of the server, of whichever COMPOUND
 pub record IsBegin (run : ℕ) (progress : Progress) : Type 0 where
   pub begun : (world : World) (asked : Asked) → world.run ≡ run
-      → world.limits.reply_bytes ≡ MAX_REPLY_BYTES
       → resumed asked progress ≡ in_progress world asked.xid asked.cred asked.compound
   pub run_is : progress.run ≡ run
   pub fit : (asked : Asked) → 0 < asked.compound.count → length asked.compound.tag ≤ 255
       → fits_operations asked progress ≡ true
-  pub suits : (table : Table) (asked : Asked) → Suits table (resumed asked progress)
 
 abbrev pub asked_of : Running → Asked
 asked_of running = asks running.xid running.cred.now (compound_view running.compound)

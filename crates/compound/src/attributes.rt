@@ -28,7 +28,7 @@ impl<D: Device> Reading<'_, '_, D> {
         match self.fs.attributes(running.cred, number, asked.as_slice()) {
             Ok(answer) => {
                 let values = encode(running.alloc, &answer)?;
-                running.settle_encoded(Operation::GetAttr, values)
+                Ok(running.settle_encoded(Operation::GetAttr, values))
             }
             Err(fault) => Ok(running.refuse(Operation::GetAttr, status_of(fault))),
         }

@@ -2,11 +2,10 @@
 
 ghost use Rattle.std.specs.Prelude.{◌≡◌, ◌≤◌, []};
 ghost use Rattle.compound.specs.Memory.{OrMemory};
-ghost use Rattle.compound.specs.declared.reply_memory.TheConstants.{RESULT_BUFFER};
+ghost use Rattle.compound.specs.declared.progress.TheConstants.{RESULT_BUFFER};
 
 use crate::fault::Fault;
-use crate::progress::{MAX_REPLY_BYTES, Progress};
-use crate::reply_memory::{MAX_AROUND_RESULTS, RESULT_BUFFER, ReplyMemory};
+use crate::progress::{Progress, RECORD_BUFFER, RESULT_BUFFER};
 use crate::running::Running;
 use model_tree::acl::Cred;
 use rpc::Compound;
@@ -18,29 +17,24 @@ impl Progress {
     ghost use Rattle.compound.specs.Memory.{OrMemory};
     ghost use Rattle.compound.specs.Views.{IsBegin};
 
-    /// Before the first operation, in this run of the server. Memory for a reply that a slot keeps
-    /// is allocated here, and that for the results only if `results_buffer`, which an earlier
-    /// COMPOUND left, has too little.
+    /// Before the first operation, in this run of the server. All memory for the reply is allocated
+    /// here, and that for the results only if `results_buffer`, which an earlier COMPOUND left, has
+    /// too little.
     pub fn begin(alloc: Global, run: u32, results_buffer: &mut Writer) -> Result<Progress, Fault>
         ensures { OrMemory result (IsBegin run) }
     {
-        let record = Writer::with_capacity(alloc, RESULT_BUFFER + MAX_AROUND_RESULTS)?;
+        let reply = Writer::with_capacity(alloc, RECORD_BUFFER)?;
         let results = take_memory(alloc, results_buffer)?;
         Ok(Progress {
             position: 0,
             answered: 0,
-            memory: ReplyMemory {
-                results,
-                record,
-                size: RESULT_BUFFER,
-            },
+            results,
+            reply,
             client: 0,
             run,
             current: None,
             saved: None,
             slot: None,
-            room: MAX_REPLY_BYTES,
-            cached: None,
             altered: false,
             ended: None,
         })

@@ -31,7 +31,6 @@ impl Running<'_> {
     ghost use Rattle.wire.specs.ArgumentViews.{exchange_id_view, create_session_view};
     ghost use Rattle.opens.specs.Views.{opens_of};
     ghost use Rattle.compound.specs.Engines.{ChangesClients, Runs, files_in, state_in};
-    ghost use Rattle.compound.specs.Operates.{IsFirst};
     ghost use Rattle.compound.specs.States.{CanSeat};
     ghost use Rattle.compound.specs.Views.{in_progress_of};
 
@@ -44,7 +43,7 @@ impl Running<'_> {
         opens: &Opens,
         arguments: &ExchangeIdArguments<'_>,
     ) -> Result<Executed, Fault>
-        requires first { IsFirst (in_progress_of self.now) }
+        requires first { (in_progress_of self.now).answered ≡ 0 }
         requires served { IsServed version }
         ensures { ChangesClients version (table_of table.old) (table_of table.new)
             (opens_of opens.now) (in_progress_of self.now)
@@ -70,7 +69,7 @@ impl Running<'_> {
         engine: &mut Engine<'_, D>,
         arguments: &CreateSessionArguments<'_>,
     ) -> Result<Executed, Fault>
-        requires first { IsFirst (in_progress_of self.now) }
+        requires first { (in_progress_of self.now).answered ≡ 0 }
         requires ready { CanSeat D.keeps_word (files_in engine.old) (state_in engine.old).table }
         ensures { Runs engine.old engine.new (in_progress_of self.now)
             (operations.Argument.CreateSession (create_session_view arguments.now)) result }
@@ -98,7 +97,7 @@ impl Running<'_> {
         engine: &mut Engine<'_, D>,
         id: &[u8; 16],
     ) -> Result<Executed, Fault>
-        requires first { IsFirst (in_progress_of self.now) }
+        requires first { (in_progress_of self.now).answered ≡ 0 }
         requires ready { CanSeat D.keeps_word (files_in engine.old) (state_in engine.old).table }
         ensures { Runs engine.old engine.new (in_progress_of self.now)
             (operations.Argument.DestroySession id.now) result }
@@ -122,7 +121,7 @@ impl Running<'_> {
         opens: &Opens,
         client: u64,
     ) -> Result<Executed, Fault>
-        requires first { IsFirst (in_progress_of self.now) }
+        requires first { (in_progress_of self.now).answered ≡ 0 }
         ensures { (version : Version) → ChangesClients version (table_of table.old)
             (table_of table.new) (opens_of opens.now) (in_progress_of self.now)
             (operations.Argument.DestroyClientId client) result }

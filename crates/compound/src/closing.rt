@@ -5,7 +5,7 @@ ghost use Rattle.compound.specs.Operates.{IsShortOutcome};
 
 use crate::executed::{Effect, Executed};
 use crate::reading::Reading;
-use crate::room::Room;
+use crate::results::MAX_REPLY_BYTES;
 use crate::running::Running;
 use disk::Device;
 use model_tree::status::Status;
@@ -38,9 +38,8 @@ impl<D: Device> Reading<'_, '_, D> {
             Ok(serial) => serial,
             Err(status) => return running.refuse(Operation::Close, status),
         };
-        let room = running.closed_room();
-        if !room.is_there {
-            return running.refuse(Operation::Close, room.too_big);
+        if !running.has_closed_room() {
+            return running.refuse(Operation::Close, Status::RepTooBig);
         }
         opens.close(serial);
         Executed::Gives {
@@ -61,11 +60,10 @@ impl<D: Device> Reading<'_, '_, D> {
 }
 
 impl Running<'_> {
-    ghost use Rattle.std.specs.Prelude.{◌≡◌};
+    ghost use Rattle.std.specs.Prelude.{◌≡◌, nat_le, length};
     ghost use Rattle.model.specs.Operations.Answer.{Done};
     ghost use Rattle.model.specs.Sessions.StateIds.{found};
-    ghost use Rattle.model.specs.Operations.OperationNumber.{OP_CLOSE};
-    ghost use Rattle.compound.specs.Rooms.{IsRoom};
+    ghost use Rattle.model.specs.Server.World.{reply_with};
     ghost use Rattle.opens.specs.Views.{opens_of};
     ghost use Rattle.wire.specs.SmallViews.{state_view};
     ghost use Rattle.compound.specs.Beside.{EndsOpen, closed_answer};
@@ -87,10 +85,11 @@ impl Running<'_> {
     }
 
     /// Whether the reply has room for the result of a CLOSE.
-    fn closed_room(&self) -> Room
-        ensures { IsRoom (in_progress_of self.now) OP_CLOSE (Done closed_answer) result }
+    fn has_closed_room(&self) -> bool
+        ensures { result ≡ nat_le
+            (length (reply_with (in_progress_of self.now) (Done closed_answer))) MAX_REPLY_BYTES }
     {
-        self.room(Operation::Close, &closed())
+        self.has_room(&closed())
     }
 }
 

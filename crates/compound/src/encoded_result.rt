@@ -103,7 +103,7 @@ fn write_prefix(w: &mut Writer, operation: Operation) -> Result<(), Refusal>
 }
 
 /// The bytes that were written, and others after them as they are.
-pub(crate) fn append(prefix: Writer, values: &[u8]) -> Writer
+fn append(prefix: Writer, values: &[u8]) -> Writer
     requires { length prefix.bytes + length values.now ≤ prefix.capacity }
     ensures bytes { result.bytes ≡ prefix.bytes ++ values.now }
     ensures capacity { prefix.capacity ≤ result.capacity }

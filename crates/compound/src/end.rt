@@ -1,7 +1,7 @@
-//! The end of a COMPOUND: its whole result, which the slot keeps if that is short and a seat may
-//! hold, and the reply's record.
+//! The end of a COMPOUND: its whole result, which the slot keeps and a seat may hold, and the
+//! reply's record.
 
-ghost use Rattle.std.specs.Prelude.{◌≡◌, ◌≤◌, true, Some, is_some, length};
+ghost use Rattle.std.specs.Prelude.{◌≡◌, ◌≤◌, Some, is_some, length};
 ghost use Rattle.std.specs.Option.{option_map};
 ghost use Rattle.model.specs.Wire.Rpc.{compound_text};
 ghost use Rattle.model.specs.Sessions.Session.{finish};
@@ -10,75 +10,26 @@ ghost use Rattle.rpc.specs.Views.{result_text};
 ghost use Rattle.session.specs.Views.{table_of};
 ghost use Rattle.compound.specs.Turns.{AreOfReply};
 ghost use Rattle.compound.specs.Views.{slot_of};
-ghost use Rattle.session.specs.declared.limits.TheConstants.{MAX_KEPT_BYTES};
-ghost use Rattle.compound.specs.declared.reply_memory.TheConstants.{RESULT_BUFFER};
+ghost use Rattle.compound.specs.declared.progress.TheConstants.{RESULT_BUFFER};
 
-use crate::ended::Ended;
 use crate::fault::Fault;
 use crate::held_replies::put_seats;
-use crate::progress::{Progress, SlotId};
-use crate::reply_memory::{BEFORE_RESULT, RESULT_BUFFER, ReplyMemory};
+use crate::progress::{BEFORE_RESULT, Progress, RESULT_BUFFER, SlotId};
 use crate::running::Running;
 use disk::Device;
 use fs::Fs;
 use model_tree::seat_edits::SeatEdits;
 use model_tree::status::Status;
 use rpc::{Compound, CompoundResult, Reply, Tag, write_reply};
-use session::{MAX_KEPT_BYTES, Table};
+use session::Table;
 use xdr::Writer;
 
-impl Ended<'_> {
-    ghost use Rattle.std.specs.Prelude.{◌≡◌, is_some};
-    ghost use Rattle.std.specs.Option.{option_map};
-    ghost use Rattle.model.specs.Wire.Record.{framed};
-    ghost use Rattle.model.specs.Wire.Rpc.{Success, reply_text};
-    ghost use Rattle.model.specs.Server.World.{kept_by};
-    ghost use Rattle.session.specs.Views.{table_of};
-    ghost use Rattle.compound.specs.Turns.{AreOfReply, result_of_ended};
-    ghost use Rattle.compound.specs.Views.{slot_of};
-
-    /// The reply's whole record. The slot keeps the result of the COMPOUND if that is short, and if
-    /// there are edits, a seat holds it by them. No memory is allocated, and what is left over goes
-    /// to `results_buffer`.
-    #[tactic(auto, using(crate::proofs::Replies::success_length, crate::proofs::Replies::framed_length))]
-    pub(crate) fn reply(self, table: &mut Table, results_buffer: &mut Writer) -> Vec<u8>
-        requires { AreOfReply (option_map slot_of self.progress.slot) (result_of_ended self)
-            (table_of table.old) self.edits }
-        ensures reply { result.items
-            ≡ framed (reply_text self.entry.xid (Success (result_of_ended self.entry))) }
-        ensures kept { table_of table.new ≡ kept_by (option_map slot_of self.entry.progress.slot)
-            (is_some self.entry.edits) (result_of_ended self.entry) (table_of table.old) }
-    {
-        let Ended {
-            xid,
-            tag,
-            progress,
-            status,
-            edits,
-        } = self;
-        let Progress {
-            answered,
-            memory: ReplyMemory {
-                results,
-                record,
-                ..
-            },
-            slot,
-            ..
-        } = progress;
-        let compound = result_of(status, tag, answered, results.as_slice());
-        let record = match write_reply(record, xid, &Reply::Compound(compound)) {
-            Ok(record) => record,
-            Err(_) => unreachable!(),
-        };
-        let kept = KeptResult {
-            bytes: &record[BEFORE_RESULT..],
-            edits,
-        };
-        let left = keep_by(table, slot, kept, results);
-        give_back(left, results_buffer);
-        record
-    }
+/// The status of the last result, and, if a seat is to hold the reply, what that makes of the
+/// seats.
+#[derive(Drop)]
+pub(crate) struct LastResult {
+    pub(crate) status: Status,
+    pub(crate) edits: Option<SeatEdits>,
 }
 
 impl Running<'_> {
@@ -94,6 +45,52 @@ impl Running<'_> {
     ghost use Rattle.compound.specs.Views.{in_progress_of};
     ghost use Rattle.compound.specs.Volumes.{IsSeated, HasSameTree, ending};
 
+    /// The reply's whole record, once the last result is there. The slot keeps the result of the
+    /// COMPOUND, and if there are edits, a seat holds it by them. No memory is allocated, and what
+    /// is left over goes to `results_buffer`.
+    #[tactic(auto, unfolding(crate::specs::Views::in_progress_of), using(crate::proofs::Replies::success_length, crate::proofs::Replies::framed_length))]
+    pub(crate) fn end(
+        self,
+        table: &mut Table,
+        last: LastResult,
+        results_buffer: &mut Writer,
+    ) -> Vec<u8>
+        requires { AreOfReply (in_progress_of self).slot
+            (result_of (in_progress_of self) last.status) (table_of table.old) last.edits }
+        ensures reply { result.items ≡ framed (reply_text (in_progress_of self.entry).xid
+            (Success (result_of (in_progress_of self.entry) last.status))) }
+        ensures kept { table_of table.new ≡ kept_by (in_progress_of self.entry).slot
+            (is_some last.edits) (result_of (in_progress_of self.entry) last.status)
+            (table_of table.old) }
+    {
+        let Running {
+            xid,
+            compound: Compound { tag, .. },
+            progress,
+            ..
+        } = self;
+        let Progress {
+            answered,
+            results,
+            reply,
+            slot,
+            ..
+        } = progress;
+        let LastResult { status, edits } = last;
+        let compound = result_of(status, tag, answered, results.as_slice());
+        let record = match write_reply(reply, xid, &Reply::Compound(compound)) {
+            Ok(record) => record,
+            Err(_) => unreachable!(),
+        };
+        let kept = KeptResult {
+            bytes: &record[BEFORE_RESULT..],
+            edits,
+        };
+        let left = keep_by(table, slot, kept, results);
+        give_back(left, results_buffer);
+        record
+    }
+
     /// A seat is to hold the reply, and does so on the volume: what that makes of the table's
     /// seats. There is nothing to hold if no slot keeps the reply.
     ///
@@ -105,8 +102,7 @@ impl Running<'_> {
         table: &Table,
         last: Status,
     ) -> Result<Option<SeatEdits>, Fault>
-        requires ready { CanSeat D.keeps_word (fs_of fs.old) (table_of table.now) }
-        requires ended { (in_progress_of self.now).ended ≡ Some last }
+        requires { CanSeat D.keeps_word (fs_of fs.old) (table_of table.now) }
         ensures some { IfOk result (λ edits.
             is_some edits ≡ is_some (in_progress_of self.now).slot) }
         ensures edits { IfOk result (AreOfReply (in_progress_of self.now).slot
@@ -134,7 +130,7 @@ impl Running<'_> {
     {
         let out = Writer::with_capacity(self.alloc, RESULT_BUFFER)?;
         let progress = &self.progress;
-        let results = progress.memory.results.as_slice();
+        let results = progress.results.as_slice();
         let compound = result_of(last, self.compound.tag, progress.answered, results);
         Ok(compound.write(out)?)
     }
@@ -153,13 +149,9 @@ impl Running<'_> {
             unreachable!();
         };
         let Running { xid, progress, .. } = self;
-        let ReplyMemory {
-            results,
-            record,
-            ..
-        } = progress.memory;
+        let Progress { results, reply, .. } = progress;
         *results_buffer = results;
-        match write_reply(record, xid, &Reply::Success(kept)) {
+        match write_reply(reply, xid, &Reply::Success(kept)) {
             Ok(reply) => reply,
             Err(_) => unreachable!(),
         }
@@ -184,7 +176,7 @@ fn result_of<'a>(status: Status, tag: Tag<'a>, count: u32, results: &'a [u8]) ->
 struct KeptResult<'a> {
     bytes: &'a [u8],
     edits: Option<SeatEdits>,
-    ghost short: { is_some edits ≡ true → length bytes.now ≤ MAX_KEPT_BYTES },
+    ghost short: { length bytes.now ≤ RESULT_BUFFER },
 }
 
 /// If a slot runs the COMPOUND it keeps the result, as `keep` says. What is left of the memory
@@ -208,8 +200,7 @@ fn keep_by(
 }
 
 /// The slot keeps the result, in this memory, and if there are edits a seat holds it by them. The
-/// memory of the reply before comes back. A result that is too long is not kept, and its memory is
-/// not used again, since that may be large.
+/// memory of the reply before comes back.
 #[tactic(auto, unfolding(model::specs::Sessions::Session::finish))]
 fn keep(table: &mut Table, id: &SlotId, kept: KeptResult<'_>, memory: Writer) -> Option<Vec<u8>>
     requires room { RESULT_BUFFER ≤ memory.capacity }
@@ -219,10 +210,6 @@ fn keep(table: &mut Table, id: &SlotId, kept: KeptResult<'_>, memory: Writer) ->
         kept.entry.bytes.now (table_of table.old) }
 {
     let KeptResult { bytes, edits } = kept;
-    if bytes.len() > MAX_KEPT_BYTES as usize {
-        table.finish_unkept(&id.session, id.slot);
-        return None;
-    }
     let bytes = copied(bytes, memory);
     match edits {
         Some(edits) => table.finish_held(&id.session, id.slot, bytes, edits),

@@ -1,7 +1,6 @@
 //! What an operation does.
 
-use crate::progress::{Joined, SlotId};
-use crate::reply_memory::ReplyMemory;
+use crate::progress::SlotId;
 use wire::{Operation, Outcome, StateId};
 
 /// What an operation leaves of its COMPOUND, beside the result.
@@ -19,8 +18,8 @@ pub enum Effect {
     Opens { number: u64, state: StateId },
     /// The current node keeps no stateid.
     Closes,
-    /// A slot of a session runs the COMPOUND.
-    Joins(Joined),
+    /// The slot runs the COMPOUND, of the session of this client.
+    Joins { slot: SlotId, client: u64 },
 }
 
 /// What an operation does.
@@ -31,12 +30,10 @@ pub enum Executed {
         outcome: Outcome<'static>,
         effect: Effect,
     },
-    /// An OK result, encoded: the values after its status. Nothing changes. It has larger memory
-    /// unless it is short, or fits what each COMPOUND begins with.
+    /// An OK result, encoded: the values after its status. Nothing changes.
     GivesValues {
         operation: Operation,
         values: Vec<u8>,
-        larger: Option<ReplyMemory>,
     },
     /// The COMPOUND is a retry: its whole result is the one that this slot keeps, which
     /// `Table::kept` gives.

@@ -108,7 +108,7 @@ impl<D: Device> Reading<'_, '_, D> {
         match self.fs.handle(number) {
             Ok(handle) => {
                 let values = encode(running.alloc, &handle)?;
-                running.settle_encoded(Operation::GetFh, values)
+                Ok(running.settle_encoded(Operation::GetFh, values))
             }
             Err(fault) => Ok(running.refuse(Operation::GetFh, status_of(fault))),
         }

@@ -1,7 +1,6 @@
 //! READDIR (RFC 8881, section 18.23).
 
-ghost use Rattle.std.specs.Prelude.{◌≡◌, ◌≤◌, All};
-ghost use Rattle.compound.specs.declared.listing.TheConstants.{MAX_PAGE_BYTES};
+ghost use Rattle.std.specs.Prelude.{◌≡◌, All};
 ghost use Rattle.fs.specs.Listing.{PageFits, list_arguments, page_view};
 ghost use Rattle.model.specs.Wire.WireAnswers.{read_dir_answer};
 ghost use Rattle.wire.specs.ArgumentViews.{read_dir_view};
@@ -15,22 +14,19 @@ use crate::fault::Fault;
 use crate::reading::Reading;
 use disk::Device;
 use fs::{Listing, Page};
-use model_tree::status::Status;
 use std::alloc::Global;
 use wire::{Operation, ReadDirArguments};
 use wire_attributes::ListedEntry;
 use xdr::{Refusal, Writer};
 
-/// The most bytes of a page on any volume.
-const MAX_PAGE_BYTES: usize = 65_536;
+/// The memory that is allocated for a page, in bytes: the size of the largest one.
+const PAGE_BYTES: usize = 8_192;
 
 impl<D: Device> Reading<'_, '_, D> {
     ghost use Rattle.model.specs.Operations.Operation as operations;
     ghost use Rattle.wire.specs.ArgumentViews.{read_dir_view};
     ghost use Rattle.compound.specs.Memory.{OrMemory};
     ghost use Rattle.compound.specs.Readings.{ReadsAs};
-    ghost use Rattle.std.specs.Prelude.{◌≤◌};
-    ghost use Rattle.compound.specs.declared.listing.TheConstants.{MAX_PAGE_BYTES};
 
     /// READDIR: a page of the current directory, of the entries after a cookie.
     pub(crate) fn read_dir(&self, arguments: &ReadDirArguments) -> Result<Executed, Fault>
@@ -47,21 +43,11 @@ impl<D: Device> Reading<'_, '_, D> {
             .read_dir(running.cred, listing(directory, arguments))
         {
             Ok(page) => {
-                let values = encode(running.alloc, self.page_bytes(arguments), &page)?;
-                running.settle_encoded(Operation::ReadDir, values)
+                let values = encode(running.alloc, &page)?;
+                Ok(running.settle_encoded(Operation::ReadDir, values))
             }
-            Err(fault) => running.tell_fault(Operation::ReadDir, fault, Status::RepTooBig),
+            Err(fault) => running.tell_fault(Operation::ReadDir, fault),
         }
-    }
-
-    /// The most bytes of the page that is asked for.
-    fn page_bytes(&self, arguments: &ReadDirArguments) -> usize
-        ensures { result ≤ MAX_PAGE_BYTES }
-    {
-        let limits = self.fs.limits();
-        (arguments.max_count as usize)
-            .min(limits.transfer_bytes)
-            .min(MAX_PAGE_BYTES)
     }
 }
 
@@ -80,14 +66,13 @@ fn listing(directory: u64, arguments: &ReadDirArguments) -> Listing<'_>
     }
 }
 
-/// The page as the result has it, in memory for this many bytes.
-fn encode(alloc: Global, page_bytes: usize, page: &Page<'_>) -> Result<Vec<u8>, Fault>
-    requires most { page_bytes ≤ MAX_PAGE_BYTES }
-    requires fits { PageFits page.now }
+/// The page as the result has it.
+fn encode(alloc: Global, page: &Page<'_>) -> Result<Vec<u8>, Fault>
+    requires { PageFits page.now }
     ensures { OrMemory result (λ values.
         values.items ≡ read_dir_answer.encoding (page_view page.now)) }
 {
-    let mut out = Writer::with_capacity(alloc, page_bytes)?;
+    let mut out = Writer::with_capacity(alloc, PAGE_BYTES)?;
     write_page(&mut out, page)?;
     Ok(out.into_vec())
 }

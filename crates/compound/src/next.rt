@@ -36,7 +36,7 @@ pub(crate) enum Next<'a> {
 }
 
 impl Running<'_> {
-    ghost use Rattle.std.specs.Prelude.{◌≡◌, ◌≤◌, ℕ, true, ◌&&◌, not, List, length, drop, Ok, IfOk};
+    ghost use Rattle.std.specs.Prelude.{◌≡◌, ◌≤◌, ℕ, ◌&&◌, not, List, length, drop, Ok, IfOk};
     ghost use Rattle.model.specs.Wire.Rpc.{is_empty};
     ghost use Rattle.model.specs.Server.Served.{looks_no_further};
     ghost use Rattle.wire.specs.ArgumentView.{argument_view};
@@ -47,8 +47,7 @@ impl Running<'_> {
     ghost use Rattle.model.specs.Wire.WireArguments.{arguments_at};
     ghost use Rattle.compound.specs.Memory.{OrMemory};
     ghost use Rattle.compound.specs.Runs.{noted, with_rest};
-    ghost use Rattle.compound.specs.Views.{in_progress_of, asked_of, next_view, refused_or, size_so_far, IsWithin};
-    ghost use Rattle.compound.specs.declared.progress.TheConstants.{MAX_REPLY_BYTES};
+    ghost use Rattle.compound.specs.Views.{in_progress_of, asked_of, next_view, refused_or, IsWithin};
 
     /// The next operation with its arguments, or why it is refused before it is run.
     ///
@@ -124,13 +123,10 @@ impl Running<'_> {
     /// made a change that has to last.
     #[tactic(auto, unfolding(crate::specs::Views::in_progress_of))]
     pub(crate) fn advance(&mut self, position: usize, altered: bool)
-        requires within { position ≤ length self.old.compound.operations.now }
-        requires short { altered ≡ true
-            → size_so_far (asked_of self.old) self.old.progress ≤ MAX_REPLY_BYTES }
+        requires { position ≤ length self.old.compound.operations.now }
         ensures asked { asked_of self.new ≡ asked_of self.old }
         ensures request { in_progress_of self.new ≡ noted altered (with_rest
             (in_progress_of self.old) (drop position self.old.compound.operations.now)) }
-        ensures memory { self.new.progress.memory ≡ self.old.progress.memory }
     {
         self.progress.position = position;
         self.progress.altered |= altered;

@@ -17,9 +17,7 @@ use crate::removing::change_info;
 use crate::running::Running;
 use crate::setting::was_set;
 use disk::Device;
-use fs::{FsFault, How, OpenEffect, OpenRoom, Opening};
-use model::not_done::NotDone;
-use model_tree::status::Status;
+use fs::{How, OpenEffect, OpenRoom, Opening};
 use wire::{Attributes, Bitmap, OpenArguments, OpenType, Operation};
 use wire_attributes::GivenAttributes;
 
@@ -39,15 +37,7 @@ pub(crate) struct NamedOpen<'a> {
 impl Running<'_> {
     ghost use Rattle.model.specs.Operations.Operation as operations;
     ghost use Rattle.wire.specs.ArgumentViews.{open_type_view, open_view};
-    ghost use Rattle.std.specs.Prelude.{◌≡◌, ◌≤◌, false, length, IfOk, IfErr};
-    ghost use Rattle.fs.specs.Opening.{open_effect, set_by, type_of};
-    ghost use Rattle.fs.specs.declared.fault.FsFault.TheVariants as faults;
-    ghost use Rattle.model.specs.Operations.Open.{given_by};
-    ghost use Rattle.wire.specs.Short.{IsRefusal};
-    ghost use Rattle.compound.specs.Beside.{HasOpenRoom, IsRefusedOpen, opened_too_big};
-    ghost use Rattle.compound.specs.Memory.{OrMemory};
-    ghost use Rattle.compound.specs.declared.fault.Fault.TheVariants.{Memory};
-    ghost use Rattle.model_tree.specs.declared.status.Status.{Status as Reason};
+    ghost use Rattle.compound.specs.Beside.{HasOpenRoom};
     ghost use Rattle.compound.specs.Engines.{Changes, files_in};
     ghost use Rattle.compound.specs.States.{CanServe};
     ghost use Rattle.compound.specs.Views.{in_progress_of};
@@ -89,10 +79,7 @@ impl Running<'_> {
                 };
                 Ok(self.give_open(engine.opens, asked, done))
             }
-            Err(fault) => {
-                let too_big = self.open_too_big(engine, opening, is_full, named.how, fault)?;
-                self.tell_fault(Operation::Open, fault, too_big)
-            }
+            Err(fault) => self.tell_fault(Operation::Open, fault),
         }
     }
 
@@ -101,47 +88,9 @@ impl Running<'_> {
         ensures { HasOpenRoom (in_progress_of self.now) (open_type_view how.now) result }
     {
         OpenRoom {
-            nothing: self.opened_room(set_by(OpenEffect::Nothing, how)).is_there,
-            cut: self.opened_room(set_by(OpenEffect::Cut, how)).is_there,
-            made: self.opened_room(set_by(OpenEffect::Made, how)).is_there,
-        }
-    }
-
-    /// With which status an OPEN is refused that its file system did not do only because the reply
-    /// has no room. Of any other fault this does not matter.
-    ///
-    /// # Errors
-    /// `Memory`, after which nothing changed.
-    fn open_too_big<D: Device>(
-        &self,
-        engine: &Engine<'_, D>,
-        opening: Opening<'_>,
-        is_full: bool,
-        how: &OpenType<'_>,
-        fault: FsFault,
-    ) -> Result<Status, Fault>
-        requires up { fault ≡ faults.NoRoom → (files_in engine.now).volume.is_down ≡ false }
-        requires few { length (given_by (type_of opening.how)).bitmap ≤ 8 }
-        requires done { fault ≡ faults.NoRoom → (reason : Reason)
-            → IsRefusedOpen (files_in engine.now) self.now.cred.now engine.now.moment opening
-            is_full reason → ⊥ }
-        ensures ok { fault ≡ faults.NoRoom → OrMemory result (λ reason.
-            reason ≡ opened_too_big (in_progress_of self.now) (set_by (open_effect
-            (files_in engine.now).volume.tree opening.entry.directory opening.entry.name.now
-            (type_of opening.entry.how)) (open_type_view how.now))) }
-        ensures refuses { IfOk result IsRefusal }
-        ensures err { IfErr result (λ reason. (reason ≡ Memory) × (fault ≡ faults.NoRoom)) }
-    {
-        if fault != FsFault::NoRoom {
-            return Ok(Status::RepTooBig);
-        }
-        match engine
-            .fs
-            .open_effect(self.cred, engine.moment, opening, is_full)
-        {
-            Ok(effect) => Ok(self.opened_room(set_by(effect, how)).too_big),
-            Err(NotDone::Memory) => Err(Fault::Memory),
-            Err(NotDone::Status(_)) => unreachable!(),
+            nothing: self.has_opened_room(set_by(OpenEffect::Nothing, how)),
+            cut: self.has_opened_room(set_by(OpenEffect::Cut, how)),
+            made: self.has_opened_room(set_by(OpenEffect::Made, how)),
         }
     }
 }

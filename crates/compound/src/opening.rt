@@ -15,7 +15,6 @@ use crate::fault::Fault;
 use crate::open_named::NamedOpen;
 use crate::reading::Reading;
 use crate::removing::change_info;
-use crate::room::Room;
 use crate::running::Running;
 use crate::tree::status_of;
 use bitflags::Flags;
@@ -39,14 +38,12 @@ pub(crate) struct OpenDone {
 impl Running<'_> {
     ghost use Rattle.std.specs.Prelude.{◌≡◌, ◌<◌, true, IsTrue};
     ghost use Rattle.model.specs.Operations.Operation as operations;
-    ghost use Rattle.model.specs.Operations.Operation.{operation_of};
-    ghost use Rattle.model.specs.Operations.OperationNumber.{OP_OPEN};
     ghost use Rattle.model.specs.Sessions.StateIds.{new_open, opened};
     ghost use Rattle.opens.specs.Views.{opens_of, open_of, CanOpen, HasMemory};
     ghost use Rattle.wire.specs.ArgumentViews.{open_view};
     ghost use Rattle.wire.specs.SmallViews.{change_view};
     ghost use Rattle.xdr.specs.Forms.{is_trimmed};
-    ghost use Rattle.compound.specs.Beside.{has_opened_room, ComesToOpen, IsOpenedRoom};
+    ghost use Rattle.compound.specs.Beside.{has_opened_room, ComesToOpen};
     ghost use Rattle.compound.specs.Engines.{Changes, files_in};
     ghost use Rattle.compound.specs.Memory.{OrMemory};
     ghost use Rattle.compound.specs.Operates.{Operates, HasResult};
@@ -114,11 +111,10 @@ impl Running<'_> {
         requires short { true ≡ has_opened_room (in_progress_of self.now) done.was_set }
         // What the OPEN returns
         ensures gives { (now : _) (old new : SharedState) (operation : operations.Argument)
-            → operation_of operation ≡ OP_OPEN → old.opens ≡ opens_of opens.old
-            → ComesToOpen now old new (in_progress_of self.now)
+            → old.opens ≡ opens_of opens.old → ComesToOpen now old new (in_progress_of self.now)
             (open_of asked) (change_view done.change) done.was_set operation
             → Operates now old new (in_progress_of self.now) operation result }
-        ensures answered { HasResult (in_progress_of self.now) OP_OPEN result }
+        ensures answered { HasResult (in_progress_of self.now) result }
         ensures opens { opens_of opens.new
             ≡ (opened (opens_of opens.old) (open_of asked)).opens }
     {
@@ -132,15 +128,15 @@ impl Running<'_> {
 
     /// Whether the reply has room for the result of an OPEN that set these attributes. The rest of
     /// the result does not matter.
-    pub(crate) fn opened_room(&self, was_set: Bitmap) -> Room
+    pub(crate) fn has_opened_room(&self, was_set: Bitmap) -> bool
         requires { IsTrue (is_trimmed was_set) }
-        ensures { IsOpenedRoom (in_progress_of self.now) was_set result }
+        ensures { result ≡ has_opened_room (in_progress_of self.now) was_set }
     {
         let done = OpenDone {
             change: change_info(0, 0),
             was_set,
         };
-        self.room(Operation::Open, &opened(CLOSED, done))
+        self.has_room(&opened(CLOSED, done))
     }
 }
 
@@ -183,9 +179,8 @@ impl<D: Device> Reading<'_, '_, D> {
             .open_current(running.cred, number, share_of(arguments), create, is_full)
         {
             Ok(()) => {
-                let room = running.opened_room(Bitmap::new());
-                if !room.is_there {
-                    return Ok(running.refuse(Operation::Open, room.too_big));
+                if !running.has_opened_room(Bitmap::new()) {
+                    return Ok(running.refuse(Operation::Open, Status::RepTooBig));
                 }
                 let done = OpenDone {
                     change: change_info(0, 0),

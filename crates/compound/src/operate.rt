@@ -12,7 +12,7 @@ impl Running<'_> {
     ghost use Rattle.std.specs.Prelude.{◌≡◌, true};
     ghost use Rattle.wire.specs.ArgumentView.{argument_view};
     ghost use Rattle.compound.specs.Engines.{Runs, files_in, state_in};
-    ghost use Rattle.compound.specs.Operates.{IsFirst, comes_first};
+    ghost use Rattle.compound.specs.Operates.{comes_first};
     ghost use Rattle.compound.specs.States.{Agrees, CanServe};
     ghost use Rattle.compound.specs.Views.{in_progress_of};
 
@@ -30,7 +30,7 @@ impl Running<'_> {
         requires agrees { D.keeps_word
             → Agrees (files_in engine.old) (state_in engine.old).table }
         requires first { comes_first (argument_view argument.now) ≡ true
-            → IsFirst (in_progress_of self.now) }
+            → (in_progress_of self.now).answered ≡ 0 }
         ensures { Runs engine.old engine.new (in_progress_of self.now)
             (argument_view argument.now) result }
     {

@@ -1,47 +1,28 @@
 //! How far a COMPOUND has come.
 
 ghost use Rattle.std.specs.Prelude.{◌≡◌, ◌≤◌, []};
-ghost use Rattle.compound.specs.declared.progress.TheConstants.{MAX_REPLY_BYTES, MAX_ROOM};
+ghost use Rattle.compound.specs.declared.progress.TheConstants.{RESULT_BUFFER, RECORD_BUFFER};
 
-use crate::reply_memory::ReplyMemory;
 use model_tree::status::Status;
-use session::MAX_RECORD_BYTES;
 use wire::StateId;
 use xdr::Writer;
 
-/// The most bytes of a reply up to the end of an OK result, the record's header not counted: before
-/// SEQUENCE, and of a COMPOUND that changes the tree.
-pub const MAX_REPLY_BYTES: usize = 16_368;
+/// The bytes for which each COMPOUND has memory from its beginning: those of its longest result,
+/// which a slot keeps in the memory of the operations' results.
+pub(crate) const RESULT_BUFFER: usize = 16_384;
 
-/// The most bytes of a refused result, which may follow those that had room.
-pub(crate) const MAX_REFUSAL_BYTES: usize = 12;
+/// The bytes of a reply's record before the result of its COMPOUND: the header, the xid, the
+/// message type and four words up to the accept status.
+pub(crate) const BEFORE_RESULT: usize = 28;
 
-/// The bytes of a record beside the room up to the end of an OK result: its header, and a refused
-/// result.
-pub(crate) const BESIDE_ROOM: usize = 4 + MAX_REFUSAL_BYTES;
-
-/// The most bytes of a reply up to the end of an OK result, the record's header not counted, of any
-/// COMPOUND: those of the longest record, without the header and a refused result.
-pub(crate) const MAX_ROOM: usize = MAX_RECORD_BYTES as usize - BESIDE_ROOM;
+/// Those of the longest reply's record.
+pub(crate) const RECORD_BUFFER: usize = RESULT_BUFFER + BEFORE_RESULT;
 
 /// A slot of a session.
 #[derive(Clone, Copy, PartialEq, Eq)]
 pub(crate) struct SlotId {
     pub session: [u8; 16],
     pub slot: u32,
-}
-
-/// What a session gives to a COMPOUND that a slot of it runs.
-#[derive(Clone, Copy)]
-pub struct Joined {
-    pub(crate) slot: SlotId,
-    pub(crate) client: u64,
-    /// The bytes of its reply up to the end of an OK result, the record's header not counted.
-    pub(crate) room: usize,
-    /// Those of its result, if it is to be cached and a longer one is refused.
-    pub(crate) cached: Option<u32>,
-    ghost least: { MAX_REPLY_BYTES ≤ room },
-    ghost most: { room ≤ MAX_ROOM },
 }
 
 /// A filehandle, and the stateid that goes with it (RFC 8881, section 16.2.3.1.2).
@@ -59,8 +40,10 @@ pub struct Progress {
     pub(crate) position: usize,
     /// How many operations have their results.
     pub(crate) answered: u32,
-    /// Their bytes, and memory for the reply.
-    pub(crate) memory: ReplyMemory,
+    /// Their bytes, in memory for the whole result.
+    pub(crate) results: Writer,
+    /// Memory for the reply's record.
+    pub(crate) reply: Writer,
     /// The client of the session, 0 before SEQUENCE.
     pub(crate) client: u64,
     /// The restart count of the server.
@@ -70,18 +53,14 @@ pub struct Progress {
     pub(crate) saved: Option<HandlePlace>,
     /// The slot that runs it.
     pub(crate) slot: Option<SlotId>,
-    /// The bytes of its reply up to the end of an OK result, the record's header not counted,
-    /// unless it changes the tree.
-    pub(crate) room: usize,
-    /// The bytes of its result, if that is to be cached and a longer one is refused.
-    pub(crate) cached: Option<u32>,
     /// Whether an operation of it made a change that has to last.
     pub(crate) altered: bool,
     /// The status of its last result, once that is there and a seat is to hold the reply.
     pub(crate) ended: Option<Status>,
-    ghost first: { answered ≡ 0 → memory.results.bytes ≡ [] },
-    ghost least_room: { MAX_REPLY_BYTES ≤ room },
-    ghost most_room: { room ≤ MAX_ROOM },
+    ghost first: { answered ≡ 0 → results.bytes ≡ [] },
+    ghost room: { RESULT_BUFFER ≤ results.capacity },
+    ghost reply_fresh: { reply.bytes ≡ [] },
+    ghost reply_room: { RECORD_BUFFER ≤ reply.capacity },
 }
 
 impl Progress {
@@ -89,8 +68,8 @@ impl Progress {
 
     /// The memory of its results, which the next COMPOUND may have.
     pub fn into_memory(self) -> Writer
-        ensures { result ≡ self.memory.results }
+        ensures { result ≡ self.results }
     {
-        self.memory.results
+        self.results
     }
 }

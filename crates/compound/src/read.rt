@@ -12,7 +12,6 @@ use crate::executed::Executed;
 use crate::fault::Fault;
 use crate::running::Running;
 use disk::Device;
-use model_tree::status::Status;
 use opens::Access;
 use std::alloc::Global;
 use wire::{Operation, ReadArguments};
@@ -20,6 +19,9 @@ use wire::{Operation, ReadArguments};
 /// The bytes of the values before those of the file: whether its end was reached, and how many
 /// there are.
 const PREFIX: usize = 8;
+
+/// The most bytes of a file that memory is allocated for: those that one READ gives.
+const PART_BYTES: usize = 8_192;
 
 /// The most zero bytes after those of the file.
 const MAX_PAD: usize = 3;
@@ -48,29 +50,27 @@ impl Running<'_> {
         };
         let verdict = self.verdict(engine.opens, &arguments.state, Access::READ);
         let ReadArguments { offset, count, .. } = *arguments;
-        let most = engine.fs.limits().transfer_bytes;
-        let mut values = memory_for(self.alloc, count, most)?;
+        let mut values = room_for(self.alloc, count)?;
         match engine
             .fs
             .read(self.cred, number, verdict, offset, count, &mut values)
         {
             Ok(is_end) => {
                 finish(&mut values, is_end)?;
-                self.settle_encoded(Operation::Read, values)
+                Ok(self.settle_encoded(Operation::Read, values))
             }
-            Err(fault) => self.tell_fault(Operation::Read, fault, Status::RepTooBig),
+            Err(fault) => self.tell_fault(Operation::Read, fault),
         }
     }
 }
 
-/// Memory for the values of a READ of at most this many bytes, with zeros in place of what comes
-/// before them.
-fn memory_for(alloc: Global, count: u32, most: usize) -> Result<Vec<u8>, Fault>
+/// Memory for the values of a READ, with zeros in place of what comes before the bytes.
+fn room_for(alloc: Global, count: u32) -> Result<Vec<u8>, Fault>
     ensures count { count < 2 ^ 32 }
     ensures values { OrMemory result (λ values. length values.items ≡ 8) }
 {
-    let part = (count as usize).min(most);
-    let mut values = Vec::with_capacity(alloc, PREFIX + part + MAX_PAD)?;
+    let most = (count as usize).min(PART_BYTES);
+    let mut values = Vec::with_capacity(alloc, PREFIX + most + MAX_PAD)?;
     values.extend_from_slice(&[0; PREFIX])?;
     Ok(values)
 }

@@ -8,17 +8,17 @@ ghost use Rattle.compound.specs.Trees.{change_answer, removed_answer};
 use crate::engine::Engine;
 use crate::executed::{Effect, Executed};
 use crate::fault::Fault;
-use crate::room::Room;
+use crate::results::MAX_REPLY_BYTES;
 use crate::running::Running;
 use disk::Device;
 use wire::{Answer, ChangeInfo, Operation, Outcome};
 
 impl Running<'_> {
+    ghost use Rattle.std.specs.Prelude.{◌≡◌, nat_le, length};
     ghost use Rattle.model.specs.Operations.Answer.{Done};
     ghost use Rattle.model.specs.Operations.Operation as operations;
-    ghost use Rattle.model.specs.Operations.OperationNumber.{OP_REMOVE};
+    ghost use Rattle.model.specs.Server.World.{reply_with};
     ghost use Rattle.compound.specs.Engines.{Changes, files_in};
-    ghost use Rattle.compound.specs.Rooms.{IsRoom};
     ghost use Rattle.compound.specs.States.{CanServe};
     ghost use Rattle.compound.specs.Trees.{removed_answer};
     ghost use Rattle.compound.specs.Views.{in_progress_of};
@@ -38,10 +38,10 @@ impl Running<'_> {
             Ok(number) => number,
             Err(status) => return Ok(self.refuse(Operation::Remove, status)),
         };
-        let room = self.removed_room();
+        let has_room = self.has_removed_room();
         match engine
             .fs
-            .remove(self.cred, engine.moment, directory, name, room.is_there)
+            .remove(self.cred, engine.moment, directory, name, has_room)
         {
             Ok(gone) => {
                 engine.opens.remove_file(gone.number);
@@ -50,16 +50,16 @@ impl Running<'_> {
                     effect: Effect::Stays,
                 })
             }
-            Err(fault) => self.tell_fault(Operation::Remove, fault, room.too_big),
+            Err(fault) => self.tell_fault(Operation::Remove, fault),
         }
     }
 
     /// Whether the reply has room for the result of a REMOVE. The change values do not matter.
-    fn removed_room(&self) -> Room
-        ensures { IsRoom (in_progress_of self.now) OP_REMOVE
-            (Done (removed_answer 0 0)) result }
+    fn has_removed_room(&self) -> bool
+        ensures { result ≡ nat_le (length
+            (reply_with (in_progress_of self.now) (Done (removed_answer 0 0)))) MAX_REPLY_BYTES }
     {
-        self.room(Operation::Remove, &removed(0, 0))
+        self.has_room(&removed(0, 0))
     }
 }
 

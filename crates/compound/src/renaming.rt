@@ -11,7 +11,7 @@ use crate::executed::{Effect, Executed};
 use crate::fault::Fault;
 use crate::reading::Reading;
 use crate::removing::change_info;
-use crate::room::Room;
+use crate::results::MAX_REPLY_BYTES;
 use crate::running::Running;
 use disk::Device;
 use fs::{Change, Renaming};
@@ -47,12 +47,12 @@ impl<D: Device> Reading<'_, '_, D> {
 }
 
 impl Running<'_> {
+    ghost use Rattle.std.specs.Prelude.{◌≡◌, nat_le, length};
     ghost use Rattle.model.specs.Operations.Answer.{Done};
     ghost use Rattle.model.specs.Operations.Operation as operations;
-    ghost use Rattle.model.specs.Operations.OperationNumber.{OP_RENAME};
+    ghost use Rattle.model.specs.Server.World.{reply_with};
     ghost use Rattle.wire.specs.ArgumentViews.{rename_view};
     ghost use Rattle.compound.specs.Engines.{Changes, files_in};
-    ghost use Rattle.compound.specs.Rooms.{IsRoom};
     ghost use Rattle.compound.specs.States.{CanServe};
     ghost use Rattle.compound.specs.Trees.{no_change, renamed_answer};
     ghost use Rattle.compound.specs.Views.{in_progress_of};
@@ -76,17 +76,14 @@ impl Running<'_> {
             Ok(numbers) => numbers,
             Err(status) => return Ok(self.refuse(Operation::Rename, status)),
         };
-        let room = self.renamed_room();
+        let has_room = self.has_renamed_room();
         let asked = Renaming {
             from,
             old_name: arguments.old_name,
             to,
             new_name: arguments.new_name,
         };
-        match engine
-            .fs
-            .rename(self.cred, engine.moment, asked, room.is_there)
-        {
+        match engine.fs.rename(self.cred, engine.moment, asked, has_room) {
             Ok(made) => {
                 end_replaced(engine.opens, asked, made.replaced);
                 Ok(Executed::Gives {
@@ -94,16 +91,16 @@ impl Running<'_> {
                     effect: Effect::Stays,
                 })
             }
-            Err(fault) => self.tell_fault(Operation::Rename, fault, room.too_big),
+            Err(fault) => self.tell_fault(Operation::Rename, fault),
         }
     }
 
     /// Whether the reply has room for the result of a RENAME. The change values do not matter.
-    fn renamed_room(&self) -> Room
-        ensures { IsRoom (in_progress_of self.now) OP_RENAME
-            (Done (renamed_answer no_change no_change)) result }
+    fn has_renamed_room(&self) -> bool
+        ensures { result ≡ nat_le (length (reply_with (in_progress_of self.now)
+            (Done (renamed_answer no_change no_change)))) MAX_REPLY_BYTES }
     {
-        self.room(Operation::Rename, &renamed(NO_CHANGE, NO_CHANGE))
+        self.has_room(&renamed(NO_CHANGE, NO_CHANGE))
     }
 }
 

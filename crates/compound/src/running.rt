@@ -1,11 +1,8 @@
 //! A COMPOUND over its record. Its turn is in `step`, each operation in a file of its own.
 
-ghost use Rattle.std.specs.Prelude.{◌≡◌, ◌≤◌, ◌<◌, ◌+◌, None, Some, length};
-ghost use Rattle.model_tree.specs.declared.status.Status.{Status};
+ghost use Rattle.std.specs.Prelude.{◌≡◌, ◌≤◌, ◌<◌, ◌+◌, None, length};
 ghost use Rattle.xdr.specs.Forms.{counted};
-ghost use Rattle.compound.specs.Rooms.{room_so_far};
-ghost use Rattle.compound.specs.declared.progress.TheConstants.{MAX_REPLY_BYTES, MAX_REFUSAL_BYTES};
-ghost use Rattle.compound.specs.declared.room.TheConstants.{AROUND_RESULTS};
+ghost use Rattle.compound.specs.declared.results.TheConstants.{MAX_REPLY_BYTES, MAX_REFUSAL_BYTES, AROUND_RESULTS};
 
 use crate::progress::Progress;
 use model_tree::acl::Cred;
@@ -22,11 +19,10 @@ pub struct Running<'a> {
     pub(crate) compound: Compound<'a>,
     pub(crate) progress: Progress,
     ghost within: { progress.position ≤ length compound.operations.now },
+    ghost brief: { AROUND_RESULTS + length (counted compound.tag.bytes.now)
+        + length progress.results.bytes ≤ MAX_REPLY_BYTES + MAX_REFUSAL_BYTES },
     ghost more: { progress.ended ≡ None → progress.answered < compound.count },
     ghost room: { progress.ended ≡ None
         → AROUND_RESULTS + length (counted compound.tag.bytes.now)
-        + length progress.memory.results.bytes ≤ room_so_far progress },
-    ghost held: { (last : Status) → progress.ended ≡ Some last
-        → AROUND_RESULTS + length (counted compound.tag.bytes.now)
-        + length progress.memory.results.bytes ≤ MAX_REPLY_BYTES + MAX_REFUSAL_BYTES },
+        + length progress.results.bytes ≤ MAX_REPLY_BYTES },
 }

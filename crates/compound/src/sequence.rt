@@ -1,62 +1,43 @@
 //! SEQUENCE and RECLAIM_COMPLETE (RFC 8881, sections 18.46 and 18.51).
 
 use crate::executed::{Effect, Executed};
-use crate::progress::{BESIDE_ROOM, Joined, SlotId};
+use crate::progress::SlotId;
 use crate::reading::Reading;
-use crate::room::Room;
+use crate::results::MAX_REPLY_BYTES;
 use crate::running::Running;
 use disk::Device;
+use model_tree::status::Status;
 use session::{Begun, Table};
 use wire::{Answer, Operation, Outcome, SequenceArguments};
 
 #[tactic(auto, unfolding(crate::specs::Views::in_progress_of, model::specs::Server::World::outcome_text))]
 impl Running<'_> {
-    ghost use Rattle.std.specs.Prelude.{◌≡◌, ◌≤◌, ℕ, false, length, None};
+    ghost use Rattle.std.specs.Prelude.{◌≡◌, ◌<◌, ◌^◌, false, nat_le, length, None};
     ghost use Rattle.model.specs.Operations.Operation as operations;
     ghost use Rattle.model.specs.Operations.Answer.{Done, ReclaimComplete as Reclaimed};
     ghost use Rattle.model.specs.Sessions.Session.{reclaim_complete};
     ghost use Rattle.model.specs.Wire.WireAnswers as answers;
-    ghost use Rattle.model.specs.Operations.OperationNumber.{OP_RECLAIM_COMPLETE};
-    ghost use Rattle.model.specs.Server.World.{outcome_text};
+    ghost use Rattle.model.specs.Server.World.{reply_with, outcome_text};
     ghost use Rattle.session.specs.Views.{table_of};
     ghost use Rattle.wire.specs.ArgumentViews.{sequence_view};
-    ghost use Rattle.compound.specs.Operates.{ChangesTable, HasResult, IsAnswered, IsFirst, JoinsBy};
-    ghost use Rattle.compound.specs.Rooms.{IsRoom};
-    ghost use Rattle.compound.specs.declared.reply_memory.TheConstants.{SHORT_RESULT};
+    ghost use Rattle.compound.specs.Operates.{ChangesTable, HasResult, IsAnswered};
     ghost use Rattle.compound.specs.Views.{in_progress_of};
 
-    /// SEQUENCE. If a slot runs the COMPOUND, its client and its room are those of the session from
-    /// then on.
+    /// SEQUENCE. If a slot runs the COMPOUND, its client is that of the session from then on.
     pub(crate) fn sequence(&self, table: &mut Table, arguments: &SequenceArguments) -> Executed
-        requires first { IsFirst (in_progress_of self.now) }
+        requires first { (in_progress_of self.now).answered ≡ 0 }
         ensures gives { ChangesTable (table_of table.old) (table_of table.new)
             (in_progress_of self.now) (operations.Argument.Sequence (sequence_view arguments.now))
             result }
-        ensures answered { (operation : ℕ)
-            → IsAnswered (in_progress_of self.now) operation result }
-        ensures joins { JoinsBy (table_of table.old).settings (in_progress_of self.now) result }
-        ensures settings { (table_of table.new).settings ≡ (table_of table.old).settings }
+        ensures answered { IsAnswered (in_progress_of self.now) result }
     {
         let slot = SlotId {
             session: arguments.session,
             slot: arguments.slot,
         };
         match table.begin(self.cred.uid, self.compound.count, arguments) {
-            Ok(
-                Begun::Runs {
-                    client,
-                    reply_bytes,
-                    cached_bytes,
-                    answer,
-                },
-            ) => {
-                let joined = Joined {
-                    slot,
-                    client,
-                    room: reply_bytes as usize - BESIDE_ROOM,
-                    cached: cached_bytes,
-                };
-                self.answer_first(Answer::Sequence(answer), Effect::Joins(joined))
+            Ok(Begun::Runs { client, answer }) => {
+                self.answer_first(Answer::Sequence(answer), Effect::Joins { slot, client })
             }
             Ok(Begun::Replays) => Executed::Replays(slot),
             Err(status) => self.refuse(Operation::Sequence, status),
@@ -68,8 +49,7 @@ impl Running<'_> {
     fn reclaim_all(&self, table: &mut Table) -> Executed
         ensures gives { ChangesTable (table_of table.old) (table_of table.new)
             (in_progress_of self.now) (operations.Argument.ReclaimComplete false) result }
-        ensures answered { HasResult (in_progress_of self.now) OP_RECLAIM_COMPLETE result }
-        ensures settings { (table_of table.new).settings ≡ (table_of table.old).settings }
+        ensures answered { HasResult (in_progress_of self.now) result }
     {
         match table.check_reclaim(self.progress.client) {
             Ok(()) => self.reclaim_in_room(table),
@@ -83,12 +63,10 @@ impl Running<'_> {
             (table_of table.old)).0 ≡ None }
         ensures gives { ChangesTable (table_of table.old) (table_of table.new)
             (in_progress_of self.now) (operations.Argument.ReclaimComplete false) result }
-        ensures answered { HasResult (in_progress_of self.now) OP_RECLAIM_COMPLETE result }
-        ensures settings { (table_of table.new).settings ≡ (table_of table.old).settings }
+        ensures answered { HasResult (in_progress_of self.now) result }
     {
-        let room = self.reclaim_room();
-        if !room.is_there {
-            return self.refuse(Operation::ReclaimComplete, room.too_big);
+        if !self.has_reclaim_room() {
+            return self.refuse(Operation::ReclaimComplete, Status::RepTooBig);
         }
         match table.reclaim_complete(self.progress.client) {
             Ok(()) => Executed::Gives {
@@ -100,23 +78,20 @@ impl Running<'_> {
     }
 
     /// Whether the reply has room for the answer of RECLAIM_COMPLETE.
-    fn reclaim_room(&self) -> Room
-        ensures room { IsRoom (in_progress_of self.now) OP_RECLAIM_COMPLETE (Done Reclaimed)
-            result }
+    fn has_reclaim_room(&self) -> bool
+        ensures room { result
+            ≡ nat_le (length (reply_with (in_progress_of self.now) (Done Reclaimed)))
+            MAX_REPLY_BYTES }
         ensures fits { answers.outcome.Fits (Done Reclaimed) }
-        ensures small { length (outcome_text (Done Reclaimed)) ≤ SHORT_RESULT }
+        ensures small { length (outcome_text (Done Reclaimed)) < 2 ^ 63 }
     {
-        self.room(
-            Operation::ReclaimComplete,
-            &Outcome::short(Answer::ReclaimComplete),
-        )
+        self.has_room(&Outcome::short(Answer::ReclaimComplete))
     }
 }
 
 #[tactic(auto, unfolding(crate::specs::Views::in_progress_of, model::specs::Server::World::outcome_text))]
 impl<D: Device> Reading<'_, '_, D> {
-    ghost use Rattle.std.specs.Prelude.{◌≡◌, ℕ, true};
-    ghost use Rattle.model.specs.Operations.OperationNumber.{OP_RECLAIM_COMPLETE};
+    ghost use Rattle.std.specs.Prelude.{ℕ, true};
     ghost use Rattle.model.specs.Operations.Operation as operations;
     ghost use Rattle.model.specs.Sessions.Opens.{Opens};
     ghost use Rattle.session.specs.Views.{table_of};
@@ -130,8 +105,7 @@ impl<D: Device> Reading<'_, '_, D> {
             → Operates now (shared (files_read self.now) (table_of table.old) opens)
             (shared (files_read self.now) (table_of table.new) opens) (request_read self.now)
             (operations.Argument.ReclaimComplete one_fs) result }
-        ensures answered { HasResult (request_read self.now) OP_RECLAIM_COMPLETE result }
-        ensures settings { (table_of table.new).settings ≡ (table_of table.old).settings }
+        ensures answered { HasResult (request_read self.now) result }
     {
         if one_fs {
             self.reclaim_one()

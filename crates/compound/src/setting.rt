@@ -10,7 +10,7 @@ use crate::engine::Engine;
 use crate::executed::{Effect, Executed};
 use crate::fault::Fault;
 use crate::removing::change_info;
-use crate::room::Room;
+use crate::results::MAX_REPLY_BYTES;
 use crate::running::Running;
 use disk::Device;
 use fs::Setting;
@@ -19,13 +19,13 @@ use wire::{Answer, Bitmap, CreateAnswer, Operation, Outcome, SetAttrArguments};
 use wire_attributes::GivenAttributes;
 
 impl Running<'_> {
+    ghost use Rattle.std.specs.Prelude.{◌≡◌, nat_le, length};
     ghost use Rattle.model.specs.Operations.Answer.{Answer as Answered, Done};
     ghost use Rattle.model.specs.Attributes.Attribute.{trimmed};
     ghost use Rattle.model.specs.Operations.Operation as operations;
-    ghost use Rattle.model.specs.Operations.OperationNumber.{OP_SETATTR};
+    ghost use Rattle.model.specs.Server.World.{reply_with};
     ghost use Rattle.wire.specs.ArgumentViews.{set_attr_view};
     ghost use Rattle.compound.specs.Engines.{Changes, files_in};
-    ghost use Rattle.compound.specs.Rooms.{IsRoom};
     ghost use Rattle.compound.specs.States.{CanServe};
     ghost use Rattle.compound.specs.Views.{in_progress_of};
 
@@ -43,7 +43,7 @@ impl Running<'_> {
             Ok(number) => number,
             Err(status) => return Ok(self.refuse(Operation::SetAttr, status)),
         };
-        let room = self.set_room(&arguments.attributes.bitmap);
+        let has_room = self.has_set_room(&arguments.attributes.bitmap);
         let verdict = self.verdict(engine.opens, &arguments.state, Access::WRITE);
         let asked = Setting {
             number,
@@ -55,22 +55,22 @@ impl Running<'_> {
         };
         match engine
             .fs
-            .set_attributes(self.cred, engine.moment, asked, room.is_there)
+            .set_attributes(self.cred, engine.moment, asked, has_room)
         {
             Ok(()) => Ok(Executed::Gives {
                 outcome: attributes_set(&arguments.attributes.bitmap),
                 effect: Effect::Stays,
             }),
-            Err(fault) => self.tell_fault(Operation::SetAttr, fault, room.too_big),
+            Err(fault) => self.tell_fault(Operation::SetAttr, fault),
         }
     }
 
     /// Whether the reply has room for the result of a SETATTR.
-    fn set_room(&self, bitmap: &Bitmap) -> Room
-        ensures { IsRoom (in_progress_of self.now) OP_SETATTR
-            (Done (Answered.SetAttr (trimmed bitmap.now))) result }
+    fn has_set_room(&self, bitmap: &Bitmap) -> bool
+        ensures { result ≡ nat_le (length (reply_with (in_progress_of self.now)
+            (Done (Answered.SetAttr (trimmed bitmap.now))))) MAX_REPLY_BYTES }
     {
-        self.room(Operation::SetAttr, &attributes_set(bitmap))
+        self.has_room(&attributes_set(bitmap))
     }
 }
 

@@ -1,31 +1,27 @@
 //! One turn of a COMPOUND, which is the server's atomic step: an operation, or the reply that a
 //! seat holds first.
 
-ghost use Rattle.std.specs.Prelude.{◌≡◌, ◌<◌, ◌^◌, ◌&&◌};
-ghost use Rattle.model.specs.Operations.Operation.{operation_of};
-ghost use Rattle.model.specs.Server.World.{is_unstable, may_alter};
+ghost use Rattle.std.specs.Prelude.{◌≡◌, ◌<◌, ◌^◌};
+ghost use Rattle.model.specs.Server.World.{is_unstable};
 ghost use Rattle.wire.specs.ArgumentView.{argument_view};
 ghost use Rattle.wire.specs.declared.outcome.Outcome.TheVariants as outcomes;
-ghost use Rattle.compound.specs.Runs.{gives_done, makes_change};
-ghost use Rattle.compound.specs.declared.executed.Effect.TheVariants as effects;
+ghost use Rattle.compound.specs.Runs.{makes_change};
+ghost use Rattle.compound.specs.declared.executed.Effect.TheVariants as effect;
 ghost use Rattle.compound.specs.declared.executed.Executed.TheVariants as execution;
 
 use crate::encoded_result::EncodedResult;
-use crate::ended::Ended;
+use crate::end::LastResult;
 use crate::engine::Engine;
 use crate::executed::{Effect, Executed};
 use crate::fault::Fault;
 use crate::next::Next;
 use crate::progress::{HandlePlace, Progress};
-use crate::reply_memory::ReplyMemory;
-use crate::room::may_alter;
 use crate::running::Running;
 use crate::writing::is_to_be_stable;
 use disk::Device;
 use fs::Fs;
 use model_tree::status::Status;
 use opens::Opens;
-use rpc::Compound;
 use session::Table;
 use wire::{Argument, Outcome};
 use xdr::Writer;
@@ -51,9 +47,6 @@ pub struct StepError {
 
 impl Running<'_> {
     ghost use Rattle.std.specs.Prelude.{◌≡◌, ◌≤◌, false, None, Some, length, drop, IfOk, IfErr, OnErr};
-    ghost use Rattle.compound.specs.EncodedResult.{text_of_result};
-    ghost use Rattle.compound.specs.Rooms.{CanHold, room_so_far};
-    ghost use Rattle.compound.specs.declared.progress.Joined.{Joined};
     ghost use Rattle.fs.specs.Views.{fs_of, AltersFs};
     ghost use Rattle.opens.specs.Views.{opens_of};
     ghost use Rattle.session.specs.Views.{table_of};
@@ -61,9 +54,9 @@ impl Running<'_> {
     ghost use Rattle.model.specs.Server.World.{is_seated, is_to_hold};
     ghost use Rattle.compound.specs.Engines.{BorrowsSame, Steps, files_in, state_in};
     ghost use Rattle.compound.specs.Operates.{left_by_effect};
-    ghost use Rattle.compound.specs.States.{Agrees, CanSeat, IsShortIn, Suits, shared_of};
+    ghost use Rattle.compound.specs.States.{Agrees, CanSeat, shared_of};
     ghost use Rattle.compound.specs.Steps.{CanRun, RequestSteps, RequestGoesOn, stepped_on};
-    ghost use Rattle.compound.specs.EncodedResult.{CanBeAdded, Tells};
+    ghost use Rattle.compound.specs.EncodedResult.{CanBeAdded, Tells, with_last};
     ghost use Rattle.compound.specs.Nexts.{RunsNext};
     ghost use Rattle.compound.specs.Turns.{ResultLeaves};
     ghost use Rattle.compound.specs.Views.{in_progress_of, asked_of};
@@ -88,7 +81,6 @@ impl Running<'_> {
         requires up { (fs_of fs.old).volume.is_down ≡ false }
         requires run { (in_progress_of self).context.run ≡ (fs_of fs.old).volume.run }
         requires agrees { D.keeps_word → Agrees (fs_of fs.old) (table_of table.old) }
-        requires suits { Suits (table_of table.old) (in_progress_of self) }
         // If it succeeds
         ensures step { D.keeps_word
             → IfOk result (RequestSteps now (shared_of fs.old table.old opens.old)
@@ -96,14 +88,13 @@ impl Running<'_> {
             (in_progress_of self.entry)) }
         ensures agrees { D.keeps_word → IfOk result (λ done.
             Agrees (fs_of fs.new) (table_of table.new)) }
-        ensures goes_on { IfOk result (RequestGoesOn (fs_of fs.old).volume.run (table_of table.new)
-            (asked_of self.entry) (in_progress_of self.entry)) }
+        ensures goes_on { IfOk result (RequestGoesOn (fs_of fs.old).volume.run (asked_of self.entry)
+            (in_progress_of self.entry)) }
         // If it fails
         ensures back { IfErr result (λ failed. failed.progress ≡ self.entry.progress) }
         ensures others { OnErr result ((table_of table.new ≡ table_of table.old)
             × (opens_of opens.new ≡ opens_of opens.old)) }
         // However it ends
-        ensures settings { (table_of table.new).settings ≡ (table_of table.old).settings }
         ensures volume { AltersFs fs.old fs.new (TurnGives (shared_of fs.old table.old opens.old)
             (λ world number. stepped_on world number now (in_progress_of self.entry)))
             (failed_step_ending result) }
@@ -135,7 +126,6 @@ impl Running<'_> {
             position,
             altered,
             done,
-            spare,
         } = match self.run_next(engine) {
             Ok(ran) => ran,
             Err(fault) => return Err(StepError {
@@ -151,50 +141,41 @@ impl Running<'_> {
                 &slot,
                 results_buffer,
             ))),
-            Executed::GivesValues {
-                operation,
-                values,
-                larger,
-            } => {
+            Executed::GivesValues { operation, values } => {
                 let encoded = EncodedResult::Values {
                     operation,
                     values: values.as_slice(),
                 };
-                Ok(running.answer(engine.table, encoded, larger.or(spare), results_buffer))
+                Ok(running.answer(engine.table, encoded, results_buffer))
             }
             Executed::Gives { outcome, effect } => {
                 running.leave(effect);
-                let encoded = EncodedResult::Whole(&outcome);
-                Ok(running.answer(engine.table, encoded, spare, results_buffer))
+                Ok(running.answer(engine.table, EncodedResult::Whole(&outcome), results_buffer))
             }
         }
     }
 
     /// Reads the next operation, tests it and runs it. The COMPOUND itself is not changed yet.
-    /// There is memory for a short result before the operation runs.
     fn run_next<D: Device>(&self, engine: &mut Engine<'_, D>) -> Result<Ran, Fault>
         requires { CanRun D.keeps_word (files_in engine.old) (state_in engine.old).table
             (in_progress_of self.now) }
         ensures { RunsNext engine.old engine.new self.now result }
     {
-        let spare = self.progress.memory.larger_for_short(self.alloc)?;
         match self.next_operation(self.alloc)? {
             Next::Refuses { operation, status } => Ok(Ran {
                 position: self.progress.position,
                 altered: false,
                 done: refused(operation, status),
-                spare,
             }),
             Next::Reads { argument, position } => {
                 let before = engine.fs.change_count();
                 let done = self.operate(engine, &argument)?;
                 let after = engine.fs.change_count();
-                let altered = makes_change(before, after, &argument, &done);
+                let altered = makes_change(before, after, &argument);
                 Ok(Ran {
                     position,
                     altered,
                     done,
-                    spare,
                 })
             }
         }
@@ -203,12 +184,9 @@ impl Running<'_> {
     /// What an operation leaves of the COMPOUND, beside its result.
     #[tactic(auto, unfolding(crate::specs::Views::in_progress_of))]
     fn leave(&mut self, effect: Effect)
-        requires { (joined : Joined) → effect ≡ effects.Joins joined
-            → (in_progress_of self.old).answered ≡ 0 }
         ensures asked { asked_of self.new ≡ asked_of self.old }
         ensures request { in_progress_of self.new
             ≡ left_by_effect effect (in_progress_of self.old) }
-        ensures memory { self.new.progress.memory ≡ self.old.progress.memory }
     {
         match effect {
             Effect::Stays => {}
@@ -223,11 +201,9 @@ impl Running<'_> {
                 state: Some(state),
             }),
             Effect::Closes => self.drop_stateid(),
-            Effect::Joins(joined) => {
-                self.progress.slot = Some(joined.slot);
-                self.progress.client = joined.client;
-                self.progress.room = joined.room;
-                self.progress.cached = joined.cached;
+            Effect::Joins { slot, client } => {
+                self.progress.slot = Some(slot);
+                self.progress.client = client;
             }
         }
     }
@@ -238,8 +214,7 @@ impl Running<'_> {
     fn drop_stateid(&mut self)
         ensures asked { asked_of self.new ≡ asked_of self.old }
         ensures request { in_progress_of self.new
-            ≡ left_by_effect effects.Closes (in_progress_of self.old) }
-        ensures memory { self.new.progress.memory ≡ self.old.progress.memory }
+            ≡ left_by_effect effect.Closes (in_progress_of self.old) }
     {
         let number = match self.progress.current {
             Some(place) => place.number,
@@ -251,48 +226,62 @@ impl Running<'_> {
         });
     }
 
-    /// The COMPOUND after this result, in this memory if there is any: it goes on; or this result
-    /// is the last one or not OK, and the reply is there, unless a seat is to hold it first.
+    /// The COMPOUND after this result: it goes on; or this result is the last one or not OK, and
+    /// the reply is there, unless a seat is to hold it first.
     fn answer(
         self,
         table: &mut Table,
         encoded: EncodedResult<'_>,
-        larger: Option<ReplyMemory>,
         results_buffer: &mut Writer,
     ) -> Stepped
-        requires encoded { CanBeAdded (room_so_far self.progress) (in_progress_of self) encoded }
-        requires memory { CanHold self.progress.memory larger (length (text_of_result encoded)) }
+        requires encoded { CanBeAdded (in_progress_of self) encoded }
         requires more { (in_progress_of self).ended ≡ None }
-        requires suits { IsShortIn (table_of table.old).settings (in_progress_of self).room }
         ensures stands { (outcome : model.Outcome) → Tells encoded.entry outcome
             → ResultLeaves (table_of table.old) (table_of table.new)
             (asked_of self.entry) (in_progress_of self.entry) outcome result }
         ensures goes_on { RequestGoesOn (in_progress_of self.entry).context.run
-            (table_of table.new) (asked_of self.entry)
+            (asked_of self.entry)
             (in_progress_of self.entry) result }
-        ensures settings { (table_of table.new).settings ≡ (table_of table.old).settings }
     {
         if encoded.is_ok() && !self.is_last() {
-            return Stepped::Ran(self.progress.with_result(encoded, larger));
+            return Stepped::Ran(self.progress.with_result(encoded));
         }
-        let status = encoded.status();
-        if self.is_to_hold(table) {
-            return Stepped::Ran(self.progress.with_last(encoded, larger));
+        let last = encoded.status();
+        let running = self.with_last(encoded);
+        if running.is_to_hold(table) {
+            return Stepped::Ran(running.progress);
         }
-        let Running {
-            xid,
-            compound: Compound { tag, .. },
-            progress,
-            ..
-        } = self;
-        let ended = Ended {
-            xid,
-            tag,
-            progress: progress.with_result(encoded, larger),
-            status,
+        let reply = LastResult {
+            status: last,
             edits: None,
         };
-        Stepped::Answered(ended.reply(table, results_buffer))
+        Stepped::Answered(running.end(table, reply, results_buffer))
+    }
+
+    /// With this result, the last one.
+    #[tactic(auto, unfolding(crate::specs::Views::in_progress_of))]
+    fn with_last(self, encoded: EncodedResult<'_>) -> Self
+        requires encoded { CanBeAdded (in_progress_of self) encoded }
+        requires more { (in_progress_of self).ended ≡ None }
+        ensures asked { asked_of result ≡ asked_of self.entry }
+        ensures request { in_progress_of result
+            ≡ with_last (in_progress_of self.entry) encoded.entry }
+        ensures position { result.progress.position ≡ self.entry.progress.position }
+    {
+        let Running {
+            alloc,
+            xid,
+            cred,
+            compound,
+            progress,
+        } = self;
+        Running {
+            alloc,
+            xid,
+            cred,
+            compound,
+            progress: progress.with_last(encoded),
+        }
     }
 
     /// The last result is there, and a seat is to hold the reply: it does so on the volume, and
@@ -308,27 +297,20 @@ impl Running<'_> {
         ensures same { BorrowsSame engine.old engine.new }
         ensures turn { Steps engine.old engine.new self.entry result }
     {
-        let edits = match self.hold(engine.fs, engine.table, last) {
-            Ok(edits) => edits,
-            Err(fault) => return Err(StepError {
+        match self.hold(engine.fs, engine.table, last) {
+            Ok(edits) => {
+                let reply = LastResult {
+                    status: last,
+                    edits,
+                };
+                let record = self.end(engine.table, reply, results_buffer);
+                Ok(Stepped::Answered(record))
+            }
+            Err(fault) => Err(StepError {
                 fault,
                 progress: self.progress,
             }),
-        };
-        let Running {
-            xid,
-            compound: Compound { tag, .. },
-            progress,
-            ..
-        } = self;
-        let ended = Ended {
-            xid,
-            tag,
-            progress,
-            status: last,
-            edits,
-        };
-        Ok(Stepped::Answered(ended.reply(engine.table, results_buffer)))
+        }
     }
 
     /// Whether a seat is to hold the reply.
@@ -355,7 +337,7 @@ impl Running<'_> {
 /// The operation of this number is refused before it is run.
 fn refused(operation: u32, status: Status) -> Executed
     ensures number { operation < 2 ^ 32 }
-    ensures gives { result ≡ execution.Gives (outcomes.Refused operation status) effects.Stays }
+    ensures gives { result ≡ execution.Gives (outcomes.Refused operation status) effect.Stays }
 {
     Executed::Gives {
         outcome: Outcome::Refused { operation, status },
@@ -364,29 +346,11 @@ fn refused(operation: u32, status: Status) -> Executed
 }
 
 /// Whether an operation made a change that has to last, by how many changes were counted before and
-/// after it. Only one that is done may have made it. That of a WRITE with UNSTABLE4 does not have
-/// to.
-fn makes_change(before: u32, after: u32, operation: &Argument<'_>, done: &Executed) -> bool
-    ensures { result ≡ (makes_change before after (argument_view operation.now)
-        && (may_alter (operation_of (argument_view operation.now)) && gives_done done.now)) }
+/// after it. That of a WRITE with UNSTABLE4 does not have to.
+fn makes_change(before: u32, after: u32, operation: &Argument<'_>) -> bool
+    ensures { result ≡ makes_change before after (argument_view operation.now) }
 {
-    before != after
-        && !is_unstable(operation)
-        && may_alter(operation.operation())
-        && gives_done(done)
-}
-
-/// Whether an operation gave an OK result.
-fn gives_done(done: &Executed) -> bool
-    ensures { result ≡ gives_done done.now }
-{
-    matches!(
-        done,
-        Executed::Gives {
-            outcome: Outcome::Done(_),
-            ..
-        } | Executed::GivesValues { .. }
-    )
+    before != after && !is_unstable(operation)
 }
 
 fn is_unstable(operation: &Argument<'_>) -> bool
@@ -406,6 +370,4 @@ struct Ran {
     /// Whether it made a change that has to last.
     altered: bool,
     done: Executed,
-    /// Larger memory, if there was too little for a short result.
-    spare: Option<ReplyMemory>,
 }

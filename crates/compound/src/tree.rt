@@ -6,7 +6,7 @@ use crate::engine::Engine;
 use crate::executed::{Effect, Executed};
 use crate::fault::Fault;
 use crate::reading::Reading;
-use crate::room::Room;
+use crate::results::MAX_REPLY_BYTES;
 use crate::running::Running;
 use disk::Device;
 use fs::{FsFault, NewDirectory};
@@ -82,15 +82,15 @@ impl<D: Device> Reading<'_, '_, D> {
 }
 
 impl Running<'_> {
+    ghost use Rattle.std.specs.Prelude.{◌≡◌, nat_le, length};
     ghost use Rattle.fs.specs.Operations.{new_directory};
     ghost use Rattle.model.specs.Operations.Operation as operations;
     ghost use Rattle.model.specs.Operations.Answer.{Done};
     ghost use Rattle.model.specs.Attributes.Attribute.{trimmed};
-    ghost use Rattle.model.specs.Operations.OperationNumber.{OP_CREATE};
+    ghost use Rattle.model.specs.Server.World.{reply_with};
     ghost use Rattle.wire.specs.ArgumentViews.{create_view};
     ghost use Rattle.wire.specs.SmallViews.{attributes_view};
     ghost use Rattle.compound.specs.Engines.{Changes, files_in};
-    ghost use Rattle.compound.specs.Rooms.{IsRoom};
     ghost use Rattle.compound.specs.States.{CanServe};
     ghost use Rattle.compound.specs.Trees.{made_answer};
     ghost use Rattle.compound.specs.Views.{in_progress_of};
@@ -135,7 +135,7 @@ impl Running<'_> {
             Ok(number) => number,
             Err(status) => return Ok(self.refuse(Operation::Create, status)),
         };
-        let room = self.created_room(&attributes.bitmap);
+        let has_room = self.has_created_room(&attributes.bitmap);
         let asked = NewDirectory {
             parent,
             name,
@@ -146,14 +146,14 @@ impl Running<'_> {
         };
         match engine
             .fs
-            .make_dir(self.cred, engine.moment, asked, room.is_there)
+            .make_dir(self.cred, engine.moment, asked, has_room)
         {
             Ok(made) => Ok(Executed::Gives {
                 outcome: created(&attributes.bitmap, made.before, made.number),
                 effect: Effect::Moves(made.number),
             }),
             Err(FsFault::Status(status)) => Ok(self.refuse(Operation::Create, status)),
-            Err(FsFault::NoRoom) => Ok(self.refuse(Operation::Create, room.too_big)),
+            Err(FsFault::NoRoom) => Ok(self.refuse(Operation::Create, Status::RepTooBig)),
             Err(FsFault::Memory) => Err(Fault::Memory),
             Err(FsFault::Device) => Err(Fault::Device),
             Err(FsFault::Down) => unreachable!(),
@@ -162,11 +162,11 @@ impl Running<'_> {
 
     /// Whether the reply has room for the result of a CREATE of a directory. The change values do
     /// not matter.
-    fn created_room(&self, bitmap: &Bitmap) -> Room
-        ensures { IsRoom (in_progress_of self.now) OP_CREATE
-            (Done (made_answer 0 0 (trimmed bitmap.now))) result }
+    fn has_created_room(&self, bitmap: &Bitmap) -> bool
+        ensures { result ≡ nat_le (length (reply_with (in_progress_of self.now)
+            (Done (made_answer 0 0 (trimmed bitmap.now))))) MAX_REPLY_BYTES }
     {
-        self.room(Operation::Create, &created(bitmap, 0, 0))
+        self.has_room(&created(bitmap, 0, 0))
     }
 }
 

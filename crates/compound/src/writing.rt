@@ -9,7 +9,7 @@ ghost use Rattle.compound.specs.Operates.{IsShortOutcome};
 use crate::engine::Engine;
 use crate::executed::{Effect, Executed};
 use crate::fault::Fault;
-use crate::room::Room;
+use crate::results::MAX_REPLY_BYTES;
 use crate::running::Running;
 use disk::Device;
 use fs::Writing;
@@ -17,13 +17,13 @@ use opens::Access;
 use wire::{Answer, Operation, Outcome, StableHow, WriteAnswer, WriteArguments};
 
 impl Running<'_> {
+    ghost use Rattle.std.specs.Prelude.{◌≡◌, nat_le, length};
     ghost use Rattle.model.specs.Operations.Answer.{Done};
     ghost use Rattle.model.specs.Operations.Operation as operations;
-    ghost use Rattle.model.specs.Operations.OperationNumber.{OP_COMMIT, OP_WRITE};
+    ghost use Rattle.model.specs.Server.World.{reply_with};
     ghost use Rattle.wire.specs.ArgumentViews.{write_view};
     ghost use Rattle.compound.specs.Engines.{Changes, files_in};
     ghost use Rattle.compound.specs.Files.{committed_answer, written_answer};
-    ghost use Rattle.compound.specs.Rooms.{IsRoom};
     ghost use Rattle.compound.specs.States.{CanServe};
     ghost use Rattle.compound.specs.Views.{in_progress_of};
 
@@ -42,35 +42,31 @@ impl Running<'_> {
             Ok(number) => number,
             Err(status) => return Ok(self.refuse(Operation::Write, status)),
         };
-        let room = self.written_room();
+        let has_room = self.has_written_room();
         let verdict = self.verdict(engine.opens, &arguments.state, Access::WRITE);
         let asked = Writing {
             offset: arguments.offset,
             bytes: arguments.data,
             is_stable: is_to_be_stable(arguments.stable),
         };
-        match engine.fs.write(
-            self.cred,
-            engine.moment,
-            number,
-            verdict,
-            asked,
-            room.is_there,
-        ) {
+        match engine
+            .fs
+            .write(self.cred, engine.moment, number, verdict, asked, has_room)
+        {
             Ok(count) => Ok(Executed::Gives {
                 outcome: written(self.progress.run, arguments.stable, count),
                 effect: Effect::Stays,
             }),
-            Err(fault) => self.tell_fault(Operation::Write, fault, room.too_big),
+            Err(fault) => self.tell_fault(Operation::Write, fault),
         }
     }
 
     /// Whether the reply has room for the result of a WRITE. What it says does not matter.
-    fn written_room(&self) -> Room
-        ensures { IsRoom (in_progress_of self.now) OP_WRITE
-            (Done (written_answer 0 0 0)) result }
+    fn has_written_room(&self) -> bool
+        ensures { result ≡ nat_le (length (reply_with (in_progress_of self.now)
+            (Done (written_answer 0 0 0)))) MAX_REPLY_BYTES }
     {
-        self.room(Operation::Write, &written(0, StableHow::Unstable, 0))
+        self.has_room(&written(0, StableHow::Unstable, 0))
     }
 
     /// COMMIT (section 18.3): keeps all changes so far, unless the reply has no room for the
@@ -85,22 +81,22 @@ impl Running<'_> {
             Ok(number) => number,
             Err(status) => return Ok(self.refuse(Operation::Commit, status)),
         };
-        let room = self.committed_room();
-        match engine.fs.commit(self.cred, number, room.is_there) {
+        let has_room = self.has_committed_room();
+        match engine.fs.commit(self.cred, number, has_room) {
             Ok(()) => Ok(Executed::Gives {
                 outcome: committed(self.progress.run),
                 effect: Effect::Stays,
             }),
-            Err(fault) => self.tell_fault(Operation::Commit, fault, room.too_big),
+            Err(fault) => self.tell_fault(Operation::Commit, fault),
         }
     }
 
     /// Whether the reply has room for the result of a COMMIT. The run does not matter.
-    fn committed_room(&self) -> Room
-        ensures { IsRoom (in_progress_of self.now) OP_COMMIT
-            (Done (committed_answer 0)) result }
+    fn has_committed_room(&self) -> bool
+        ensures { result ≡ nat_le (length (reply_with (in_progress_of self.now)
+            (Done (committed_answer 0)))) MAX_REPLY_BYTES }
     {
-        self.room(Operation::Commit, &committed(0))
+        self.has_room(&committed(0))
     }
 }
 

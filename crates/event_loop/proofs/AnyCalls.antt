@@ -53,7 +53,7 @@ module _ {D : Type 0} {g : Ghosts D} {keeps : Type 0} where
   fed_any old new connection piece (Err faults.Closed) goes refused = any_of {old = old} {new = new} refused
   fed_any old new connection piece (Err faults.NoConnection) goes refused = any_of {old = old} {new = new} (untouched {old = old} {new = new} refused.1)
   fed_any old new connection piece (Err faults.Device) goes refused = failed_call refused.0
-  fed_any old new connection piece (Err faults.Memory) goes refused = any_of {old = old} {new = new} (untouched {old = old} {new = new} refused.0)
+  fed_any old new connection piece (Err faults.Memory) goes refused = absurd refused
   fed_any old new connection piece (Err faults.Full) goes refused = absurd refused
 
   pub turned_any : (old new : Server D g) (connection now : ℕ) (result : Result Turn ServerFault)

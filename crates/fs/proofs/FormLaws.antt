@@ -1,5 +1,5 @@
 -- What each form of a change makes sure of, of whichever tree its edits can be done in: they are few, one name is put at most and is there after them, and what fits before the first and after the last fits after each.
-use Rattle.std.proofs.Common.{◌≡◌, ◌≤◌, ◌⊎◌, ◌+◌, ◌<◌, ℕ, zero, suc, true, List, [], ◌∷◌, Option, Some, None, length, take, refl, sym, ap, ◌∙◌, arith, inl, inr, subst}
+use Rattle.std.proofs.Common.{◌≡◌, ◌≤◌, ◌⊎◌, ◌+◌, ℕ, zero, suc, true, List, [], ◌∷◌, Option, Some, None, length, take, refl, sym, ap, ◌∙◌, arith, inl, inr, subst}
 use Rattle.std.proofs.Math.Logic.{∥∥₁_elim}
 use Rattle.std.proofs.Props.{props}
 use Rattle.std.proofs.lemmas.Bool.{cases_eq}
@@ -22,10 +22,7 @@ use Rattle.model_tree.specs.Trees.Stamp.{stamp}
 use Rattle.model_tree.specs.Trees.Tree.{Tree, Node, DirEntry, File, bytes_of, names_of, names_of_node, names_at, is_directory_at}
 use Rattle.model_tree.proofs.Trees.EditLaws.{directory_at}
 use Rattle.model_tree.proofs.Trees.KeyedLaws.{at-with_same, at-with_other, IsAbove-with}
-use Rattle.layout.specs.Versions.{transfer_bytes_by}
-use Rattle.layout.specs.declared.versions.VersionNumber.{VersionNumber}
-use Rattle.layout.specs.declared.versions.VersionNumber.TheVariants as numbers
-use Rattle.volume.specs.Edits.{HasPut, IsAboveAll, IsChange, edited_by, most_edit_updates, named_by}
+use Rattle.volume.specs.Edits.{HasPut, IsAboveAll, IsChange, edited_by, named_by}
 use Rattle.volume.specs.Formed.{IsFormed}
 use Rattle.volume.specs.VolumeState.{VolumeState}
 use Rattle.volume.proofs.EditLaws.{one_number}
@@ -34,32 +31,15 @@ use Rattle.fs.proofs.RoomLaws.{above_altered, above_flat, above_name_dropped, ab
 
 -- Its edits are few, and put at most one name
 
-few_forms : (held : VolumeState) (change : Change) → IsAllowed held change → (updates_of_all (edits_by change) ≤ 46) ⊎ ((updates_of_all (edits_by change) ≤ 272) × (46 < most_edit_updates held.version))
-few_forms held (Making number of zero metadata directory name directory_metadata) above = inl (omega arith)
-few_forms held (Making number of (suc size) metadata directory name directory_metadata) above = inl (omega arith)
-few_forms held (Removing place number directory_metadata) any = inl (omega arith)
-few_forms held (Moving number old new None old_metadata new_metadata) any = inl (omega arith)
-few_forms held (Moving number old new (Some target) old_metadata new_metadata) any = inl (omega arith)
-few_forms held (Writing file offset bytes metadata) less = by_version held.version less
-  where
-    by_version : (version : VersionNumber) → length bytes.now ≤ transfer_bytes_by version
-        → (updates_of_all (edits_by (Writing file offset bytes metadata)) ≤ 46) ⊎ ((updates_of_all (edits_by (Writing file offset bytes metadata)) ≤ 272) × (46 < most_edit_updates version))
-    by_version numbers.One less = inl (omega (arith, less))
-    by_version numbers.Two less = inl (omega (arith, less))
-    by_version (numbers.Three s) less = inr (omega (arith, less), omega arith)
-few_forms held (Setting number None metadata) any = inl (omega arith)
-few_forms held (Setting number (Some size) metadata) any = inl (omega arith)
-
-most_cases : (version : VersionNumber) (count : ℕ) → (count ≤ 46) ⊎ ((count ≤ 272) × (46 < most_edit_updates version)) → count ≤ most_edit_updates version
-most_cases numbers.One count (inl few) = few
-most_cases numbers.One count (inr many) = let low : 46 < 46 = many.1 in omega (arith, low)
-most_cases numbers.Two count (inl few) = few
-most_cases numbers.Two count (inr many) = let low : 46 < 46 = many.1 in omega (arith, low)
-most_cases (numbers.Three s) count (inl few) = omega (arith, few)
-most_cases (numbers.Three s) count (inr many) = many.0
-
-few_updates : (held : VolumeState) (change : Change) → IsAllowed held change → updates_of_all (edits_by change) ≤ most_edit_updates held.version
-few_updates held change allowed = most_cases held.version (updates_of_all (edits_by change)) (few_forms held change allowed)
+few_updates : (held : VolumeState) (change : Change) → IsAllowed held change → updates_of_all (edits_by change) ≤ 46
+few_updates held (Making number of zero metadata directory name directory_metadata) above = omega arith
+few_updates held (Making number of (suc size) metadata directory name directory_metadata) above = omega arith
+few_updates held (Removing place number directory_metadata) any = omega arith
+few_updates held (Moving number old new None old_metadata new_metadata) any = omega arith
+few_updates held (Moving number old new (Some target) old_metadata new_metadata) any = omega arith
+few_updates held (Writing file offset bytes metadata) less = omega (arith, less)
+few_updates held (Setting number None metadata) any = omega arith
+few_updates held (Setting number (Some size) metadata) any = omega arith
 
 names_one : (change : Change) → length (named_by (edits_by change)) ≤ 1
 names_one (Making number of zero metadata directory name directory_metadata) = omega arith

@@ -13,9 +13,6 @@ use Rattle.tree_edits.specs.Edits.{AreEntries, AreDoable, edits_of, size_of}
 use Rattle.layout.specs.CachedNodes.{CachedNode}
 use Rattle.layout.specs.Known.{IsCached}
 use Rattle.layout.specs.Stands.{Kept}
-use Rattle.layout.specs.Versions.{transfer_bytes_by}
-use Rattle.layout.specs.declared.versions.VersionNumber.{VersionNumber}
-use Rattle.layout.specs.declared.versions.VersionNumber.TheVariants as numbers
 use Rattle.model_tree.specs.declared.acl.Ace.{Ace}
 use Rattle.model_tree.specs.declared.acl.Cred.{Cred}
 use Rattle.model_tree.specs.declared.limits.Limits.{Limits}
@@ -167,11 +164,6 @@ puts_tree fs cred now number verdict asked edits step then lasts made = (
 
 -- The edits, as they are in memory
 
-transfer_some : (version : VersionNumber) → 0 < transfer_bytes_by version
-transfer_some numbers.One = omega arith
-transfer_some numbers.Two = omega arith
-transfer_some (numbers.Three s) = omega arith
-
 module _ (fs : FileSystem) (formed : MayStand fs.volume fs.changes) (counted : fs.changes < 2 ^ 32) (limited : IsLimited fs.volume)
     (cred : Cred) (now number : ℕ) (verdict : Result (Unit {0}) Status) (asked : Writing) (cached : CachedNode) (node : IsNodeOf fs.volume.tree number cached) (file : cached.fields.kind ≡ kind.File) (fit_cached : IsCached cached)
     (passed : first_refusal (permit_refusals fs.volume.tree cred number write_data verdict) ≡ None) (some : 0 < length asked.bytes.now)
@@ -211,14 +203,14 @@ module _ (fs : FileSystem) (formed : MayStand fs.volume fs.changes) (counted : f
   after_is : edited_by fs.volume edits ≡ edited wanted fs.volume.tree
   after_is = ap (λ (l : List model.Edit). edited l fs.volume.tree) wanted_is
 
-  transfer : fs.volume.limits.transfer_bytes ≡ transfer_bytes_by fs.volume.version
+  transfer : fs.volume.limits.transfer_bytes ≡ 8192
   transfer = ap (λ (l : Limits). l.transfer_bytes) limited.limits
 
   most : fs.volume.limits.file_bytes ≤ 16777216
   most = file_most fs.volume limited
 
   part_some : 0 < length part
-  part_some = omega (arith, some, length-take fs.volume.limits.transfer_bytes asked.bytes.now, transfer, transfer_some fs.volume.version)
+  part_some = omega (arith, some, length-take fs.volume.limits.transfer_bytes asked.bytes.now, transfer)
 
   part_few : length part ≤ fs.volume.limits.transfer_bytes
   part_few = omega (arith, length-take fs.volume.limits.transfer_bytes asked.bytes.now)
@@ -255,7 +247,7 @@ module _ (fs : FileSystem) (formed : MayStand fs.volume fs.changes) (counted : f
     ),
   )
 
-  few_bytes : length encoded.now ≤ transfer_bytes_by fs.volume.version
+  few_bytes : length encoded.now ≤ 8192
   few_bytes =
       let count : length encoded.now ≡ length part = ap (λ (l : List ℕ). length l) encoded_is in
       let few = part_few in

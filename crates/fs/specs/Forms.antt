@@ -4,7 +4,6 @@ use denote.Ref.{Bor}
 use Rattle.tree_transaction.specs.declared.nodes.Metadata.{Metadata}
 use Rattle.tree_edits.specs.declared.edit.Edit.{Edit}
 use Rattle.tree_edits.specs.declared.edit.Edit.TheVariants as edit
-use Rattle.layout.specs.Versions.{transfer_bytes_by}
 use Rattle.model_tree.specs.declared.node.NodeKind.{NodeKind}
 use Rattle.volume.specs.Edits.{IsAboveAll}
 use Rattle.volume.specs.VolumeState.{VolumeState}
@@ -81,6 +80,5 @@ IsAllowed held (Making number of size metadata directory name directory_metadata
     IsAboveAll held number
 IsAllowed held (Removing place number directory_metadata) = Unit {0}
 IsAllowed held (Moving number old new target old_metadata new_metadata) = Unit {0}
-IsAllowed held (Writing file offset bytes metadata) =
-    length bytes.now ≤ transfer_bytes_by held.version
+IsAllowed held (Writing file offset bytes metadata) = length bytes.now ≤ 8192
 IsAllowed held (Setting number size metadata) = Unit {0}

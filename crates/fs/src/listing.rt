@@ -20,9 +20,6 @@ use wire_attributes::{Attribute, AttributesAnswer, ListedAttributes, ListedEntry
 /// says whether this is the end.
 const EMPTY_PAGE: usize = 16;
 
-/// The most bytes of a page.
-const MAX_PAGE_BYTES: usize = 65_536;
-
 /// What READDIR asks for (RFC 8881, section 18.23). Its dircount is ignored.
 #[derive(Clone, Copy)]
 pub struct Listing<'a> {
@@ -118,8 +115,7 @@ impl<D: Device> Fs<D> {
             return Err(FsFault::Down);
         }
         let cached = self.permit_read_dir(cred, &listing)?;
-        let most = self.volume.limits().transfer_bytes.min(MAX_PAGE_BYTES);
-        let bytes = (listing.max_count as usize).min(most);
+        let bytes = (listing.max_count as usize).min(self.volume.limits().transfer_bytes);
         if bytes < EMPTY_PAGE {
             return Err(FsFault::Status(Status::TooSmall));
         }

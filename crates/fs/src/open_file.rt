@@ -44,7 +44,7 @@ impl<D: Device> Fs<D> {
     ghost use Rattle.fs.specs.Making.{IsDirectoryOf, room_tests};
     ghost use Rattle.fs.specs.OnTree.{IsState};
     ghost use Rattle.fs.specs.Opening.{IsOpened, IsOpening, IsPlaced, NameLeadsTo, OpensAsPlanned, OpensFile, OpensTree};
-    ghost use Rattle.fs.specs.Opening.{file_tests, has_open_room, open_effect, place_tests, tree_cut, type_of};
+    ghost use Rattle.fs.specs.Opening.{file_tests, has_open_room, place_tests, tree_cut, type_of};
     ghost use Rattle.fs.specs.Operations.{IsOn, IsNotDone};
     ghost use Rattle.fs.specs.Planned.{IsPlanned};
     ghost use Rattle.fs.specs.Refusals.{MindsRoom, fault_of};
@@ -101,33 +101,6 @@ impl<D: Device> Fs<D> {
         };
         self.change_stable(&edits)?;
         Ok(opened)
-    }
-
-    /// What an OPEN of a file by its name does to the file, if nothing refuses it except that its
-    /// reply has no room.
-    ///
-    /// # Errors
-    ///
-    /// Those of [`Fs::open_file`] before `NoRoom`.
-    pub fn open_effect(
-        &self,
-        cred: &Cred,
-        now: u64,
-        asked: Opening<'_>,
-        is_full: bool,
-    ) -> Result<OpenEffect, NotDone>
-        requires up { (fs_of self.now).volume.is_down ≡ false }
-        requires few { length (given_by (type_of asked.how)).bitmap ≤ 8 }
-        ensures effect { IfOk result (λ effect. effect ≡ open_effect (fs_of self.now).volume.tree
-            asked.entry.directory asked.entry.name.now (type_of asked.entry.how)) }
-        ensures refused { (state : State) (arguments : OpenArguments)
-            → IsOn (fs_of self.now) cred.now asked.entry.directory state
-            → IsOpening (fs_of self.now) state asked.entry is_full arguments
-            → IfErr result (λ refusal. IsNotDone (fs_of self.now) state now
-            (Argument.Open arguments) (fault_of refusal)) }
-    {
-        let planned = self.plan_open(cred, now, asked, is_full)?;
-        Ok(planned.opened.effect)
     }
 
     /// The change of an open, if nothing refuses it except that its reply has no room.

@@ -22,7 +22,6 @@ pub struct Writing<'a> {
 #[tactic(auto, unfolding(crate::specs::Views::fs_of, crate::specs::Views::fs_failures))]
 impl<D: Device> Fs<D> {
     ghost use Rattle.std.specs.Prelude.{◌≡◌, ◌+◌, ◌<◌, ◌≤◌, ◌⊎◌, true, false, ℕ, length, take, OnOk, IfOk, IfErr, IfSome, IfNone, IsErrOf, IsTrue};
-    ghost use Rattle.layout.specs.Versions.{transfer_bytes_by};
     ghost use Rattle.model.specs.Operations.Files.{are_bytes};
     ghost use Rattle.model.specs.Operations.Operation.{Argument, CommitArguments, WriteArguments};
     ghost use Rattle.model_tree.specs.Trees.Stamp.{is_stamp_left};
@@ -138,8 +137,7 @@ impl<D: Device> Fs<D> {
     fn taken<'a>(&self, bytes: &'a [u8]) -> &'a [u8]
         ensures taken { result.now
             ≡ take (fs_of self.now).volume.limits.transfer_bytes bytes.now }
-        ensures few { length result.now
-            ≤ transfer_bytes_by (fs_of self.now).volume.version }
+        ensures few { length result.now ≤ 8192 }
         ensures bytes { IsTrue (are_bytes bytes.now) }
     {
         &bytes[..bytes.len().min(self.volume.limits().transfer_bytes)]

@@ -81,25 +81,12 @@ file_bytes_by One = 16777216
 file_bytes_by Two = 16777216
 file_bytes_by (Three s) = s.geometry.file_bytes
 
--- the bytes of a READ and of a WRITE, and the opens
-abbrev pub transfer_bytes_by : VersionNumber → ℕ
-transfer_bytes_by One = 8192
-transfer_bytes_by Two = 8192
-transfer_bytes_by (Three s) = 1048576
-
-abbrev pub opens_by : VersionNumber → ℕ
-opens_by One = 256
-opens_by Two = 256
-opens_by (Three s) = 4096
-
--- what a tree may have, and its clients: as in versions 1 and 2, except for these
+-- what a tree may have: as in versions 1 and 2, except for these
 abbrev pub limits_by : VersionNumber → (size nodes : ℕ) → Limits
 limits_by number size nodes = record (limits_of size nodes) {
   data_sectors = data_end_by number size - (148 + nodes);
   names = names_by number;
   file_bytes = file_bytes_by number;
-  transfer_bytes = transfer_bytes_by number;
-  opens = opens_by number;
 }
 
 abbrev pub marking_by : VersionNumber → Marking

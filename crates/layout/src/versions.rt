@@ -17,12 +17,6 @@ use sector::{put_bytes, put_u32, put_zeros};
 /// The bytes that a mark begins with.
 const MARK_MAGIC: [u8; 4] = *b"MIGR";
 
-/// The bytes of a READ and of a WRITE on a volume of version 3.
-const TRANSFER_BYTES: usize = 1 << 20;
-
-/// The opens on a volume of version 3.
-const OPENS: usize = 4_096;
-
 /// The version of a volume's layout, as its first sector has it.
 #[derive(Clone, Copy)]
 pub enum VersionNumber {
@@ -154,8 +148,6 @@ impl VersionNumber {
             limits.data_sectors = (geometry.data_end() - (NODES + nodes)) as usize;
             limits.names = geometry.names as usize;
             limits.file_bytes = geometry.file_bytes as usize;
-            limits.transfer_bytes = TRANSFER_BYTES;
-            limits.opens = OPENS;
         }
         limits
     }

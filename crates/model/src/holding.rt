@@ -1,9 +1,8 @@
 //! Which replies the volume holds, so that they survive a crash.
 
 /// The replies to requests on persistent sessions that a seat of the session holds on the volume
-/// (RFC 8881, section 2.10.6.5). A slot keeps these in memory too, and each other reply that is
-/// short, so within a run their retries get the same bytes, and a retry of a longer one gets
-/// RETRY_UNCACHED_REP. After a crash a retry gets a held reply, or DEADSESSION.
+/// (RFC 8881, section 2.10.6.5). Every reply is kept in memory too, so within a run a retry gets
+/// the same bytes; after a crash a retry gets a held reply, or DEADSESSION.
 #[derive(Clone, Copy, PartialEq, Eq)]
 pub enum Holding {
     /// None: no session is persistent.

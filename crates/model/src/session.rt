@@ -23,8 +23,8 @@ pub fn every_id_is_new()
     ensures { EveryCallGivesNew }
 {}
 
-/// Whatever events come, a slot keeps no result of more than 16,384 bytes, whatever room its
-/// session has for a reply.
+/// Whatever events come, a kept result has at most 12 bytes less than the record of an OK reply may
+/// have.
 pub fn kept_replies_are_short()
     ensures { KeepsShort }
 {}

@@ -45,8 +45,6 @@ pub enum Status {
     SeqMisordered = 10063,
     SequencePos = 10064,
     RepTooBig = 10066,
-    RepTooBigToCache = 10067,
-    RetryUncachedRep = 10068,
     TooManyOps = 10070,
     OpNotInSession = 10071,
     ClientIdBusy = 10074,

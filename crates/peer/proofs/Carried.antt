@@ -7,7 +7,6 @@ use Rattle.std.specs.declared.io.ErrorKind.{ErrorKind}
 use Rattle.std.specs.declared.io.ErrorKind.TheVariants as kinds
 use Rattle.disk.specs.declared.device.Device.{Ghosts}
 use Rattle.model.specs.Server.Runs.{Arrives, Turns, Takes}
-use Rattle.model.specs.Server.World.{World}
 use Rattle.server.specs.Refused.{RefusesTurn, connection_at, view}
 use Rattle.server.specs.Seen.{Did, Said, Took}
 use Rattle.server.specs.Views.{gave}
@@ -15,9 +14,10 @@ use Rattle.server.specs.declared.fault.ServerFault.{ServerFault}
 use Rattle.server.specs.declared.fault.ServerFault.TheVariants as faults
 use Rattle.server.specs.declared.server.Server.{Server}
 use Rattle.system.specs.declared.refused.Refused.{Refused}
+use Rattle.system.specs.declared.refused.Refused.TheVariants as refusals
 use Rattle.peer.specs.Calls.{Goes, IsNone, IsOne, RefusesBytes, RefusesOutput}
 use Rattle.peer.specs.Partings.{parting_of}
-use Rattle.peer.specs.Steps.{AreAll, Tally, IsTallied, Carries, HasWorked, Turned, Asked, Wrote, Read_broken, Write_broken, Reason, Dismissed, Read_over, Write_over, Closes, Was_closed, Has_none, Parts, HasBytes, IsFed, IsUnfed, IsUnfedBy, HasRead, Advances, Reads, Runs, GivesNoTurn, Sends, ServesOn, EndsPeer, EndsAgain, IsEndBy, WaitsToWrite, IsStuck, To_write, unsent}
+use Rattle.peer.specs.Steps.{AreAll, Tally, IsTallied, Carries, HasWorked, Turned, Asked, Wrote, Read_broken, Write_broken, Reason, Dismissed, Read_over, Write_over, Closes, Was_closed, Has_none, Parts, HasBytes, IsFed, IsUnfed, HasRead, Advances, Reads, Runs, GivesNoTurn, Sends, ServesOn, EndsPeer, EndsAgain, IsEndBy, WaitsToWrite, IsStuck, To_write, unsent}
 use Rattle.peer.specs.Streams.{IsOver}
 use Rattle.peer.specs.declared.pace.Pace.{Pace}
 use Rattle.peer.specs.declared.pace.Pace.TheVariants as paces
@@ -211,17 +211,7 @@ refused_bytes peer faults.Device refuses = record {
   works = λ is. let never : ⊥ = cc in absurd never;
   parts = refuses.0;
 }
-refused_bytes peer faults.Memory refuses = record {
-  tally = nothing;
-  carries = carries_same peer (untouched refuses.0);
-  shown = tt;
-  few = omega arith;
-  turned = λ has. tt;
-  feeds = inr (subst (λ (world : World). 16384 < world.limits.records.bytes) (sym refuses.0.0) refuses.1);
-  unread = λ has. refl;
-  works = λ is. let never : ⊥ = cc in absurd never;
-  parts = tt;
-}
+refused_bytes peer faults.Memory refuses = absurd refuses
 refused_bytes peer faults.Full refuses = absurd refuses
 
 works_after : {S : Type 0} {h : stream.Ghosts S} (a b : Tally) (peer : Peer S h) → HasWorked peer b → HasWorked peer (joined a b)
@@ -546,7 +536,7 @@ reads_as before after result other advances = record { advances = advances; read
 -- of a step that leaves the peer to be served on, by what it returns
 pub serves_as : {D S : Type 0} {g : Ghosts D} {h : stream.Ghosts S} {keeps : Type 0} {moments : ℕ → Type 0} {old new : Server D g} (before after : Peer S h) (result : Result Pace Parting) (answer : Result Step Refused)
     → Reads keeps moments old new before after result → ((pace : Pace) → answer ≡ Ok (steps.Stays pace) → (pace ≡ paces.Pauses → ⊥) → result ≡ Ok pace)
-    → (IsUnfed new after result → IsUnfedBy new answer) → ServesOn keeps moments old new before after answer
+    → (IsUnfed new after result → answer ≡ Err refusals.Device) → ServesOn keeps moments old new before after answer
 serves_as {keeps = keeps} {moments = moments} {old = old} {new = new} before after result answer reads told failed =
     let advances : Advances keeps moments old new before after result = reads.advances in
     record {

@@ -1,5 +1,5 @@
 -- Calls after calls, and what one call of the server comes to.
-use Rattle.std.proofs.Common.{◌≡◌, ◌<◌, ◌↔◌, ℕ, List, [], ◌∷◌, ◌++◌, Option, Some, None, Result, Ok, Err, IfOk, IfErr, OnOk, OnErr, IsErrOf, Bool, true, false, inl, inr, refl, ap, sym, subst}
+use Rattle.std.proofs.Common.{◌≡◌, ◌↔◌, ℕ, List, [], ◌∷◌, ◌++◌, Option, Some, None, Result, Ok, Err, IfOk, IfErr, OnOk, OnErr, IsErrOf, Bool, true, false, inl, inr, refl, ap, sym, subst}
 use Rattle.std.specs.Global.{Vec}
 use Rattle.disk.specs.declared.device.Device.{Ghosts}
 use Rattle.model.specs.Server.Runs.{Event, Arrives, Turns, HangsUp, Takes, Left}
@@ -142,7 +142,7 @@ pub refuses_bytes : {D : Type 0} {g : Ghosts D} {keeps : Type 0} (old new : Serv
     → (keeps → IsErrOf result faults.Closed → Serves old new (Arrives connection piece) (Took None))
     → (IsErrOf result faults.Device ↔ ((volume_of old).is_down ≡ true))
     → (IsErrOf result faults.NoConnection → connection_at (view old) connection ≡ None)
-    → IfErr result (λ fault. (fault ≡ faults.Full → ⊥) × (fault ≡ faults.Memory → 16384 < (world_of old).limits.records.bytes))
+    → IfErr result (λ fault. (fault ≡ faults.Full → ⊥) × (fault ≡ faults.Memory → ⊥))
     → IfErr result (λ fault. (fault ≡ faults.Closed → ⊥) → world_of new ≡ world_of old)
     → files_of new ≡ files_of old → server_failures new ≡ server_failures old
     → IfErr result (RefusesBytes keeps old new connection piece)
@@ -154,8 +154,7 @@ refuses_bytes old new connection piece (Err faults.NoConnection) closes down non
 refuses_bytes old new connection piece (Err faults.Device) closes down none only same files failures =
     let is : (volume_of new).is_down ≡ true = rw (same_volume old new files) (down.0 refl) in
     (is, untouched_by old new (same (λ e. let never : ⊥ = cc in never)) files failures)
-refuses_bytes old new connection piece (Err faults.Memory) closes down none only same files failures =
-    (untouched_by old new (same (λ e. let never : ⊥ = cc in never)) files failures, only.1 refl)
+refuses_bytes old new connection piece (Err faults.Memory) closes down none only same files failures = absurd (only.1 refl)
 refuses_bytes old new connection piece (Err faults.Full) closes down none only same files failures = absurd (only.0 refl)
 
 pub turned : {D : Type 0} {g : Ghosts D} {keeps : Type 0} (defers : Bool) (old new : Server D g) (connection now : ℕ) (result : Result Turn ServerFault)

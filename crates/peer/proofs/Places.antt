@@ -114,9 +114,9 @@ module _ (world : World) (here : ℕ) (Has : Keyed Connection → Type 0) (puts 
   turned now _ (Says bytes xid reply is) = puts world.connections (Replied (framed (reply_text xid reply))) there
   turned now _ (Closes request last is done) = ended world refl None request last true
   turned now _ (Unread request operation reason goes) = went world refl None request (Refused operation reason)
-  turned now _ (TooBig request operation rest reason goes reads) =
-      went world refl (Some (executed_entry world (read_of request rest) operation (Refused (operation_of operation) reason) world))
-      (noting world world operation (read_of request rest)) (Refused (operation_of operation) reason)
+  turned now _ (TooBig request operation rest goes reads) =
+      went world refl (Some (executed_entry world (read_of request rest) operation (Refused (operation_of operation) status.RepTooBig) world))
+      (noting world world operation (read_of request rest)) (Refused (operation_of operation) status.RepTooBig)
   turned now _ (Gave request operation rest outcome after left goes reads is) =
       let same : Keeps world (Gives outcome after left) = subst (Keeps world) is (run_keeps world (read_of request rest) now operation) in
       went after same (Some (executed_entry world (read_of request rest) operation outcome after)) (noting world after operation left) outcome

@@ -1,5 +1,5 @@
 -- What a round gives each peer.
-use Rattle.std.proofs.Common.{◌≡◌, ◌≢◌, ◌<◌, ◌≤◌, ◌==◌, ℕ, if◌then◌else◌, List, [], ◌∷◌, ◌++◌, Option, Some, None, Result, Ok, IfOk, ◌⊎◌, inl, inr, refl, sym, ap, subst, ◌∙◌, append-nil, eq-eqb, ne_eqb, arith}
+use Rattle.std.proofs.Common.{◌≡◌, ◌≢◌, ◌<◌, ◌≤◌, ◌==◌, ℕ, if◌then◌else◌, List, [], ◌∷◌, ◌++◌, Option, Some, None, Result, Ok, Err, IfOk, ◌⊎◌, inl, inr, refl, sym, ap, subst, ◌∙◌, append-nil, eq-eqb, ne_eqb, arith}
 use Rattle.std.proofs.lemmas.Bool.{cases_order}
 use Rattle.std.proofs.lemmas.Option.{same_Some}
 use Rattle.disk.specs.declared.device.Device.{Ghosts}
@@ -8,10 +8,11 @@ use Rattle.server.specs.Refused.{connection_at, view}
 use Rattle.server.specs.Seen.{ServerCall, Did, Failed}
 use Rattle.server.specs.declared.server.Server.{Server}
 use Rattle.system.specs.declared.refused.Refused.{Refused}
+use Rattle.system.specs.declared.refused.Refused.TheVariants as refusals
 use Rattle.peer.specs.Calls.{Goes, IsEnd}
 use Rattle.peer.specs.Rounds.{Among, AnyCalls, HaveOneTurn, HaveTurn, IsTurnOf, Shows, StaysOn, HasEnded, Leaves, StepsKey, EndedWithin, IsRound, step_of, HadTurn, HadEnd, EveryRound}
 use Rattle.peer.specs.Rounds as rounds
-use Rattle.peer.specs.Steps.{AnyMoment, AreOn, EndsAgain, EndsPeer, HasBytes, IsEndBy, IsFed, IsUnfedBy, IsTallied, ServesOn, StaysServed, Tally, all_by, count_by, shown_by, turns_by}
+use Rattle.peer.specs.Steps.{AnyMoment, AreOn, EndsAgain, EndsPeer, HasBytes, IsEndBy, IsFed, IsTallied, ServesOn, StaysServed, Tally, all_by, count_by, shown_by, turns_by}
 use Rattle.peer.specs.declared.pace.Pace.{Pace}
 use Rattle.peer.specs.declared.pace.Pace.TheVariants as paces
 use Rattle.peer.specs.declared.peer.Peer.{Peer}
@@ -20,7 +21,7 @@ use Rattle.peer.specs.declared.peer.Stage.TheVariants as stages
 use Rattle.peer.specs.declared.peer.Step.{Step}
 use Rattle.peer.specs.declared.peer.Step.TheVariants as steps
 use Rattle.peer.specs.declared.stream.Stream as stream
-use Rattle.peer.proofs.Carried.{carries_any, paused}
+use Rattle.peer.proofs.Carried.{carries_any}
 use Rattle.peer.proofs.Made.{goes_as, goes_on, not_called}
 use Rattle.peer.proofs.Served.{IsChanged}
 use Rattle.peer.proofs.Tallies.{tallies_any}
@@ -89,22 +90,21 @@ bytes_wait : {S : Type 0} {h : stream.Ghosts S} (peer : Peer S h) → HasBytes p
 bytes_wait peer (inl runs) gathers empty = let never : ⊥ = cc in never
 bytes_wait peer (inr has) gathers empty = has.1 empty
 
--- a step that returns no error, and did not lack memory, has fed a peer what it had
-fed_by : {D S : Type 0} {g : Ghosts D} {h : stream.Ghosts S} (server : Server D g) (peer : Peer S h) (tally : Tally) (result : Result Step Refused) (pace : Pace) → HasBytes peer → tally.came ≡ []
-    → result ≡ Ok (steps.Stays pace) → (pace ≡ paces.Pauses → ⊥) → IsFed peer tally ⊎ IsUnfedBy server result → peer.stage ≡ stages.Gathers → tally.shown ≡ peer.inbox ∷ []
-fed_by server peer tally result pace has unread told awake (inl fed) gathers =
+-- a step that returns no error has fed a peer what it had
+fed_by : {S : Type 0} {h : stream.Ghosts S} (peer : Peer S h) (tally : Tally) (result : Result Step Refused) (step : Step) → HasBytes peer → tally.came ≡ [] → result ≡ Ok step
+    → IsFed peer tally ⊎ (result ≡ Err refusals.Device) → peer.stage ≡ stages.Gathers → tally.shown ≡ peer.inbox ∷ []
+fed_by peer tally result step has unread told (inl fed) gathers =
     let all : peer.inbox ++ tally.came ≡ peer.inbox = ap (λ (came : List ℕ). peer.inbox ++ came) unread ∙ append-nil peer.inbox in
     fed gathers (λ none. bytes_wait peer has gathers (sym all ∙ none)) ∙ ap (λ (piece : List ℕ). piece ∷ []) all
-fed_by server peer tally result pace has unread told awake (inr (inl failed)) gathers = let never : ⊥ = cc in absurd never
-fed_by server peer tally result pace has unread told awake (inr (inr pauses)) gathers = absurd (paused pace _ (sym pauses.0 ∙ told) awake)
+fed_by peer tally result step has unread told (inr failed) gathers = let never : ⊥ = cc in absurd never
 
 -- one that leaves the peer to be served on
 turns_once : {D S : Type 0} {g : Ghosts D} {h : stream.Ghosts S} {keeps : Type 0} (moments : ℕ → Type 0) {old new : Server D g} (peer left : Peer S h) (result : Result Step Refused) (pace : Pace)
     → ServesOn keeps moments old new peer left result → HasBytes peer → result ≡ Ok (steps.Stays pace) → (pace ≡ paces.Pauses → ⊥) → Goes keeps old new (HaveOneTurn peer)
-turns_once moments {new = new} peer left result pace serves has is awake =
+turns_once moments peer left result pace serves has is awake =
     let tally : Tally = serves.tally in
     let once : tally.turns ≡ 1 = serves.turned has (pace, is, awake) in
-    let fed : peer.stage ≡ stages.Gathers → tally.shown ≡ peer.inbox ∷ [] = fed_by new peer tally result pace has (serves.unread has) is awake serves.feeds in
+    let fed : peer.stage ≡ stages.Gathers → tally.shown ≡ peer.inbox ∷ [] = fed_by peer tally result (steps.Stays pace) has (serves.unread has) is serves.feeds in
     goes_as {first = IsTallied AnyMoment peer.conn tally} {kind = HaveOneTurn peer}
     (λ (calls : List ServerCall) (tallied : IsTallied AnyMoment peer.conn tally calls). (tallied.on, tallied.turns ∙ once, λ gathers. tallied.shown ∙ fed gathers))
     (tallies_any moments AnyMoment peer.conn tally (λ now shows. tt) serves.carries.calls)

@@ -1,5 +1,5 @@
 -- The calls of the server that the loop makes.
-use Rattle.std.specs.Prelude.{ℕ, List, [], ◌∷◌, false, true, ◌≡◌, ◌<◌, ◌⊎◌, Option, None, Result, Ok, Err}
+use Rattle.std.specs.Prelude.{ℕ, List, [], ◌∷◌, false, true, ◌≡◌, ◌⊎◌, Option, None, Result, Ok, Err}
 use Rattle.disk.specs.declared.device.Device.{Ghosts}
 use Rattle.model.specs.Server.Runs.{Arrives, Turns, HangsUp, Left}
 use Rattle.model.specs.Server.World.{Connection}
@@ -86,8 +86,7 @@ RefusesBytes keeps old new connection piece faults.NoConnection =
     (connection_at (view old) connection ≡ None) × IsUntouched (view old) (view new)
 RefusesBytes keeps old new connection piece faults.Device =
     ((volume_of new).is_down ≡ true) × IsUntouched (view old) (view new)
-RefusesBytes keeps old new connection piece faults.Memory =
-    IsUntouched (view old) (view new) × (16384 < (view old).world.limits.records.bytes)
+RefusesBytes keeps old new connection piece faults.Memory = ⊥
 RefusesBytes keeps old new connection piece faults.Full = ⊥
 
 -- a reply that is asked for of no connection

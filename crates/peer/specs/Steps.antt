@@ -213,14 +213,13 @@ IsFed before tally =
     before.stage ≡ stages.Gathers → (before.inbox ++ tally.came ≡ [] → ⊥)
     → tally.shown ≡ (before.inbox ++ tally.came) ∷ []
 
--- why it was not: the server has no such connection, the device failed, or there is no memory for
--- a record of more than 16,384 bytes
+-- why it was not: the server has no such connection, or the device failed
 abbrev pub IsUnfed : {D S : Type 0} {g : Ghosts D} {h : stream.Ghosts S} → Server D g → Peer S h
     → Result Pace Parting → Type 0
 IsUnfed server peer (Ok pace) = ⊥
 IsUnfed server peer (Err partings.Peer) = connection_at (view server) peer.conn ≡ None
 IsUnfed server peer (Err partings.Device) = (volume_of server).is_down ≡ true
-IsUnfed server peer (Err partings.Memory) = 16384 < (view server).world.limits.records.bytes
+IsUnfed server peer (Err partings.Memory) = ⊥
 IsUnfed server peer (Err partings.Clock) = ⊥
 
 -- bytes came, or its last read reported that none had, an error, or the end of the stream
@@ -327,13 +326,6 @@ pub record EndsAgain {D S : Type 0} {g : Ghosts D} {h : stream.Ghosts S} (keeps 
 abbrev pub HadMemory : Result Step Refused → Type 0
 HadMemory result = (pace : Pace) × (result ≡ Ok (steps.Stays pace)) × (pace ≡ paces.Pauses → ⊥)
 
--- why a peer that is to be served on was not fed: the device failed, or there is no memory for a
--- record of more than 16,384 bytes
-abbrev pub IsUnfedBy : {D : Type 0} {g : Ghosts D} → Server D g → Result Step Refused → Type 0
-IsUnfedBy server result = (result ≡ Err refusals.Device)
-    ⊎ ((result ≡ Ok (steps.Stays paces.Pauses))
-    × (16384 < (view server).world.limits.records.bytes))
-
 -- a step that leaves a peer to be served on
 pub record ServesOn {D S : Type 0} {g : Ghosts D} {h : stream.Ghosts S} (keeps : Type 0)
     (moments : ℕ → Type 0) (old new : Server D g) (before after : Peer S h)
@@ -343,7 +335,7 @@ pub record ServesOn {D S : Type 0} {g : Ghosts D} {h : stream.Ghosts S} (keeps :
   pub shown : AreAll (before.inbox ++ tally.came) tally.shown
   pub few : tally.turns ≤ 1
   pub turned : HasBytes before → HadMemory result → tally.turns ≡ 1
-  pub feeds : IsFed before tally ⊎ IsUnfedBy new result
+  pub feeds : IsFed before tally ⊎ (result ≡ Err refusals.Device)
   pub unread : HasBytes before → tally.came ≡ []
   pub reads : before.stage ≡ stages.Gathers → before.inbox ≡ [] → HasRead after tally
   pub works : result ≡ Ok (steps.Stays paces.Goes) → HasWorked after tally

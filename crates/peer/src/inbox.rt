@@ -5,8 +5,8 @@ use std::alloc::{AllocError, Global};
 use std::io;
 use std::marker::Model;
 
-/// The most bytes that wait. A record of 16,384 bytes fits, with the headers of all its fragments;
-/// of a longer one the server takes what has come, piece by piece.
+/// The most bytes that wait. The longest record of a request fits, with the headers of all its
+/// fragments.
 const INBOX_BYTES: usize = 32_768;
 
 /// The bytes of a peer that wait for the server, as which it is seen.

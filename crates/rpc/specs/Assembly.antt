@@ -1,15 +1,14 @@
 -- What an assembler keeps of a connection's next record (RFC 5531, section 11), and how a piece of
 -- the stream changes it.
-use Rattle.std.specs.Prelude.{◌≡◌, ℕ, ◌+◌, ◌*◌, ◌-◌, ◌^◌, ◌≤◌, ◌<◌, Bool, true, false, List, [], ◌++◌, length, take, drop, Option, Some, None, if◌then◌else◌}
+use Rattle.std.specs.Prelude.{◌≡◌, ℕ, ◌+◌, ◌-◌, ◌≤◌, ◌<◌, Bool, true, false, List, [], ◌++◌, length, take, drop, Option, Some, None, if◌then◌else◌}
 use Rattle.model.specs.Wire.Record as spec
 use Rattle.model.specs.Wire.Record.{RecordLimits, Gathered, Prefix, Partial, Refused, Whole, prefix, fragment}
 use Rattle.model.specs.Wire.Rpc.{read_call, is_call_read}
 use Rattle.model.specs.Server.World.{Connection, Quiet, Waiting, Closed, arrives_at, taken_at}
 use Rattle.rpc.specs.declared.fault.RecordFault.{RecordFault}
 use Rattle.rpc.specs.declared.fault.RecordFault.TheVariants as faults
-use Rattle.rpc.specs.declared.fault.FeedError.{FeedError}
-use Rattle.rpc.specs.declared.fault.FeedError.TheVariants as errors
 use Rattle.rpc.specs.declared.fragment.Fragment.{Fragment}
+use Rattle.rpc.specs.declared.fragment.TheConstants.{MAX_FRAGMENTS, MAX_RECORD_BYTES}
 use Rattle.rpc.specs.declared.fragment.Fragment.TheVariants as found
 use Rattle.rpc.specs.declared.scan.Scan.{Scan}
 use Rattle.rpc.specs.declared.scan.Scan.TheVariants as scans
@@ -18,15 +17,10 @@ use Rattle.rpc.specs.declared.receive.Progress.TheVariants as progress
 use Rattle.rpc.specs.declared.state.State.{State}
 use Rattle.rpc.specs.declared.state.State.TheVariants as states
 
--- the most of a record's bytes and fragments: a number, so that a constant of the code that is
+-- the most of a record's bytes and fragments: numbers, so that a constant of the code that is
 -- changed is refused
-abbrev pub record_limits : (bytes : ℕ) → RecordLimits
-record_limits bytes = record { bytes = bytes; fragments = 64 }
-
--- how many bytes an assembler's records may have at most
-pub record IsRecordBytes (bytes : ℕ) : Type 0 where
-  pub least : 16384 ≤ bytes
-  pub most : bytes ≤ 2 ^ 24
+abbrev pub record_limits : RecordLimits
+record_limits = record { bytes = 16384; fragments = 64 }
 
 pub data Assembly : Type 0 where
   -- what has come of the next record, headers included
@@ -35,16 +29,6 @@ pub data Assembly : Type 0 where
   Holds : (request : List ℕ) → Assembly
   -- refused for good
   Refuses : RecordFault → Assembly
-
--- bytes for which there always is memory: of a record of 16,384 bytes, with a header for each
--- fragment, and one that is not whole
-abbrev pub least_received : ℕ
-least_received = 16644
-
--- an assembler: the limits of its records, and what it keeps of the next one
-pub record Receiving : Type 0 where
-  pub limits : RecordLimits
-  pub assembly : Assembly
 
 -- what the bytes in its buffer are
 abbrev pub assembly_of : State → List ℕ → Assembly
@@ -57,12 +41,6 @@ abbrev pub released : Assembly → Assembly
 released (Gathers bytes) = Gathers bytes
 released (Holds request) = Gathers []
 released (Refuses fault) = Refuses fault
-
--- what has come of the next record
-abbrev pub came : Assembly → List ℕ
-came (Gathers bytes) = bytes
-came (Holds request) = []
-came (Refuses fault) = []
 
 -- the connection that an assembler represents
 abbrev pub connection_of : Assembly → Connection
@@ -84,29 +62,17 @@ fault_in (Whole request rest) =
     if is_call_read (read_call request) then None else Some faults.NotACall
 
 -- why a piece is refused, now or before
-abbrev pub fault_at : RecordLimits → (piece : List ℕ) → Assembly → Option RecordFault
-fault_at limits piece (Gathers bytes) = fault_in (prefix limits (bytes ++ piece))
-fault_at limits piece (Holds request) = None
-fault_at limits piece (Refuses fault) = Some fault
+abbrev pub fault_at : (piece : List ℕ) → Assembly → Option RecordFault
+fault_at piece (Gathers bytes) = fault_in (prefix record_limits (bytes ++ piece))
+fault_at piece (Holds request) = None
+fault_at piece (Refuses fault) = Some fault
 
 -- the piece is refused for good, for this reason
-pub record RefusesPiece (limits : RecordLimits) (piece : List ℕ) (old new : Assembly)
-    (fault : RecordFault) : Type 0 where
-  pub reason : fault_at limits piece old ≡ Some fault
+pub record RefusesPiece (piece : List ℕ) (old new : Assembly) (fault : RecordFault) : Type 0 where
+  pub reason : fault_at piece old ≡ Some fault
   pub lasts : new ≡ Refuses fault
-  pub none_taken : taken_at limits piece (connection_of old) ≡ None
-  pub closes : arrives_at limits piece (connection_of old) ≡ Closed
-
--- there is no memory for the piece, which brings more than that for which there always is: nothing
--- changed
-pub record LacksRoom (limits : RecordLimits) (piece : List ℕ) (old new : Assembly) : Type 0 where
-  pub same : new ≡ old
-  pub above : least_received < length (came old) + length piece
-  pub large : 16384 < limits.bytes
-
-abbrev pub FailsToFeed : RecordLimits → (piece : List ℕ) → (old new : Assembly) → FeedError → Type 0
-FailsToFeed limits piece old new (errors.Refused fault) = RefusesPiece limits piece old new fault
-FailsToFeed limits piece old new errors.Memory = LacksRoom limits piece old new
+  pub none_taken : taken_at record_limits piece (connection_of old) ≡ None
+  pub closes : arrives_at record_limits piece (connection_of old) ≡ Closed
 
 -- no more has come than a part of a record, and a whole one holds a call
 abbrev pub is_partial : Prefix → Bool
@@ -114,39 +80,40 @@ is_partial Partial = true
 is_partial (Refused fault) = false
 is_partial (Whole request rest) = false
 
-abbrev pub is_sound : RecordLimits → Assembly → Bool
-is_sound limits (Gathers bytes) = is_partial (prefix limits bytes)
-is_sound limits (Holds request) = is_call_read (read_call request)
-is_sound limits (Refuses fault) = true
+abbrev pub is_sound : Assembly → Bool
+is_sound (Gathers bytes) = is_partial (prefix record_limits bytes)
+is_sound (Holds request) = is_call_read (read_call request)
+is_sound (Refuses fault) = true
 
 -- what may come of one record: its bytes, a header for each fragment, and one that is not whole
-abbrev pub most_received : RecordLimits → ℕ
-most_received limits = limits.bytes + 4 * (limits.fragments + 1)
+abbrev pub max_received : ℕ
+max_received = 16644
 
 abbrev pub IsWithin : State → List ℕ → Type 0
 IsWithin states.Gathers bytes = Unit {0}
 IsWithin (states.Holds start) bytes = start ≤ length bytes
 IsWithin (states.Refuses fault) bytes = Unit {0}
 
-pub record IsSoundAssembler (max_bytes : ℕ) (state : State) (bytes : List ℕ) : Type 0 where
-  pub limit : IsRecordBytes max_bytes
-  pub sound : is_sound (record_limits max_bytes) (assembly_of state bytes) ≡ true
+-- the buffer has room for what may come
+pub record IsSoundBuffer (state : State) (bytes : List ℕ) (spare : ℕ) : Type 0 where
+  pub sound : is_sound (assembly_of state bytes) ≡ true
   pub within : IsWithin state bytes
+  pub room : max_received ≤ length bytes + spare
 
 -- Steps
 
 -- what the bytes begin with, by its size
-abbrev pub Finds : RecordLimits → Gathered → List ℕ → Fragment → Type 0
-Finds limits gathered bytes found.Waits = fragment limits gathered bytes ≡ spec.Waits
-Finds limits gathered bytes found.TooBig =
-    (4 ≤ length bytes) × (fragment limits gathered bytes ≡ spec.Refuses spec.RecordTooBig)
-Finds limits gathered bytes found.TooMany =
+abbrev pub Finds : Gathered → List ℕ → Fragment → Type 0
+Finds gathered bytes found.Waits = fragment record_limits gathered bytes ≡ spec.Waits
+Finds gathered bytes found.TooBig =
+    (4 ≤ length bytes) × (fragment record_limits gathered bytes ≡ spec.Refuses spec.RecordTooBig)
+Finds gathered bytes found.TooMany =
     (4 ≤ length bytes)
-    × (fragment limits gathered bytes ≡ spec.Refuses spec.TooManyFragments)
-Finds limits gathered bytes (found.Brings size is_last) =
-    (4 + size ≤ length bytes) × (length gathered.bytes + size ≤ limits.bytes)
-    × (gathered.fragments < limits.fragments)
-    × (fragment limits gathered bytes
+    × (fragment record_limits gathered bytes ≡ spec.Refuses spec.TooManyFragments)
+Finds gathered bytes (found.Brings size is_last) =
+    (4 + size ≤ length bytes) × (length gathered.bytes + size ≤ MAX_RECORD_BYTES)
+    × (gathered.fragments < MAX_FRAGMENTS)
+    × (fragment record_limits gathered bytes
     ≡ spec.Brings (take size (drop 4 bytes)) is_last (drop size (drop 4 bytes)))
 
 -- the end of the record that the bytes begin with
@@ -156,16 +123,16 @@ scan_of bytes (Refused fault) = scans.Refused (fault_of fault)
 scan_of bytes (Whole request rest) = scans.Whole (length bytes - length rest)
 
 -- the bytes are one whole record
-abbrev pub IsWhole : RecordLimits → List ℕ → Type 0
-IsWhole limits bytes = (request : List ℕ) × (prefix limits bytes ≡ Whole request [])
+abbrev pub IsWhole : List ℕ → Type 0
+IsWhole bytes = (request : List ℕ) × (prefix record_limits bytes ≡ Whole request [])
 
 -- how a piece changes the bytes before
-abbrev pub Receives : RecordLimits → (old piece : List ℕ) → Progress → (new : List ℕ) → Type 0
-Receives limits old piece progress.More new =
-    (prefix limits (old ++ piece) ≡ Partial) × (new ≡ old ++ piece)
-Receives limits old piece (progress.Whole taken start) new =
-    (rest : List ℕ) × (prefix limits (old ++ piece) ≡ Whole (drop start new) rest)
+abbrev pub Receives : (old piece : List ℕ) → Progress → (new : List ℕ) → Type 0
+Receives old piece progress.More new =
+    (prefix record_limits (old ++ piece) ≡ Partial) × (new ≡ old ++ piece)
+Receives old piece (progress.Whole taken start) new =
+    (rest : List ℕ) × (prefix record_limits (old ++ piece) ≡ Whole (drop start new) rest)
     × (taken ≡ length piece - length rest)
     × (is_call_read (read_call (drop start new)) ≡ true) × (start ≤ length new)
-Receives limits old piece (progress.Refused fault) new =
-    fault_in (prefix limits (old ++ piece)) ≡ Some fault
+Receives old piece (progress.Refused fault) new =
+    fault_in (prefix record_limits (old ++ piece)) ≡ Some fault

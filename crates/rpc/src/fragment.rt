@@ -4,21 +4,19 @@
 ghost use Rattle.std.specs.Prelude.{◌≡◌, ◌+◌, ◌<◌, ◌≤◌, ◌^◌, ◌++◌, length, take, drop, slice_index};
 ghost use Rattle.std.specs.Int.{w32, from_be_bytes};
 ghost use Rattle.model.specs.Wire.Record.{Gathered};
-ghost use Rattle.rpc.specs.Assembly.{record_limits, Finds};
+ghost use Rattle.rpc.specs.Assembly.{Finds};
 
 use crate::numbers::LAST_FRAGMENT;
 
 /// Bytes of a header.
 pub const HEADER_BYTES: usize = 4;
-/// The least limit of a record's bytes.
-pub const LEAST_RECORD_BYTES: usize = 16384;
+/// The most bytes of a record.
+pub const MAX_RECORD_BYTES: usize = 16384;
 /// The most fragments of a record.
 pub const MAX_FRAGMENTS: usize = 64;
-/// The most bytes of headers that are kept of one record: a header for each fragment, and one that
-/// is not whole.
-pub const MAX_HEADERS: usize = (MAX_FRAGMENTS + 1) * HEADER_BYTES;
-/// The most bytes of a stream that are kept of a record of `LEAST_RECORD_BYTES`.
-pub const LEAST_RECEIVED: usize = LEAST_RECORD_BYTES + MAX_HEADERS;
+/// The most bytes of a stream that are kept of one record: the record's, a header for each
+/// fragment, and one that is not whole.
+pub const MAX_RECEIVED: usize = MAX_RECORD_BYTES + (MAX_FRAGMENTS + 1) * HEADER_BYTES;
 
 /// A place in a record, between two fragments.
 #[derive(Clone, Copy)]
@@ -42,7 +40,7 @@ impl Place {
     pub fn behind(self, size: usize) -> Place
         // A record has room for it
         requires end { self.at + HEADER_BYTES + size < 2 ^ 64 }
-        requires bytes { self.size + size < 2 ^ 64 }
+        requires bytes { self.size + size ≤ MAX_RECORD_BYTES }
         requires fragments { self.fragments < MAX_FRAGMENTS }
         // The place of its end
         ensures at { result.at ≡ self.at + HEADER_BYTES + size }
@@ -70,15 +68,14 @@ pub enum Fragment {
     Brings { size: usize, is_last: bool },
 }
 
-/// What is at a place in the bytes of `old` and `piece`, one after the other, in a record of at
-/// most `max_bytes`. A header is refused as soon as it is there.
-pub fn fragment_at(old: &[u8], piece: &[u8], place: Place, max_bytes: usize) -> Fragment
-    requires limit { max_bytes ≤ 2 ^ 24 }
+/// What is at a place in the bytes of `old` and `piece`, one after the other. A header is refused
+/// as soon as it is there.
+pub fn fragment_at(old: &[u8], piece: &[u8], place: Place) -> Fragment
     requires within { place.at ≤ length old.now + length piece.now }
-    requires small { place.size ≤ max_bytes }
+    requires small { place.size ≤ MAX_RECORD_BYTES }
     ensures { (gathered : Gathered) → length gathered.bytes ≡ place.size
         → gathered.fragments ≡ place.fragments
-        → Finds (record_limits max_bytes) gathered (drop place.at (old.now ++ piece.now)) result }
+        → Finds gathered (drop place.at (old.now ++ piece.now)) result }
 {
     let left = old.len() + piece.len() - place.at;
     if left < HEADER_BYTES {
@@ -86,7 +83,7 @@ pub fn fragment_at(old: &[u8], piece: &[u8], place: Place, max_bytes: usize) -> 
     }
     let header = header_at(old, piece, place.at);
     let size = (header % LAST_FRAGMENT) as usize;
-    if place.size + size > max_bytes {
+    if place.size + size > MAX_RECORD_BYTES {
         return Fragment::TooBig;
     }
     if place.fragments >= MAX_FRAGMENTS {

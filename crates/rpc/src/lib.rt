@@ -4,7 +4,6 @@
 
 mod assembler;
 mod auth;
-mod buffer;
 mod call;
 mod compound;
 mod fault;
@@ -22,8 +21,8 @@ mod tag;
 pub use assembler::Assembler;
 pub use call::{Call, CallRead, MAX_AUTH_BYTES, read_call};
 pub use compound::Compound;
-pub use fault::{FeedError, RecordFault};
-pub use fragment::{HEADER_BYTES, LEAST_RECORD_BYTES, MAX_FRAGMENTS};
+pub use fault::RecordFault;
+pub use fragment::{HEADER_BYTES, MAX_FRAGMENTS, MAX_RECORD_BYTES};
 pub use numbers::{
     AUTH_NONE, AUTH_SYS, CALL, COMPOUND, LAST_FRAGMENT, MINOR_VERSION, NFS_VERSION, PROGRAM, REPLY,
     RPC_VERSION,

@@ -1,16 +1,14 @@
 //! How a piece changes the bytes before it.
 
-ghost use Rattle.std.specs.Prelude.{◌≡◌, ◌≤◌, ◌<◌, ◌+◌, length, IfOk, OnErr};
+ghost use Rattle.std.specs.Prelude.{◌≡◌, ◌≤◌, ◌+◌, length};
 ghost use Rattle.model.specs.Wire.Record.{Partial, prefix};
-ghost use Rattle.rpc.specs.Assembly.{IsRecordBytes, record_limits, least_received, Receives};
+ghost use Rattle.rpc.specs.Assembly.{record_limits, max_received, Receives};
 
-use crate::buffer::Buffer;
 use crate::call::read_call;
 use crate::fault::RecordFault;
-use crate::fragment::MAX_HEADERS;
 use crate::join::drop_headers;
 use crate::scan::{Scan, scan_record};
-use std::alloc::AllocError;
+use bytes::BytesMut;
 
 /// How a piece changed the bytes before it.
 #[derive(Clone, Copy)]
@@ -23,36 +21,28 @@ pub enum Progress {
     Refused(RecordFault),
 }
 
-/// Appends a prefix of the piece, up to the end of the record, which has at most `max_bytes`. Of a
-/// whole record only what its fragments hold is left. If there is no memory for more than 16,644
-/// bytes, those before stay.
-pub fn receive_piece(
-    buffer: &mut Buffer,
-    piece: &[u8],
-    max_bytes: usize,
-) -> Result<Progress, AllocError>
-    requires limit { IsRecordBytes max_bytes }
-    requires partial { prefix (record_limits max_bytes) buffer.old.bytes.items ≡ Partial }
-    ensures received { IfOk result (λ progress. Receives (record_limits max_bytes)
-        buffer.old.bytes.items piece.now progress buffer.new.bytes.items) }
-    ensures kept { OnErr result (buffer.new.bytes.items ≡ buffer.old.bytes.items) }
-    ensures above { OnErr result
-        (least_received < length buffer.old.bytes.items + length piece.now) }
-    ensures large { OnErr result (16384 < max_bytes) }
+/// Appends a prefix of the piece, up to the end of the record, in memory that is there. Of a whole
+/// record only what its fragments hold is left.
+pub fn receive_piece(bytes: &mut BytesMut, piece: &[u8]) -> Progress
+    requires partial { prefix record_limits bytes.old.items ≡ Partial }
+    requires room { max_received ≤ length bytes.old.items + bytes.old.spare }
+    ensures received { Receives bytes.old.items piece.now result bytes.new.items }
+    ensures kept { length bytes.new.items + bytes.new.spare
+        ≡ length bytes.old.items + bytes.old.spare }
 {
-    match scan_record(&buffer.bytes, piece, max_bytes) {
+    match scan_record(bytes, piece) {
         Scan::Partial => {
-            buffer.append(piece, max_bytes + MAX_HEADERS)?;
-            Ok(Progress::More)
+            bytes.extend_reserved(piece);
+            Progress::More
         }
-        Scan::Refused(fault) => Ok(Progress::Refused(fault)),
+        Scan::Refused(fault) => Progress::Refused(fault),
         Scan::Whole(end) => {
-            let taken = end - buffer.bytes.len();
-            buffer.append(&piece[..taken], max_bytes + MAX_HEADERS)?;
-            let start = drop_headers(&mut buffer.bytes, max_bytes);
-            match read_call(&buffer.bytes[start..]) {
-                Ok(_) => Ok(Progress::Whole { taken, start }),
-                Err(_) => Ok(Progress::Refused(RecordFault::NotACall)),
+            let taken = end - bytes.len();
+            bytes.extend_reserved(&piece[..taken]);
+            let start = drop_headers(bytes);
+            match read_call(&bytes[start..]) {
+                Ok(_) => Progress::Whole { taken, start },
+                Err(_) => Progress::Refused(RecordFault::NotACall),
             }
         }
     }

@@ -1,6 +1,6 @@
 //! The end of a record.
 
-ghost use Rattle.std.specs.Prelude.{◌≡◌, ◌≤◌, ◌^◌, ◌++◌};
+ghost use Rattle.std.specs.Prelude.{◌≡◌, ◌++◌};
 ghost use Rattle.xdr.specs.Laws.{IsBytes};
 ghost use Rattle.model.specs.Wire.Record.{prefix};
 ghost use Rattle.rpc.specs.Assembly.{record_limits, scan_of};
@@ -19,18 +19,17 @@ pub enum Scan {
     Whole(usize),
 }
 
-/// Looks for the end of the record, of at most `max_bytes`, in the bytes of `old` and `piece`, one
-/// after the other. It goes from header to header, of which there are at most 65.
-pub fn scan_record(old: &[u8], piece: &[u8], max_bytes: usize) -> Scan
-    requires { max_bytes ≤ 2 ^ 24 }
+/// Looks for the end of the record in the bytes of `old` and `piece`, one after the other. It goes
+/// from header to header, of which there are at most 65.
+pub fn scan_record(old: &[u8], piece: &[u8]) -> Scan
     ensures end { result ≡ scan_of (old.now ++ piece.now)
-        (prefix (record_limits max_bytes) (old.now ++ piece.now)) }
+        (prefix record_limits (old.now ++ piece.now)) }
     ensures old_bytes { IsBytes old.now }
     ensures piece_bytes { IsBytes piece.now }
 {
     let mut place = Place::START;
     loop {
-        match fragment_at(old, piece, place, max_bytes) {
+        match fragment_at(old, piece, place) {
             Fragment::Waits => return Scan::Partial,
             Fragment::TooBig => return Scan::Refused(RecordFault::RecordTooBig),
             Fragment::TooMany => return Scan::Refused(RecordFault::TooManyFragments),

@@ -1,7 +1,7 @@
 //! How many places a volume has for seats, and the slots of each.
 
 ghost use Rattle.std.specs.Prelude.{◌≡◌};
-ghost use Rattle.seats.specs.Sizes.{AreSizes, place_sectors};
+ghost use Rattle.seats.specs.Sizes.{AreSizes, all_sectors, place_sectors};
 
 /// How many sectors a slot has.
 pub const SLOT_SECTORS: u32 = 4;
@@ -20,5 +20,13 @@ impl SeatSizes {
         ensures { result ≡ place_sectors self }
     {
         1 + SLOT_SECTORS * self.slots
+    }
+
+    /// How many sectors all places have.
+    pub fn all_sectors(self) -> u32
+        requires { AreSizes self }
+        ensures { result ≡ all_sectors self }
+    {
+        self.places * self.place_sectors()
     }
 }

@@ -20,7 +20,7 @@ use Rattle.model.specs.Operations.Step.{State, Stepped, does}
 use Rattle.model_tree.specs.Refusals.Refusal.{Refusals, first_refusal}
 use Rattle.model.specs.Server.Runs.{Event, Arrives, Turns, HangsUp, Connects, Takes, effect_of}
 use Rattle.model.specs.Server.RuledOut.{request_in, request_by}
-use Rattle.model.specs.Server.World.{World, InProgress, Connection, Quiet, Waiting, Busy, Replied, Closed, Next, Refuses, Reads, next_operation, by_number, by_arguments, first_or, tests_of, is_last, HasRun, Gives, Replays, status_of, refuses, exchanged, created_by, session_created, tabled, started_in, begun, reclaimed, state_of, stepped, run, outcome_text, reply_with, room_for, has_reply_room, is_cached, has_room, too_big, in_room, Entry, Turned, with_result, kept_by, ends, goes_on, is_seated, is_to_hold, closes, behind, has_run, executed_entry, operates, in_progress, requested, called, further, turned, one, arrives_at, connection_changed, arrives, reply_in, reply_at, without_reply, takes, can_connect, connects, is_busy, without_connection, hangs_up, with_connection, with_table, is_unstable}
+use Rattle.model.specs.Server.World.{World, InProgress, Connection, Quiet, Waiting, Busy, Replied, Closed, Next, Refuses, Reads, next_operation, by_number, by_arguments, first_or, tests_of, is_last, HasRun, Gives, Replays, status_of, refuses, exchanged, created_by, session_created, tabled, started_in, begun, reclaimed, state_of, stepped, run, outcome_text, has_room, in_room, Entry, Turned, with_result, kept_by, ends, goes_on, is_seated, is_to_hold, closes, behind, has_run, executed_entry, operates, in_progress, requested, called, further, turned, one, arrives_at, connection_changed, arrives, reply_in, reply_at, without_reply, takes, can_connect, connects, is_busy, without_connection, hangs_up, with_connection, with_table, is_unstable}
 use Rattle.model.specs.Sessions.Session as sessions
 use Rattle.model.specs.Sessions.Session.{Session, Slot, Table, holds_reply}
 use Rattle.model.specs.Sessions.StateIds.{has_opens, without_clients}
@@ -437,31 +437,14 @@ module _ (who : Onlooker) where
 
       -- whether the result has room in the reply
 
-      replies-long : (left right : Outcome) → AreAlike left right → length (reply_with asked left) ≡ length (reply_with request right)
-      replies-long left right alike =
+      room-same : (left right : Outcome) → AreAlike left right → has_room over asked left ≡ has_room world request right
+      room-same left right alike =
           let one = compound_text (status_of left) request.tag (request.answered + 1) (bytes ++ outcome_text left) in
           let other = compound_text (status_of right) request.tag (request.answered + 1) (request.results ++ outcome_text right) in
           let long : length one ≡ length other
           = ap (λ (last : Status). length (compound_text last request.tag (request.answered + 1) (bytes ++ outcome_text left))) (status-same left right alike)
           ∙ compound-long (status_of right) request.tag (request.answered + 1) _ _ (appended bytes (outcome_text left) request.results (outcome_text right) are.long (text-long left right alike)) in
-          reply-long request.xid one other long
-
-      fits-same : (operation : ℕ) (left right : Outcome) → AreAlike left right
-          → has_reply_room world.limits.reply_bytes asked operation left ≡ has_reply_room world.limits.reply_bytes request operation right
-      fits-same operation left right alike = ap (λ (n : ℕ). nat_le n (room_for world.limits.reply_bytes request operation)) (replies-long left right alike)
-
-      cached-same : (cached : Option ℕ) (left right : Outcome) → AreAlike left right → is_cached cached (reply_with asked left) ≡ is_cached cached (reply_with request right)
-      cached-same None left right alike = refl
-      cached-same (Some most) left right alike = ap (λ (n : ℕ). nat_le n (most + 24)) (replies-long left right alike)
-
-      room-same : (operation : ℕ) (left right : Outcome) → AreAlike left right
-          → has_room world.limits.reply_bytes asked operation left ≡ has_room world.limits.reply_bytes request operation right
-      room-same operation left right alike =
-          ap₂ (λ (fits cached : Bool). fits && cached) (fits-same operation left right alike) (cached-same request.cached left right alike)
-
-      reason-same : (operation : ℕ) (left right : Outcome) → AreAlike left right
-          → too_big world.limits.reply_bytes asked operation left ≡ too_big world.limits.reply_bytes request operation right
-      reason-same operation left right alike = ap (λ (fits : Bool). cond fits status.RepTooBigToCache status.RepTooBig) (fits-same operation left right alike)
+          ap (λ (n : ℕ). nat_le n world.limits.reply_bytes) (reply-long request.xid one other long)
 
       room-as : (operation : ℕ) (one other : HasRun) → RunsAs bytes one other → RunsAs bytes (in_room over asked operation one) (in_room world request operation other)
       room-as operation (Gives (Outcome.Refused number reason) left begun) (Gives (Outcome.Refused other_number other_reason) right after) gave = gave
@@ -476,19 +459,14 @@ module _ (who : Onlooker) where
           mixed_last (inl same) = cc
           mixed_last (inr reads) = let is = reads.other_is in cc
       room-as operation (Gives (Outcome.Done answer) left begun) (Gives (Outcome.Done other) right after) gave =
-          subst (λ (b : Bool). RunsAs bytes (cond b (Gives (Outcome.Done answer) left begun) (refuses over asked operation (too_big world.limits.reply_bytes asked operation (Outcome.Done answer))))
-          (in_room world request operation (Gives (Outcome.Done other) right after)))
-          (sym (room-same operation (Outcome.Done answer) (Outcome.Done other) gave.alike))
-          (subst (λ (reason : Status). RunsAs bytes (cond (has_room world.limits.reply_bytes request operation (Outcome.Done other)) (Gives (Outcome.Done answer) left begun) (refuses over asked operation reason))
-          (in_room world request operation (Gives (Outcome.Done other) right after)))
-          (sym (reason-same operation (Outcome.Done answer) (Outcome.Done other) gave.alike))
-          (by_room (too_big world.limits.reply_bytes request operation (Outcome.Done other)) (has_room world.limits.reply_bytes request operation (Outcome.Done other))))
+          subst (λ (b : Bool). RunsAs bytes (cond b (Gives (Outcome.Done answer) left begun) (refuses over asked operation status.RepTooBig)) (in_room world request operation (Gives (Outcome.Done other) right after)))
+          (sym (room-same (Outcome.Done answer) (Outcome.Done other) gave.alike)) (by_room (has_room world request (Outcome.Done other)))
         where
-          by_room : (reason : Status) (b : Bool)
-              → RunsAs bytes (cond b (Gives (Outcome.Done answer) left begun) (refuses over asked operation reason))
-              (cond b (Gives (Outcome.Done other) right after) (refuses world request operation reason))
-          by_room reason true = gave
-          by_room reason false = refuses-as operation reason
+          by_room : (b : Bool)
+              → RunsAs bytes (cond b (Gives (Outcome.Done answer) left begun) (refuses over asked operation status.RepTooBig))
+              (cond b (Gives (Outcome.Done other) right after) (refuses world request operation status.RepTooBig))
+          by_room true = gave
+          by_room false = refuses-as operation status.RepTooBig
       room-as operation (Gives outcome left begun) (Replays right id place) never = absurd never
       room-as operation (Replays left session slot) (Gives outcome other after) never = absurd never
       room-as operation (Replays left session slot) (Replays right id place) same = same

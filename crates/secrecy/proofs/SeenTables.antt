@@ -9,7 +9,7 @@ use Rattle.model_tree.specs.declared.status.Status.TheVariants as status
 use Rattle.model.specs.Operations.Operation.{ExchangeIdArguments, CreateSessionArguments, SequenceArguments}
 use Rattle.model.specs.Operations.Answer.{CreateSessionAnswer}
 use Rattle.model_tree.specs.Refusals.Refusal.{Refusals, first_refusal}
-use Rattle.model.specs.Sessions.Session.{SessionLimits, Client, Slot, SlotState, Free, Running, Kept, Unkept, Session, Table, session_id, is_session, is_client, is_of_client, is_running_state, is_running, has_state, is_seat_among, without_where, with_sessions, without_this, yielding, has_most_clients, is_unconfirmed, new_record, is_full_of_clients, exchange_answer, new_client, use_non_pnfs, with_new_client, without_unconfirmed, exchange_by, without_client, exchange_id, has_only, exchange_flags, is_confirmed_of, without_seat, destroy_by, destroy_session, destroy_client_by, destroy_client_id, reclaim_by, reclaim_complete, staying, is_of_clients, replaced_by, is_done_with, is_dead, is_dead_before, id_number, is_oldest_dead, lacks_seat, asks_seat, gives_way, seats_staying, persists, is_full_of_sessions, create_refusals, session_flags, is_too_small, fore_channel, limits_for, create_session_answer, slots_given, new_session, no_slot, new_seat, seats_after, with_new_session, changed_where, confirmed_with, is_replaced_by, create_unless, create_again, next_number, CreateSessionOutcome, create_refused, create_by, create_session, slot_at, Begun, Refuses, Replays, Runs, begin_new, begin_slot, begin_held, begin_dead, begin_by, begin, with_slot, started, finished_slot, kept_state, most_reply, held_reply, held_by, finish}
+use Rattle.model.specs.Sessions.Session.{SessionLimits, Client, Slot, SlotState, Free, Running, Kept, Session, Table, session_id, is_session, is_client, is_of_client, is_running_state, is_running, has_state, is_seat_among, without_where, with_sessions, without_this, yielding, has_most_clients, is_unconfirmed, new_record, is_full_of_clients, exchange_answer, new_client, use_non_pnfs, with_new_client, without_unconfirmed, exchange_by, without_client, exchange_id, has_only, exchange_flags, is_confirmed_of, without_seat, destroy_by, destroy_session, destroy_client_by, destroy_client_id, reclaim_by, reclaim_complete, staying, is_of_clients, replaced_by, is_done_with, is_dead, is_dead_before, id_number, is_oldest_dead, lacks_seat, asks_seat, gives_way, seats_staying, persists, is_full_of_sessions, create_refusals, session_flags, is_too_small, fore_channel, limits_for, create_session_answer, slots_given, new_session, no_slot, new_seat, seats_after, with_new_session, changed_where, confirmed_with, is_replaced_by, create_unless, create_again, next_number, CreateSessionOutcome, create_refused, create_by, create_session, slot_at, Begun, Refuses, Replays, Runs, begin_new, begin_slot, begin_held, begin_dead, begin_by, begin, with_slot, started, finished_slot, held_reply, held_by, finish}
 use Rattle.model.proofs.Sessions.SlotLaw.{id_of}
 use Rattle.model.proofs.Sessions.TableCalls.{found_passes}
 use Rattle.std.proofs.lemmas.Slice.Eq.{bytes_eq-Decides}
@@ -75,7 +75,6 @@ state-twice : (his : Bool) (state : SlotState) → seen_state his (seen_state hi
 state-twice his Free = refl
 state-twice his Running = refl
 state-twice his (Kept reply) = ap Kept (seen-twice his reply)
-state-twice his Unkept = refl
 
 slot-twice : (his : Bool) (slot : Slot) → seen_slot his (seen_slot his slot) ≡ seen_slot his slot
 slot-twice his slot = ap (λ (state : SlotState). record slot { state = state }) (state-twice his slot.state)
@@ -91,7 +90,6 @@ running-seen his slot = by_state slot.state
     by_state Free = refl
     by_state Running = refl
     by_state (Kept reply) = refl
-    by_state Unkept = refl
 
 module _ (who : Onlooker) where
   pub session-twice : (session : Session) → seen_session who (seen_session who session) ≡ seen_session who session
@@ -330,7 +328,7 @@ module _ (who : Onlooker) where
       session = session_id client.number (table.session_serial + 1);
       sequence = arguments.sequence;
       flags = cond persists 1 0;
-      fore = fore_channel (limits_for limits persists) (most_reply limits table.settings.holding) arguments.fore;
+      fore = fore_channel (limits_for limits persists) arguments.fore;
       back = record arguments.back { rdma_ird = None };
     }
 
@@ -450,9 +448,6 @@ module _ (who : Onlooker) where
   begin-slot-seen his uid count arguments one other slot (Kept reply) same =
       cond-same (seen_begun his) (arguments.sequence == slot.last) _ _ _ (cond (uid == slot.uid) (Replays reply) (Refuses status.SeqFalseRetry)) (begin_new count arguments other slot) refl
       (begun-if his (uid == slot.uid) (Replays reply) (Refuses status.SeqFalseRetry)) (begin-new-seen his count arguments one other slot same)
-  begin-slot-seen his uid count arguments one other slot Unkept same =
-      cond-same (seen_begun his) (arguments.sequence == slot.last) _ _ _ (Refuses (cond (uid == slot.uid) status.RetryUncachedRep status.SeqFalseRetry)) (begin_new count arguments other slot)
-      refl refl (begin-new-seen his count arguments one other slot same)
 
   begin-held-seen : (his : Bool) (uid : ℕ) (arguments : SequenceArguments) (held : Option HeldReply)
       → begin_held uid arguments (seen_held his held) ≡ seen_begun his (begin_held uid arguments held)
@@ -539,41 +534,32 @@ module _ (who : Onlooker) where
   map-three f g h k same [] = refl
   map-three {A} f g h k same (x ∷ xs) = ap₂ (λ (y : A) (ys : List A). y ∷ ys) (same x) (map-three f g h k same xs)
 
-  state-finished : (his holds : Bool) (one other : List ℕ) → seen_bytes his one ≡ seen_bytes his other → length one ≡ length other
-      → seen_state his (kept_state holds one) ≡ seen_state his (kept_state holds other)
-  state-finished his holds one other same long =
-      ap (λ (count : ℕ). seen_state his (cond (holds || nat_le count 16384) (Kept one) Unkept)) long ∙ by_keeps (holds || nat_le (length other) 16384)
-    where
-      by_keeps : (keeps : Bool) → seen_state his (cond keeps (Kept one) Unkept) ≡ seen_state his (cond keeps (Kept other) Unkept)
-      by_keeps true = ap Kept same
-      by_keeps false = refl
-
   module _ (id : List ℕ) (place : ℕ) (one other : List ℕ) (same : who.has_session id ≡ true → one ≡ other) (long : length one ≡ length other) where
     bytes-same : (name : List ℕ) → name ≡ id → seen_bytes (who.has_session name) one ≡ seen_bytes (who.has_session name) other
     bytes-same name is = seen-same (who.has_session name) one other (λ his. same (ap who.has_session (sym is) ∙ his)) long
 
-    slot-finished : (holds : Bool) (session : Session) → session_id session.client session.serial ≡ id
-        → seen_session who (finished_slot place holds one (seen_session who session)) ≡ seen_session who (finished_slot place holds other session)
-    slot-finished holds session is =
+    slot-finished : (session : Session) → session_id session.client session.serial ≡ id
+        → seen_session who (finished_slot place one (seen_session who session)) ≡ seen_session who (finished_slot place other session)
+    slot-finished session is =
         let his = who.has_session (session_id session.client session.serial) in
         let slot = slot_at session place in
         ap (λ (slots : List Slot). record session { slots = slots })
-        (map-set (seen_slot his) (map (seen_slot his) session.slots) place (record (slot_at (seen_session who session) place) { state = kept_state holds one })
+        (map-set (seen_slot his) (map (seen_slot his) session.slots) place (record (slot_at (seen_session who session) place) { state = Kept one })
         ∙ (ap₂ (λ (slots : List Slot) (new : Slot). slice_set slots place new) (map-twice (seen_slot his) (slot-twice his) session.slots)
-        (ap (λ (s : Slot). record s { state = seen_state his (kept_state holds one) }) (slot-at-seen session place)
-        ∙ ap (λ (state : SlotState). record slot { state = state }) (state-finished his holds one other (bytes-same (session_id session.client session.serial) is) long))
-        ∙ sym (map-set (seen_slot his) session.slots place (record slot { state = kept_state holds other }))))
+        (ap (λ (s : Slot). record s { state = Kept (seen_bytes his one) }) (slot-at-seen session place)
+        ∙ ap (λ (bytes : List ℕ). record slot { state = Kept bytes }) (bytes-same (session_id session.client session.serial) is))
+        ∙ sym (map-set (seen_slot his) session.slots place (record slot { state = Kept other }))))
 
-    finishing : (holds : Bool) → List ℕ → Session → Session
-    finishing holds reply session = cond (is_session id session) (finished_slot place holds reply session) session
+    finishing : List ℕ → Session → Session
+    finishing reply session = cond (is_session id session) (finished_slot place reply session) session
 
-    session-finished : (holds : Bool) (session : Session) → seen_session who (finishing holds one (seen_session who session)) ≡ seen_session who (finishing holds other session)
+    session-finished : (session : Session) → seen_session who (finishing one (seen_session who session)) ≡ seen_session who (finishing other session)
     unfolding finishing
-    session-finished holds session = by_test (is_session id session) refl
+    session-finished session = by_test (is_session id session) refl
       where
-        by_test : (b : Bool) → is_session id session ≡ b → seen_session who (cond b (finished_slot place holds one (seen_session who session)) (seen_session who session))
-            ≡ seen_session who (cond b (finished_slot place holds other session) session)
-        by_test true named = slot-finished holds session (id_of id session named)
+        by_test : (b : Bool) → is_session id session ≡ b → seen_session who (cond b (finished_slot place one (seen_session who session)) (seen_session who session))
+            ≡ seen_session who (cond b (finished_slot place other session) session)
+        by_test true named = slot-finished session (id_of id session named)
         by_test false apart = session-twice who session
 
     seat-finished : (a b : HeldReply) → a.number ≡ b.number → a.uid ≡ b.uid → a.result ≡ one → b.result ≡ other → (seat : Option Seat)
@@ -624,4 +610,4 @@ module _ (who : Onlooker) where
     unfolding finish finishing
     finished-seen holds table =
         ap₂ (λ (sessions : List Session) (seats : Seats). record table { sessions = sessions; seats = seats })
-        (map-three (seen_session who) (finishing holds one) (seen_session who) (finishing holds other) (session-finished holds) table.sessions) (kept-finished holds table)
+        (map-three (seen_session who) (finishing one) (seen_session who) (finishing other) session-finished table.sessions) (kept-finished holds table)

@@ -8,7 +8,7 @@ use Rattle.model.specs.Server.Runs.{Event, Turns, effect_of}
 use Rattle.model.specs.Server.RuledOut.{request_in}
 use Rattle.model.specs.Server.World.{World, InProgress, Connection, Quiet, Waiting, Busy, Replied, Closed, Reads, next_operation, reply_at}
 use Rattle.model.specs.Wire.Rpc.{read_call}
-use Rattle.model.specs.Sessions.Session.{Session, Slot, SlotState, Free, Running, Kept, Unkept, Table, session_id}
+use Rattle.model.specs.Sessions.Session.{Session, Slot, SlotState, Free, Running, Kept, Table, session_id}
 use Rattle.secrecy.specs.Blind.{hidden, MayReadNone}
 
 -- files whose bytes he may not read, his connections, and his sessions by their ids
@@ -27,7 +27,6 @@ abbrev pub seen_state : (his : Bool) → SlotState → SlotState
 seen_state his Free = Free
 seen_state his Running = Running
 seen_state his (Kept reply) = Kept (seen_bytes his reply)
-seen_state his Unkept = Unkept
 
 abbrev pub seen_slot : (his : Bool) → Slot → Slot
 seen_slot his slot = record slot { state = seen_state his slot.state }

@@ -1,5 +1,5 @@
 -- A checkpoint between two calls: the machine is as it was, and a crash leaves what it might have left.
-use Rattle.std.proofs.Common.{◌≡◌, ◌⊎◌, ℕ, Bool, List, ◌∷◌, Result, Ok, Err, refl, sym, ap, ap₂, ◌∙◌, subst, inl, inr, true, false, true≢false, ⊎_elim}
+use Rattle.std.proofs.Common.{◌≡◌, ◌⊎◌, ℕ, Bool, List, [], ◌∷◌, Result, Ok, Err, refl, sym, ap, ap₂, ◌∙◌, subst, inl, inr, true, false, true≢false, ⊎_elim}
 use Rattle.std.specs.List.{IsAmong}
 use Rattle.std.specs.Prelude.{map}
 use Rattle.disk.specs.Moments.{History, AddsOnly}

@@ -1,12 +1,12 @@
 -- A server before a turn: what has to last is to be kept at once, or may wait. A caller cannot see
 -- a difference.
-use Rattle.std.proofs.Common.{◌≡◌, Bool, List, Result, Ok, Err, IfOk, refl, sym, ◌∙◌, subst}
+use Rattle.std.proofs.Common.{◌≡◌, ℕ, Bool, List, Result, Ok, Err, IfOk, refl, sym, ap, ◌∙◌, subst}
 use Rattle.disk.specs.declared.device.Device.{Ghosts}
 use Rattle.model.specs.Server.Runs.{Event, Left}
 use Rattle.volume.specs.VolumeState.{VolumeState}
 use Rattle.server.specs.declared.fault.ServerFault.{ServerFault}
 use Rattle.server.specs.declared.server.Server.{Server}
-use Rattle.server.specs.Refused.{view}
+use Rattle.server.specs.Refused.{View, view}
 use Rattle.server.specs.Seen.{Seen, Said, IsReady, Does, Breaks}
 use Rattle.server.specs.Views.{world_of, files_of, volume_of, waits_of, server_failures, seen_with, seen_down, ServesAs, ServerFails}
 

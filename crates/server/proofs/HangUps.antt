@@ -51,7 +51,7 @@ has_more : (slab : Slab Connection) (n : ℕ) (request : InProgress) → at n (c
 unfolding connection_view
 has_more slab n request is =
     let found = stands_some slab n (Busy request) is in
-    more_in found.0.assembler.assembly found.0.stage request found.0.ready found.2
+    more_in found.0.assembler found.0.stage request found.0.ready found.2
 
 -- after a turn of one that had not
 module _ (request after : InProgress) (more : request.answered < request.count) (further : (request.ended ≡ None) × (after.answered ≡ request.answered + 1) × (after.count ≡ request.count)) where

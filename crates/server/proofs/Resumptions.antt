@@ -1,35 +1,31 @@
 -- A COMPOUND between its turns, in the record that an assembler holds.
 use Rattle.std.proofs.Common.{◌≡◌, ℕ, true, List, Option, Some, None, ◌<◌, refl, sym, subst, ◌∙◌}
 use Rattle.std.proofs.lemmas.Bool.{and_parts}
-use Rattle.compound.specs.States.{IsShortIn, Suits}
 use Rattle.compound.specs.Steps as compound
 use Rattle.compound.specs.Steps.{GoesFurther}
-use Rattle.compound.specs.Views.{fits_operations, resumed}
+use Rattle.compound.specs.Views.{fits_operations}
 use Rattle.compound.specs.declared.step.Stepped.{Stepped}
 use Rattle.compound.specs.declared.step.Stepped.TheVariants as stepped
 use Rattle.compound.proofs.Resuming.{fits_more}
-use Rattle.fs.specs.FileSystem.{FileSystem}
 use Rattle.model.specs.Server.World.{InProgress, Busy}
-use Rattle.model.specs.Sessions.Session.{Settings, Table}
 use Rattle.rpc.specs.Assembly.{Assembly, Gathers, Holds, Refuses}
 use Rattle.rpc.specs.Places.{is_within}
 use Rattle.server.specs.declared.begun.Begun.{Begun}
 use Rattle.server.specs.Connections.{IsOfRun, HasGoneOn, RecordGoesOn}
 use Rattle.server.specs.Stages.{CanGoOn, asked_at, in_progress_at, fits_in, held_record, busy_with, can_go_on, left_of, left_by_turn}
-use Rattle.server.specs.Runs.{Run, IsInRun, run_by}
 
 -- one that has begun has its record, and is of its run
-pub goes_on_held : (run : Run) (assembly : Assembly) (begun : Begun) → can_go_on (held_record assembly) begun ≡ true → IsOfRun run (busy_with (held_record assembly) begun)
+pub goes_on_held : (run : ℕ) (assembly : Assembly) (begun : Begun) → can_go_on (held_record assembly) begun ≡ true → IsOfRun run (busy_with (held_record assembly) begun)
     → (request : List ℕ) × (assembly ≡ Holds request) × CanGoOn run request begun
 goes_on_held run (Gathers bytes) begun can here = let never : ⊥ = cc in absurd never
-goes_on_held run (Holds request) begun can here = (request, refl, record { can = can; of_run = here (in_progress_at request begun) refl })
+goes_on_held run (Holds request) begun can here = (request, refl, record { can = can; began_in = here (in_progress_at request begun) refl })
 goes_on_held run (Refuses fault) begun can here = let never : ⊥ = cc in absurd never
 
 one_held : (request other : List ℕ) → Holds request ≡ Holds other → request ≡ other
 one_held request other is = cc
 
 -- whichever name the record has
-pub goes_on_as : (run : Run) (assembly : Assembly) (request other : List ℕ) (begun : Begun) → assembly ≡ Holds request → assembly ≡ Holds other → CanGoOn run request begun → CanGoOn run other begun
+pub goes_on_as : (run : ℕ) (assembly : Assembly) (request other : List ℕ) (begun : Begun) → assembly ≡ Holds request → assembly ≡ Holds other → CanGoOn run request begun → CanGoOn run other begun
 goes_on_as run assembly request other begun is also can =
     subst (λ (one : List ℕ). CanGoOn run one begun) (one_held request other (sym is ∙ also)) can
 
@@ -51,27 +47,9 @@ gone_on : (bytes : List ℕ) (begun : Begun) (done : Stepped) → GoesFurther (i
 gone_on bytes begun (stepped.Ran progress) further = (further.0, further.1, refl)
 gone_on bytes begun (stepped.Answered reply) further = tt
 
--- The run of a request
-
--- one that is of the run of this table suits it
-pub suits_by : (files : FileSystem) (table : Table) (request : InProgress) → IsInRun (run_by files table) request → Suits table request
-suits_by files table request is = record { short = is.short; first = is.first }
-
-in_run_by : (files : FileSystem) (old table : Table) (request : InProgress) → request.context.run ≡ files.volume.run → table.settings ≡ old.settings → Suits table request
-    → IsInRun (run_by files old) request
-in_run_by files old table request began settings suits = record {
-  began = began;
-  short = subst (λ (chosen : Settings). IsShortIn chosen request.room) settings suits.short;
-  first = suits.first;
-}
-
-pub steps_on : (files : FileSystem) (old table : Table) (bytes : List ℕ) (begun : Begun) (done : Stepped) → table.settings ≡ old.settings → is_within bytes begun.call.place ≡ true
-    → compound.RequestGoesOn files.volume.run table (asked_at bytes begun.call) (in_progress_at bytes begun) done → RecordGoesOn (run_by files old) bytes begun (left_of begun.call done)
-steps_on files old table bytes begun (stepped.Ran progress) settings within goes =
+pub steps_on : (run : ℕ) (bytes : List ℕ) (begun : Begun) (done : Stepped) → is_within bytes begun.call.place ≡ true
+    → compound.RequestGoesOn run (asked_at bytes begun.call) (in_progress_at bytes begun) done → RecordGoesOn run bytes begun (left_of begun.call done)
+steps_on run bytes begun (stepped.Ran progress) within goes =
     let fit : fits_operations (asked_at bytes begun.call) progress ≡ true = goes.fits in
-    record {
-      stays = in_run_by files old table (resumed (asked_at bytes begun.call) progress) goes.stays settings goes.suits;
-      further = gone_on bytes begun (stepped.Ran progress) goes.further;
-      follows = rw (within, fit) refl;
-    }
-steps_on files old table bytes begun (stepped.Answered reply) settings within goes = record { stays = tt; further = tt; follows = refl }
+    record { stays = goes.stays; further = gone_on bytes begun (stepped.Ran progress) goes.further; follows = rw (within, fit) refl }
+steps_on run bytes begun (stepped.Answered reply) within goes = record { stays = tt; further = tt; follows = refl }

@@ -96,7 +96,7 @@ record IsSameTable (old new : Table) : Type 0 where
 kept_same : (slot : Option (List ℕ × ℕ)) (holds : Bool) (result : List ℕ) (table : Table) → IsSameTable table (kept_by slot holds result table)
 unfolding finish
 kept_same None holds result table = record { any = λ id. refl; serial = refl }
-kept_same (Some slot) holds result table = record { any = λ id. slot_any id slot.0 (finished_slot slot.1 holds result) (λ x. refl) table.sessions; serial = refl }
+kept_same (Some slot) holds result table = record { any = λ id. slot_any id slot.0 (finished_slot slot.1 result) (λ x. refl) table.sessions; serial = refl }
 
 closes_same : (number : ℕ) (after : World) (request : InProgress) (last : Status) (executed : Option Entry)
     → IsSameTable after.table (closes after number request last executed).world.table
@@ -286,8 +286,8 @@ module _ (world : World) (apart : SeatsApart world.table.seats) where
       ends_none (kept_by request.slot true (result_of request last) world.table) (kept_same request.slot true (result_of request last) world.table).any
   turned_ends number now _ (Unread request operation reason goes) =
       ends_none (behind world number request (Refused operation reason) None).world.table (behind_same number world request (Refused operation reason) None).any
-  turned_ends number now _ (TooBig request operation rest reason goes reads) =
-      let outcome = Refused (operation_of operation) reason in
+  turned_ends number now _ (TooBig request operation rest goes reads) =
+      let outcome = Refused (operation_of operation) status.RepTooBig in
       let executed = Some (executed_entry world (read_of request rest) operation outcome world) in
       let noted : InProgress = noting world world operation (read_of request rest) in
       ends_none (behind world number noted outcome executed).world.table (behind_same number world noted outcome executed).any
@@ -318,8 +318,8 @@ module _ (world : World) (apart : SeatsApart world.table.seats) where
   turned_destroys number now _ (Closes request last begins ended) entry id is asked done = no_entry entry is
   turned_destroys number now _ (Unread request operation reason goes) entry id is asked done =
       no_entry entry (sym (behind_has id number world request (Refused operation reason) None).1 ∙ is)
-  turned_destroys number now _ (TooBig request operation rest reason goes reads) entry id is asked done =
-      let outcome = Refused (operation_of operation) reason in
+  turned_destroys number now _ (TooBig request operation rest goes reads) entry id is asked done =
+      let outcome = Refused (operation_of operation) status.RepTooBig in
       let ran : Entry = executed_entry world (read_of request rest) operation outcome world in
       let same = one_entry ran entry _ (behind_has id number world (noting world world operation (read_of request rest)) outcome (Some ran)).1 is in
       absurd (true≢false (sym done ∙ ap (λ (e : Entry). is_done e.outcome) (sym same)))
@@ -428,8 +428,8 @@ module _ (limits : ServerLimits) (world : World) (held : Held limits world) (its
       absurd (makes.made (kept_same request.slot true (result_of request last) world.table).serial)
   turned_replaces number now _ (Unread request operation reason goes) answer makes client found id seat there done =
       absurd (makes.made (behind_same number world request (Refused operation reason) None).serial)
-  turned_replaces number now _ (TooBig request operation rest reason goes reads) answer makes client found id seat there done =
-      let outcome = Refused (operation_of operation) reason in
+  turned_replaces number now _ (TooBig request operation rest goes reads) answer makes client found id seat there done =
+      let outcome = Refused (operation_of operation) status.RepTooBig in
       absurd (makes.made (behind_same number world (noting world world operation (read_of request rest)) outcome (Some (executed_entry world (read_of request rest) operation outcome world))).serial)
   turned_replaces number now _ (Gave request operation rest outcome after left goes reads ran) answer makes client found id seat there done =
       let entry : Entry = executed_entry world (read_of request rest) operation outcome after in

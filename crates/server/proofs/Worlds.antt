@@ -1,5 +1,5 @@
 -- Events of a server that keeps each change at once, or lets it wait for the next flush.
-use Rattle.std.proofs.Common.{◌≡◌, ◌+◌, ◌<◌, ◌≤◌, ℕ, Bool, true, false, not, ◌&&◌, List, [], ◌∷◌, ◌++◌, length, None, Some, Option, Result, Ok, Err, IfOk, OnOk, OnErr, IsSome, refl, sym, ap, ◌∙◌, subst, inl, inr, cond, arith, lt-ltb, ◌≢◌}
+use Rattle.std.proofs.Common.{◌≡◌, ◌+◌, ◌<◌, ◌≤◌, ℕ, Bool, true, false, not, ◌&&◌, List, [], ◌∷◌, ◌++◌, length, None, Some, Result, Ok, Err, IfOk, OnOk, OnErr, refl, sym, ap, ◌∙◌, subst, inl, inr, cond, arith, lt-ltb, ◌≢◌}
 use Rattle.std.specs.List.{IsAmong}
 use Rattle.std.specs.Prelude.{map}
 use Rattle.std.proofs.lemmas.Bool.{cases_eq, false≢true}
@@ -14,18 +14,15 @@ use Rattle.model.specs.Server.World.{World, Entry, Quiet, Closed, arrives, arriv
 use Rattle.model_tree.proofs.Trees.KeyedLaws.{at-with_same, at-with_other, at-without_same, at-without_other}
 use Rattle.compound.specs.States.{SharedState}
 use Rattle.compound.specs.Volumes.{kept_of_world, lasts}
-use Rattle.fs.specs.FileSystem.{FileSystem}
 use Rattle.volume.specs.Changes.{LeavesOnCrash}
 use Rattle.volume.specs.VolumeState.{VolumeState}
 use Rattle.volume.proofs.PrefixLaws.{among_more}
 use Rattle.model.proofs.Server.RuledOutLaws.{dropped}
 use Rattle.model.proofs.Server.RunLaws.{EntryFits, event_fits}
-use Rattle.slab.specs.Slab.{Slab, get, slab_len, with_value, Updates}
-use Rattle.slab.proofs.SlabLemmas.{Updates-with_value}
+use Rattle.rpc.specs.Assembly.{record_limits}
+use Rattle.slab.specs.Slab.{Slab, slab_len, Updates}
 use Rattle.server.specs.declared.connection.Connection.{Connection}
 use Rattle.server.specs.Connections.{IsOfRun, connections_of, connection_view}
-use Rattle.server.specs.Records.{records_by, AreLimited}
-use Rattle.server.specs.Runs.{Run, run_by}
 use Rattle.server.proofs.SlabLaws.{with_slot, grew, grew_count}
 use Rattle.server.specs.Seen.{kept_by, left_of}
 use Rattle.server.specs.Views.{world_by, serving_by}
@@ -179,10 +176,10 @@ connects_is old number can = ap (λ (b : Bool). cond b (with_connection old numb
 
 -- A request that has begun is of this run
 
-abbrev pub AllOfRun : Run → Keyed world.Connection → Type 0
+abbrev pub AllOfRun : ℕ → Keyed world.Connection → Type 0
 AllOfRun run connections = (n : ℕ) (connection : world.Connection) → at n connections ≡ Some connection → IsOfRun run connection
 
-pub all_of_run_with : (run : Run) (connections : Keyed world.Connection) (number : ℕ) (connection : world.Connection)
+pub all_of_run_with : (run : ℕ) (connections : Keyed world.Connection) (number : ℕ) (connection : world.Connection)
     → AllOfRun run connections → IsOfRun run connection → AllOfRun run (with connections number connection)
 all_of_run_with run connections number connection all here n other is = elim (cases_eq n number) [
   | inl same ↦
@@ -192,7 +189,7 @@ all_of_run_with run connections number connection all here n other is = elim (ca
   | inr apart ↦ all n other (sym (at-with_other connections number n connection apart) ∙ is)
 ]
 
-pub all_of_run_without : (run : Run) (connections : Keyed world.Connection) (number : ℕ) → AllOfRun run connections → AllOfRun run (without connections number)
+pub all_of_run_without : (run : ℕ) (connections : Keyed world.Connection) (number : ℕ) → AllOfRun run connections → AllOfRun run (without connections number)
 all_of_run_without run connections number all n other is = elim (cases_eq n number) [
   | inl same ↦
       let gone : at n (without connections number) ≡ None = ap (λ (k : ℕ). at k (without connections number)) same ∙ at-without_same connections number in
@@ -200,21 +197,15 @@ all_of_run_without run connections number all n other is = elim (cases_eq n numb
   | inr apart ↦ all n other (sym (at-without_other connections number n apart) ∙ is)
 ]
 
--- a volume that is of the same run beside the same table
-pub all_of_run_on : (old new : FileSystem) (table : Table) (connections : Keyed world.Connection) → new.volume.run ≡ old.volume.run
-    → AllOfRun (run_by old table) connections → AllOfRun (run_by new table) connections
-all_of_run_on old new table connections same all =
-    subst (λ (count : ℕ). let run : Run = record { count = count; settings = table.settings } in AllOfRun run connections) (sym same) all
-
-pub quiet_of_run : (run : Run) (bytes : List ℕ) → IsOfRun run (Quiet bytes)
+pub quiet_of_run : (run : ℕ) (bytes : List ℕ) → IsOfRun run (Quiet bytes)
 quiet_of_run run bytes request is = let never : ⊥ = cc in absurd never
 
-pub not_busy_of_run : (run : Run) (connection : world.Connection) → is_busy (Some connection) ≡ false → IsOfRun run connection
+pub not_busy_of_run : (run : ℕ) (connection : world.Connection) → is_busy (Some connection) ≡ false → IsOfRun run connection
 not_busy_of_run run connection quiet request is =
     let busy : is_busy (Some connection) ≡ true = ap (λ (c : world.Connection). is_busy (Some c)) is in
     let never : ⊥ = cc in absurd never
 
-pub taken_of_run : (run : Run) (connection : world.Connection) → IsOfRun run connection → IsOfRun run (without_reply connection)
+pub taken_of_run : (run : ℕ) (connection : world.Connection) → IsOfRun run connection → IsOfRun run (without_reply connection)
 taken_of_run run (world.Quiet bytes) here = here
 taken_of_run run (world.Waiting request) here = here
 taken_of_run run (world.Busy request) here = here
@@ -230,18 +221,12 @@ arrived_quiet bytes (Whole request rest) = by_call (is_call_read (read_call requ
     by_call true = refl
     by_call false = refl
 
-pub arrived_of_run : (run : Run) (limits : RecordLimits) (piece : List ℕ) (connection : world.Connection) → IsOfRun run connection → IsOfRun run (arrives_at limits piece connection)
+pub arrived_of_run : (run : ℕ) (limits : RecordLimits) (piece : List ℕ) (connection : world.Connection) → IsOfRun run connection → IsOfRun run (arrives_at limits piece connection)
 arrived_of_run run limits piece (world.Quiet bytes) here = not_busy_of_run run _ (arrived_quiet (bytes ++ piece) (prefix limits (bytes ++ piece)))
 arrived_of_run run limits piece (world.Waiting request) here = here
 arrived_of_run run limits piece (world.Busy request) here = here
 arrived_of_run run limits piece (world.Replied reply) here = here
 arrived_of_run run limits piece world.Closed here = here
-
--- what is left of a connection that bytes were given to
-pub fed_of_run : {T E : Type 0} (run : Run) (limits : RecordLimits) (piece : List ℕ) (before after : world.Connection) (result : Result T E)
-    → OnOk result (after ≡ arrives_at limits piece before) → OnErr result (after ≡ before) → IsOfRun run before → IsOfRun run after
-fed_of_run run limits piece before after (Ok taken) arrived back here = subst (IsOfRun run) (sym arrived) (arrived_of_run run limits piece before here)
-fed_of_run run limits piece before after (Err error) arrived back here = subst (IsOfRun run) (sym back) here
 
 -- The world after each call
 
@@ -252,7 +237,7 @@ module _ (state : SharedState) (old new : Keyed world.Connection) (number : ℕ)
       ap (world_by state) (written ∙ ap (with old number) gives) ∙ sym (takes_is (world_by state old) number before is)
 
   pub fed : (piece : List ℕ) (before after : world.Connection) → at number old ≡ Some before → new ≡ with old number after
-      → after ≡ arrives_at (records_by state.files.volume.version) piece before → world_by state new ≡ arrives (world_by state old) number piece
+      → after ≡ arrives_at record_limits piece before → world_by state new ≡ arrives (world_by state old) number piece
   fed piece before after is written gives =
       ap (world_by state) (written ∙ ap (with old number) gives) ∙ sym (arrives_is (world_by state old) number piece before is)
 
@@ -266,7 +251,7 @@ module _ (state : SharedState) (old new : Keyed world.Connection) (number : ℕ)
 
 -- A slab after an insert that may have failed
 
-pub inserted_of_run : {E : Type 0} (run : Run) (old new : Slab Connection) (value : Connection) (result : Result ℕ E)
+pub inserted_of_run : {E : Type 0} (run : ℕ) (old new : Slab Connection) (value : Connection) (result : Result ℕ E)
     → IfOk result (λ key. Updates old new key (Some value)) → OnErr result (new ≡ record old { capacity = new.capacity })
     → IsOfRun run (connection_view value) → AllOfRun run (connections_of old) → AllOfRun run (connections_of new)
 inserted_of_run run old new value (Ok key) updates failed here all =
@@ -277,31 +262,3 @@ pub inserted_count : {E : Type 0} (old new : Slab Connection) (result : Result �
     → OnOk result (slab_len new ≡ slab_len old + 1) → OnErr result (new ≡ record old { capacity = new.capacity }) → slab_len new ≤ slab_len old + 1
 inserted_count old new (Ok key) count failed = omega (arith, count)
 inserted_count old new (Err fault) count failed = omega (arith, grew_count old new failed)
-
--- The limits of the connections' records
-
-module _ (limits : RecordLimits) where
-  limited_updated : (old new : Slab Connection) (n : ℕ) (slot : Option Connection) → Updates old new n slot
-      → ((value : Connection) → slot ≡ Some value → value.assembler.limits ≡ limits) → AreLimited limits old → AreLimited limits new
-  limited_updated old new n slot updates here all = λ k connection is. elim (cases_eq k n) [
-    | inl same ↦ here connection (sym updates.changed ∙ (ap (get new) (sym same) ∙ is))
-    | inr apart ↦ all k connection (sym (updates.others k apart) ∙ is)
-  ]
-
-  -- one that has the limits that it had is written
-  pub limited_wrote : (slab : Slab Connection) (n : ℕ) (before value : Connection) → Some before ≡ get slab n → value.assembler.limits ≡ before.assembler.limits
-      → AreLimited limits slab → AreLimited limits (with_value slab n value)
-  limited_wrote slab n before value is same all =
-      limited_updated slab (with_value slab n value) n (Some value) (Updates-with_value slab n value (subst IsSome is refl))
-      (λ other there. let one : value ≡ other = cc in ap (λ (c : Connection). c.assembler.limits) (sym one) ∙ (same ∙ all n before (sym is))) all
-
-  pub limited_without : (old new : Slab Connection) (n : ℕ) → Updates old new n None → AreLimited limits old → AreLimited limits new
-  limited_without old new n updates all = limited_updated old new n None updates (λ value there. let never : ⊥ = cc in absurd never) all
-
-  pub inserted_limited : {E : Type 0} (old new : Slab Connection) (value : Connection) (result : Result ℕ E)
-      → IfOk result (λ key. Updates old new key (Some value)) → OnErr result (new ≡ record old { capacity = new.capacity })
-      → value.assembler.limits ≡ limits → AreLimited limits old → AreLimited limits new
-  inserted_limited old new value (Ok key) updates failed here all =
-      limited_updated old new key (Some value) updates (λ other there. let one : value ≡ other = cc in ap (λ (c : Connection). c.assembler.limits) (sym one) ∙ here) all
-  inserted_limited old new value (Err fault) updates failed here all =
-      λ k connection is. all k connection (sym (ap (λ (slab : Slab Connection). get slab k) failed) ∙ is)

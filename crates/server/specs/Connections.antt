@@ -1,14 +1,13 @@
 -- What a connection represents, and a turn of it by the definition.
 use Rattle.std.specs.Prelude.{◌≡◌, ◌+◌, ℕ, true, false, List, [], ◌∷◌, map, Option, Some, None}
 use Rattle.slab.specs.Slab.{Slab, entries}
-use Rattle.compound.specs.States.{SharedState, HasState, most_reply_bytes, with_state}
+use Rattle.compound.specs.States.{SharedState, HasState, with_state}
 use Rattle.compound.specs.Steps.{stepped_on}
 use Rattle.model_tree.specs.Trees.Keyed.{Keyed, at, IsAbove}
 use Rattle.model.specs.Wire.Rpc.{read_call}
 use Rattle.model.specs.Server.World as world
 use Rattle.model.specs.Server.World.{World, InProgress, Turned, Answered, Busy, Replied, one, called, with_connection}
 use Rattle.server.specs.declared.connection.Connection.{Connection}
-use Rattle.server.specs.Runs.{Run, IsInRun}
 use Rattle.server.specs.Stages.{CanGoOn, IsLeftInRun, in_progress_at, stage_view, turn_of_end, left_by_turn, can_follow}
 use Rattle.server.specs.declared.begun.Begun.{Begun}
 use Rattle.server.specs.declared.begun.TurnEnd.{TurnEnd}
@@ -18,7 +17,7 @@ use Rattle.server.specs.declared.turn.Turn.{Turn}
 use Rattle.server.specs.declared.turn.Turn.TheVariants as turn
 
 unfoldable pub connection_view : Connection → world.Connection
-connection_view connection = stage_view connection.assembler.assembly connection.stage
+connection_view connection = stage_view connection.assembler connection.stage
 
 abbrev pub numbered : ℕ × Connection → ℕ × world.Connection
 numbered entry = (entry.0, connection_view entry.1)
@@ -57,8 +56,9 @@ ConnectionTurns now old new before after done =
     × ((one world number now).world ≡ with_connection (with_state world new) number after)
 
 -- a request that has begun goes on in this run of the server
-abbrev pub IsOfRun : Run → world.Connection → Type 0
-IsOfRun run connection = (request : InProgress) → connection ≡ Busy request → IsInRun run request
+abbrev pub IsOfRun : (run : ℕ) → world.Connection → Type 0
+IsOfRun run connection =
+    (request : InProgress) → connection ≡ Busy request → request.context.run ≡ run
 
 -- after a turn a request that had begun has one result more, unless that was the last one, or its
 -- reply is there
@@ -77,9 +77,8 @@ RecordSteps now old new request begun done =
     (left_by_turn (Some request) done) (turn_of_end done)
 
 -- what it leaves, on any device
-pub record RecordGoesOn (run : Run) (request : List ℕ) (begun : Begun) (done : TurnEnd)
-    : Type 0 where
-  pub stays : IsLeftInRun run request done
+pub record RecordGoesOn (run : ℕ) (request : List ℕ) (begun : Begun) (done : TurnEnd) : Type 0 where
+  pub stays : IsLeftInRun run done
   pub further : HasGoneOn (Some (Busy (in_progress_at request begun)))
       (Some (left_by_turn (Some request) done))
   pub follows : can_follow (Some request) done ≡ true
@@ -95,15 +94,13 @@ replied old number reply = record {
   replays = None;
 }
 
--- what the turn of a whole record is, in each world of the run of this restart count, whatever was
--- chosen for it
-abbrev pub OpensRecord : (count : ℕ) → (request : List ℕ) → Opened → Type 0
-OpensRecord count request (opened.Answers reply) =
+-- what the turn of a whole record is, in each world of this run
+abbrev pub OpensRecord : (run : ℕ) → (request : List ℕ) → Opened → Type 0
+OpensRecord run request (opened.Answers reply) =
     (world : World) (number now : ℕ)
     → called world number now (read_call request) ≡ replied world number reply.items
-OpensRecord count request (opened.Begins begun) =
-    ((run : Run) → run.count ≡ count → CanGoOn run request begun)
-    × ((world : World) (number now : ℕ) → world.run ≡ count
-    → world.limits.reply_bytes ≡ most_reply_bytes
+OpensRecord run request (opened.Begins begun) =
+    CanGoOn run request begun
+    × ((world : World) (number now : ℕ) → world.run ≡ run
     → called world number now (read_call request)
     ≡ stepped_on world number now (in_progress_at request begun))

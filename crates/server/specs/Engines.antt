@@ -1,10 +1,9 @@
 -- What a turn works on, and what it leaves of that.
-use Rattle.std.specs.Prelude.{◌≡◌}
+use Rattle.std.specs.Prelude.{◌≡◌, ℕ}
 use Rattle.compound.specs.States.{SharedState, shared_of}
 use Rattle.disk.specs.declared.device.Device.{Ghosts}
 use Rattle.fs.specs.FileSystem.{FileSystem}
 use Rattle.fs.specs.Views.{fs_of, AltersFs}
-use Rattle.server.specs.Runs.{Run, run_by}
 use Rattle.server.specs.declared.engine.Engine.{Engine}
 use Rattle.volume.specs.Changes.{Given, Ending}
 
@@ -13,9 +12,6 @@ files_in engine = fs_of engine.fs.now
 
 abbrev pub state_in : {D : Type 0} {g : Ghosts D} → Engine D g → SharedState
 state_in engine = shared_of engine.fs.now engine.table.now engine.opens.now
-
-abbrev pub run_in : {D : Type 0} {g : Ghosts D} → Engine D g → Run
-run_in engine = run_by (files_in engine) (state_in engine).table
 
 -- it borrows the same file system, table and opens
 pub record BorrowsSame {D : Type 0} {g : Ghosts D} (old new : Engine D g) : Type 0 where

@@ -3,10 +3,8 @@ pub mod Engines
 pub mod Faults
 pub mod Headline
 pub mod LifeLaws
-pub mod Records
 pub mod Refused
 pub mod RunLaws
-pub mod Runs
 pub mod Seen
 pub mod Stages
 pub mod Views

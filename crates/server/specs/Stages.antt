@@ -10,7 +10,6 @@ use Rattle.model.specs.Server.World as world
 use Rattle.model.specs.Server.World.{Connection, InProgress, Busy, Replied, Closed}
 use Rattle.rpc.specs.Assembly.{Assembly, Gathers, Holds, Refuses, connection_of}
 use Rattle.rpc.specs.Places.{compound_at, is_within}
-use Rattle.server.specs.Runs.{Run, IsInRun}
 use Rattle.server.specs.declared.begun.Begun.{Begun}
 use Rattle.server.specs.declared.begun.TurnEnd.{TurnEnd}
 use Rattle.server.specs.declared.begun.TurnEnd.TheVariants as left
@@ -32,9 +31,9 @@ fits_in request call progress =
     is_within request call.place && fits_operations (asked_at request call) progress
 
 -- and in this run, in which it began
-pub record CanGoOn (run : Run) (request : List ℕ) (begun : Begun) : Type 0 where
+pub record CanGoOn (run : ℕ) (request : List ℕ) (begun : Begun) : Type 0 where
   pub can : fits_in request begun.call begun.progress ≡ true
-  pub of_run : IsInRun run (in_progress_at request begun)
+  pub began_in : begun.progress.run ≡ run
 
 -- the record that an assembler holds
 abbrev pub held_record : Assembly → Option (List ℕ)
@@ -87,9 +86,9 @@ can_follow request (left.Begun begun) = can_go_on request begun
 can_follow request (left.Answered reply) = true
 
 -- the request goes on in the same run of the server
-abbrev pub IsLeftInRun : Run → (request : List ℕ) → TurnEnd → Type 0
-IsLeftInRun run request (left.Begun begun) = IsInRun run (in_progress_at request begun)
-IsLeftInRun run request (left.Answered reply) = Unit {0}
+abbrev pub IsLeftInRun : (run : ℕ) → TurnEnd → Type 0
+IsLeftInRun run (left.Begun begun) = begun.progress.run ≡ run
+IsLeftInRun run (left.Answered reply) = Unit {0}
 
 abbrev pub failed_turn_ending : {T : Type 0} → Result T FailedStep → Ending
 failed_turn_ending (Ok done) = Done

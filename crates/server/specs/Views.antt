@@ -13,10 +13,10 @@ use Rattle.model.specs.Server.Runs.{Serving, Event, Left}
 use Rattle.model_tree.specs.Trees.Tree.{Tree}
 use Rattle.model.specs.Server.World as world
 use Rattle.model.specs.Server.World.{World, ServerLimits, mounted_world}
+use Rattle.rpc.specs.Assembly.{record_limits}
 use Rattle.volume.specs.MountAnswers.{MountServes}
 use Rattle.volume.specs.VolumeState.{VolumeState}
 use Rattle.server.specs.Connections.{connections_of}
-use Rattle.server.specs.Records.{records_by}
 use Rattle.server.specs.declared.fault.ServerFault.{ServerFault}
 use Rattle.server.specs.declared.server.Server.{Server}
 use Rattle.server.specs.Seen.{Seen, IsReady, LeavesNow, Said, Gave, Does, Breaks, Checkpoints, FlushesAll, GivesDown, IsTurned, AreAtOnce}
@@ -26,16 +26,15 @@ use Rattle.model.specs.Sessions.Session.{Settings}
 abbrev pub most_connections : ℕ
 most_connections = 16
 
--- 64 clients and 32 sessions, in version 3 256 and 64; 8 slots, and of a session that has a seat as
--- many as the volume has room for; records of requests of 16,384 bytes, in version 3 of 1,056,768.
--- An OK result ends within 16,368 bytes of its reply before a session's bytes are known, and of a
--- request that changes the tree. A constant of the code that is changed is refused. Whether a new
--- session may have a seat is said when the run begins.
+-- 64 clients, 32 sessions, 8 slots, and of a session that has a seat as many as the volume has room
+-- for; records of 16,384 bytes; an OK result ends within 16,368 bytes of its reply. A constant of
+-- the code that is changed is refused. Whether a new session may have a seat is said when the run
+-- begins.
 abbrev pub server_limits : VersionNumber → Limits → (settings : Settings) → ServerLimits
 server_limits version volume settings = record {
   volume = volume;
   sessions = served_by version;
-  records = records_by version;
+  records = record_limits;
   connections = most_connections;
   settings = settings;
   reply_bytes = most_reply_bytes;

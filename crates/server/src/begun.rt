@@ -44,7 +44,7 @@ impl Begun {
     ghost use Rattle.compound.specs.Steps.{stepped_on};
     ghost use Rattle.compound.specs.Volumes.{TurnGives};
     ghost use Rattle.server.specs.Connections.{RecordGoesOn, RecordSteps};
-    ghost use Rattle.server.specs.Engines.{AltersFiles, BorrowsSame, KeepsRest, files_in, run_in, state_in};
+    ghost use Rattle.server.specs.Engines.{AltersFiles, BorrowsSame, KeepsRest, files_in, state_in};
     ghost use Rattle.server.specs.Stages.{CanGoOn, in_progress_at, failed_turn_ending};
 
     /// A turn of the COMPOUND whose call is in this record.
@@ -57,13 +57,14 @@ impl Begun {
         engine: &mut Engine<'_, D>,
         results_buffer: &mut Writer,
     ) -> Result<TurnEnd, FailedStep>
-        requires goes_on { CanGoOn (run_in engine.old) request.now self }
+        requires goes_on { CanGoOn (files_in engine.old).volume.run request.now self }
         requires up { (files_in engine.old).volume.is_down ≡ false }
         // If it succeeds
         ensures step { D.keeps_word
             → IfOk result (RecordSteps engine.old.moment (state_in engine.old)
             (state_in engine.new) request.now self) }
-        ensures goes_on { IfOk result (RecordGoesOn (run_in engine.old) request.now self) }
+        ensures goes_on { IfOk result
+            (RecordGoesOn (files_in engine.old).volume.run request.now self) }
         // If it fails
         ensures back { IfErr result (λ failed. failed.begun ≡ self) }
         ensures others { OnErr result (KeepsRest engine.old engine.new) }
@@ -72,7 +73,6 @@ impl Begun {
             (λ world number. stepped_on world number engine.old.moment
             (in_progress_at request.now self))) (failed_turn_ending result) }
         ensures same { BorrowsSame engine.old engine.new }
-        ensures run { run_in engine.new ≡ run_in engine.old }
     {
         let Begun { call, progress } = self;
         match call.resume(engine.alloc, request, progress).step(

@@ -11,11 +11,11 @@ use xdr::Writer;
 /// its reply waits to be taken.
 #[derive(Drop)]
 pub struct Connection {
-    /// Has the memory for each record of 16,384 bytes that comes, and takes more for a larger one.
-    /// It holds the record while its request runs, and nothing while a reply waits.
+    /// Has the memory for each record that comes. It holds the record while its request runs, and
+    /// nothing while a reply waits.
     pub(crate) assembler: Assembler,
     /// Memory that a COMPOUND left, for the results of the next one.
     pub(crate) results_buffer: Writer,
     pub(crate) stage: Stage,
-    ghost ready: { is_ready stage assembler.assembly ≡ true },
+    ghost ready: { is_ready stage assembler ≡ true },
 }

@@ -9,7 +9,6 @@ mod fault;
 mod laws;
 mod mounting;
 mod receiving;
-mod records;
 mod request;
 mod running;
 mod server;

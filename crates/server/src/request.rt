@@ -9,7 +9,7 @@ ghost use Rattle.rpc.specs.Views.{reply_view, tail_of};
 ghost use Rattle.compound.specs.Volumes.{TurnGives, ending};
 ghost use Rattle.compound.specs.declared.fault.Fault.TheVariants.{Memory};
 ghost use Rattle.server.specs.Connections.{OpensRecord, Leads};
-ghost use Rattle.server.specs.Engines.{AltersFiles, BorrowsSame, KeepsRest, files_in, run_in, state_in};
+ghost use Rattle.server.specs.Engines.{AltersFiles, BorrowsSame, KeepsRest, files_in, state_in};
 ghost use Rattle.server.specs.Stages.{IsLeftInRun, turn_of_end, left_by_turn, can_follow};
 
 use crate::begun::{Begun, KeptCall, TurnEnd};
@@ -45,7 +45,7 @@ pub fn first_turn<D: Device>(
         called world number engine.old.moment (rpc.read_call request.now))
         (state_in engine.old) (state_in engine.new)
         (left_by_turn (Some request.now) done) (turn_of_end done)) }
-    ensures stays { IfOk result (IsLeftInRun (run_in engine.old) request.now) }
+    ensures stays { IfOk result (IsLeftInRun (files_in engine.old).volume.run) }
     ensures follows { IfOk result (λ done. can_follow (Some request.now) done ≡ true) }
     // If it fails
     ensures back { OnErr result (KeepsRest engine.old engine.new) }
@@ -54,7 +54,6 @@ pub fn first_turn<D: Device>(
         (λ world number. called world number engine.old.moment (rpc.read_call request.now)))
         (ending result) }
     ensures same { BorrowsSame engine.old engine.new }
-    ensures run { run_in engine.new ≡ run_in engine.old }
 {
     match open(
         engine.alloc,

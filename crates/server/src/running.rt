@@ -19,21 +19,20 @@ impl Connection {
     ghost use Rattle.rpc.specs.Assembly.{Holds};
     ghost use Rattle.compound.specs.Volumes.{TurnGives, ending};
     ghost use Rattle.server.specs.Connections.{connection_view, turn_view, ConnectionTurns, Leads, IsOfRun, HasGoneOn};
-    ghost use Rattle.server.specs.Engines.{AltersFiles, BorrowsSame, KeepsRest, files_in, run_in, state_in};
+    ghost use Rattle.server.specs.Engines.{AltersFiles, BorrowsSame, KeepsRest, files_in, state_in};
     ghost use Rattle.server.specs.Stages.{CanGoOn, held_record, busy_with, turn_of_end, left_by_turn, can_follow};
 
     /// Runs one operation of the request that waits or has begun, or has a seat hold the reply of
     /// one that has ended, at this moment in nanoseconds since 1970.
     pub fn turn<D: Device>(&mut self, engine: &mut Engine<'_, D>) -> Result<Turn, Fault>
         requires up { (files_in engine.old).volume.is_down ≡ false }
-        requires run { IsOfRun (run_in engine.old) (connection_view self.old) }
+        requires run { IsOfRun (files_in engine.old).volume.run (connection_view self.old) }
         ensures turn { D.keeps_word
             → IfOk result (ConnectionTurns engine.old.moment (state_in engine.old)
             (state_in engine.new) (connection_view self.old) (connection_view self.new)) }
         ensures further { OnOk result
             (HasGoneOn (Some (connection_view self.old)) (Some (connection_view self.new))) }
-        ensures run { (run_in engine.new ≡ run_in engine.old)
-            × IsOfRun (run_in engine.old) (connection_view self.new) }
+        ensures run { IsOfRun (files_in engine.old).volume.run (connection_view self.new) }
         // If it fails
         ensures back { OnErr result ((connection_view self.new ≡ connection_view self.old)
             × KeepsRest engine.old engine.new) }
@@ -42,7 +41,6 @@ impl Connection {
             (λ world number. turned world number engine.old.moment
             (Some (connection_view self.old)))) (ending result) }
         ensures same { BorrowsSame engine.old engine.new }
-        ensures limits { self.new.assembler.limits ≡ self.old.assembler.limits }
     {
         match mem::replace(&mut self.stage, Stage::Receiving) {
             Stage::Receiving => match self.assembler.record() {
@@ -66,30 +64,28 @@ impl Connection {
         begun: Begun,
         engine: &mut Engine<'_, D>,
     ) -> Result<Turn, Fault>
-        requires goes_on { (request : List ℕ) × (self.old.assembler.assembly ≡ Holds request)
-            × CanGoOn (run_in engine.old) request begun }
+        requires goes_on { (request : List ℕ) × (self.old.assembler ≡ Holds request)
+            × CanGoOn (files_in engine.old).volume.run request begun }
         requires up { (files_in engine.old).volume.is_down ≡ false }
         // What it returns
         ensures turn { D.keeps_word → IfOk result (λ done. Leads (λ world number.
             turned world number engine.old.moment
-            (Some (busy_with (held_record self.old.assembler.assembly) begun)))
+            (Some (busy_with (held_record self.old.assembler) begun)))
             (state_in engine.old) (state_in engine.new)
             (connection_view self.new) (turn_view done)) }
         ensures further { OnOk result (HasGoneOn
-            (Some (busy_with (held_record self.old.assembler.assembly) begun))
+            (Some (busy_with (held_record self.old.assembler) begun))
             (Some (connection_view self.new))) }
-        ensures run { (run_in engine.new ≡ run_in engine.old)
-            × IsOfRun (run_in engine.old) (connection_view self.new) }
+        ensures run { IsOfRun (files_in engine.old).volume.run (connection_view self.new) }
         // If it fails
         ensures back { OnErr result
-            ((connection_view self.new ≡ busy_with (held_record self.old.assembler.assembly) begun)
+            ((connection_view self.new ≡ busy_with (held_record self.old.assembler) begun)
             × KeepsRest engine.old engine.new) }
         // However it ends
         ensures volume { AltersFiles engine.old engine.new (TurnGives (state_in engine.old)
             (λ world number. turned world number engine.old.moment
-            (Some (busy_with (held_record self.old.assembler.assembly) begun)))) (ending result) }
+            (Some (busy_with (held_record self.old.assembler) begun)))) (ending result) }
         ensures same { BorrowsSame engine.old engine.new }
-        ensures limits { self.new.assembler.limits ≡ self.old.assembler.limits }
     {
         let Some(record) = self.assembler.record() else {
             unreachable!();
@@ -105,12 +101,11 @@ impl Connection {
 
     /// Goes on after a step, and returns what the turn was. With the reply, the record is released.
     fn settle(&mut self, done: TurnEnd) -> Turn
-        requires holds { (request : List ℕ) × (self.old.assembler.assembly ≡ Holds request) }
-        requires follows { can_follow (held_record self.old.assembler.assembly) done ≡ true }
+        requires holds { (request : List ℕ) × (self.old.assembler ≡ Holds request) }
+        requires follows { can_follow (held_record self.old.assembler) done ≡ true }
         ensures turn { turn_view result ≡ turn_of_end done }
         ensures state { connection_view self.new
-            ≡ left_by_turn (held_record self.old.assembler.assembly) done }
-        ensures limits { self.new.assembler.limits ≡ self.old.assembler.limits }
+            ≡ left_by_turn (held_record self.old.assembler) done }
     {
         match done {
             TurnEnd::Begun(begun) => {

@@ -8,14 +8,11 @@ ghost use Rattle.model_tree.specs.Trees.Keyed.{at};
 ghost use Rattle.model.specs.Server.World as world;
 ghost use Rattle.session.specs.Views.{table_of};
 ghost use Rattle.server.specs.Connections.{connections_of, IsOfRun};
-ghost use Rattle.server.specs.Records.{records_by, AreLimited};
-ghost use Rattle.server.specs.Runs.{run_by};
 ghost use Rattle.server.specs.declared.server.TheConstants.{MAX_CONNECTIONS};
 
 use crate::connection::Connection;
 use crate::engine::Engine;
 use crate::fault::ServerFault;
-use crate::records::max_record_bytes;
 use crate::turn::Turn;
 use disk::Device;
 use fs::Fs;
@@ -40,8 +37,7 @@ pub struct Server<D: Device> {
     ghost few: { slab_len connections ≤ MAX_CONNECTIONS },
     ghost of_run: { (n : ℕ) (connection : world.Connection)
         → at n (connections_of connections) ≡ Some connection
-        → IsOfRun (run_by (fs_of fs) (table_of table)) connection },
-    ghost limited: { AreLimited (records_by (fs_of fs).volume.version) connections },
+        → IsOfRun (fs_of fs).volume.run connection },
     ghost agrees: { D.keeps_word → (fs_of fs).volume.is_down ≡ false
         → Agrees (fs_of fs) (table_of table) },
 }
@@ -52,7 +48,7 @@ impl<D: Device> Server<D> {
     ghost use Rattle.std.specs.Option.{option_map};
     ghost use Rattle.model.specs.Sessions.Session.{is_client, is_session};
     ghost use Rattle.model_tree.specs.Seats.SeatViews.{seats_view};
-    ghost use Rattle.std.specs.Prelude.{◌≢◌, ◌≡◌, ◌<◌, ◌≤◌, ◌↔◌, List, true, false, Some, None, length, OnOk, OnErr, IfOk, IfErr, IsErrOf};
+    ghost use Rattle.std.specs.Prelude.{◌≢◌, ◌≡◌, ◌≤◌, ◌↔◌, List, true, false, Some, None, length, OnOk, OnErr, IfOk, IfErr, IsErrOf};
     ghost use Rattle.model.specs.Server.Runs as runs;
     ghost use Rattle.model.specs.Server.World.{Closed, is_busy, can_connect};
     ghost use Rattle.server.specs.Connections.{turn_view};
@@ -167,7 +163,7 @@ impl<D: Device> Server<D> {
         if self.connections.len() >= MAX_CONNECTIONS {
             return Err(ServerFault::Full);
         }
-        let connection = Connection::new(self.alloc, max_record_bytes(self.fs.version()))?;
+        let connection = Connection::new(self.alloc)?;
         Ok(self.connections.insert(connection)?)
     }
 
@@ -176,9 +172,7 @@ impl<D: Device> Server<D> {
     ///
     /// # Errors
     /// Device if the file system is down; NoConnection; Closed if the piece brings a refused header
-    /// or ends a record that is no call, and from then on. Memory if there is none for a record of
-    /// more than 16,384 bytes, which only a volume of version 3 takes: then nothing changed, and
-    /// the piece may be fed again.
+    /// or ends a record that is no call, and from then on. It allocates no memory.
     pub fn feed(&mut self, conn: usize, piece: &[u8]) -> Result<usize, ServerFault>
         ensures ok { D.keeps_word → IfOk result (λ n.
             Serves self.old self.new (runs.Arrives conn piece.now) (Took (Some n))) }
@@ -190,8 +184,8 @@ impl<D: Device> Server<D> {
             → connection_at (view self.old) conn ≡ None }
         ensures is_none { (volume_of self.old).is_down ≡ false
             → connection_at (view self.old) conn ≡ None → IsErrOf result ServerFault.NoConnection }
-        ensures only { IfErr result (λ fault. (fault ≢ ServerFault.Full)
-            × (fault ≡ ServerFault.Memory → 16384 < (world_of self.old).limits.records.bytes)) }
+        ensures only { IfErr result (λ fault.
+            (fault ≢ ServerFault.Full) × (fault ≢ ServerFault.Memory)) }
         ensures err { IfErr result (λ fault.
             (fault ≢ ServerFault.Closed) → world_of self.new ≡ world_of self.old) }
         ensures volume { files_of self.new ≡ files_of self.old }
@@ -203,10 +197,10 @@ impl<D: Device> Server<D> {
         let Some(connection) = self.connections.get_mut(conn) else {
             return Err(ServerFault::NoConnection);
         };
-        match connection.feed(piece)? {
-            Some(taken) => Ok(taken),
-            None => Err(ServerFault::Closed),
-        }
+        let Some(taken) = connection.feed(piece) else {
+            return Err(ServerFault::Closed);
+        };
+        Ok(taken)
     }
 
     /// Gives the connection a turn at this time, in nanoseconds since 1970: one operation of its

@@ -1,11 +1,11 @@
 -- What SEQUENCE does, by what its slot does.
-use Rattle.std.proofs.Common.{◌≡◌, ℕ, Bool, true, false, cond, if◌then◌else◌, ◌&&◌, ◌==◌, nat_lt, List, length, Option, None, Some, Ok, Err, refl, ap}
+use Rattle.std.proofs.Common.{◌≡◌, ℕ, Bool, true, false, cond, ◌&&◌, ◌==◌, nat_lt, List, length, Option, None, Some, Ok, Err, refl, ap}
 use Rattle.std.specs.Option.{option_map}
 use Rattle.model_tree.specs.declared.status.Status.{Status}
 use Rattle.model_tree.specs.declared.status.Status.TheVariants as status
 use Rattle.model.specs.Operations.Operation.{SequenceArguments}
 use Rattle.model_tree.specs.Seats.Seats.{HeldReply, Seat, Seats, held_in}
-use Rattle.model.specs.Sessions.Session.{Begun, Refuses, Replays, Runs, SlotState, Free, Running, Kept, Unkept, Slot, Session, begin_by, begin_slot, begin_new, begin_held, begin_dead, slot_at, next_number}
+use Rattle.model.specs.Sessions.Session.{Begun, Refuses, Replays, Runs, SlotState, Free, Running, Kept, Slot, Session, begin_by, begin_slot, begin_new, begin_held, begin_dead, slot_at, next_number}
 use Rattle.session.specs.declared.slot.Next.TheVariants as next
 use Rattle.session.specs.Slots.{next_of, refusal_of, kept_reply}
 use Rattle.session.specs.Seating.{reply_held}
@@ -40,10 +40,6 @@ running_replays : (a : Bool) (reply : List ℕ) → cond a (Refuses status.Delay
 running_replays true reply e = cc
 running_replays false reply e = cc
 
-unkept_replays : (a : Bool) (reply : List ℕ) (reason : Status) (others : Begun) → (others ≡ Replays reply → Begun.Replays reply ≡ Runs) → cond a (Refuses reason) others ≡ Replays reply → Begun.Replays reply ≡ Runs
-unkept_replays true reply reason others never e = cc
-unkept_replays false reply reason others never e = never e
-
 slot_replays : (uid count : ℕ) (arguments : SequenceArguments) (session : Session) (slot : Slot) (state : SlotState) (reply : List ℕ) → begin_slot uid count arguments session slot state ≡ Replays reply → kept_reply state ≡ Some reply
 slot_replays uid count arguments session slot Free reply e =
     let never = new_replays (arguments.sequence == next_number slot.last) (nat_lt session.max_operations count) reply e in cc
@@ -52,10 +48,6 @@ slot_replays uid count arguments session slot Running reply e =
 slot_replays uid count arguments session slot (Kept before) reply e =
     ap Some (kept_replays (arguments.sequence == slot.last) (uid == slot.uid) before reply (begin_new count arguments session slot)
     (new_replays (arguments.sequence == next_number slot.last) (nat_lt session.max_operations count) reply) e)
-slot_replays uid count arguments session slot Unkept reply e =
-    let never = unkept_replays (arguments.sequence == slot.last) reply (if uid == slot.uid then status.RetryUncachedRep else status.SeqFalseRetry) (begin_new count arguments session slot)
-    (new_replays (arguments.sequence == next_number slot.last) (nat_lt session.max_operations count) reply) e in
-    cc
 
 inside_replays : (a : Bool) (b : Begun) (reply : List ℕ) → cond a b (Refuses status.BadSlot) ≡ Replays reply → b ≡ Replays reply
 inside_replays true b reply e = e

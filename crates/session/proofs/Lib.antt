@@ -12,6 +12,5 @@ pub mod Kept
 pub mod Lists
 pub mod Opening
 pub mod Serials
-pub mod Shortness
 pub mod Taking
 pub mod Writes

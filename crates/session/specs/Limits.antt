@@ -9,8 +9,5 @@ limits_of limits = record {
   slots = limits.slots;
   seat_slots = limits.seat_slots;
   operations = limits.operations;
-  least_bytes = 16384;
   record_bytes = limits.record_bytes;
-  cached_bytes = limits.cached_bytes;
-  minds_cached = limits.minds_cached;
 }

@@ -1,9 +1,8 @@
 -- CREATE_SESSION, DESTROY_SESSION, and a reply that a seat is to hold, in two steps. The plan takes
 -- all memory and says how the seats change, so that the volume keeps them first; then the table
 -- changes.
-use Rattle.std.specs.Prelude.{◌≡◌, ◌<◌, ◌≤◌, ℕ, ◌+◌, List, [], ◌∷◌, ◌++◌, None, Some, Result, Ok, Err, vec_len, vec_capacity}
+use Rattle.std.specs.Prelude.{◌≡◌, ◌<◌, ℕ, ◌+◌, List, [], ◌∷◌, ◌++◌, None, Some, Result, Ok, Err, vec_len, vec_capacity}
 use Rattle.std.specs.List.{find}
-use Rattle.model.specs.declared.holding.Holding.TheVariants as holdings
 use Rattle.model.specs.declared.not_done.NotDone.{NotDone}
 use Rattle.model.specs.declared.not_done.NotDone.TheVariants as refusal
 use Rattle.model_tree.specs.declared.seat_edits.SeatEdits.{SeatEdits}
@@ -42,7 +41,6 @@ pub record Opens (new old : model.Table) (plan : NewSession) : Type 0 where
   pub ends : plan.ended.items ≡ ended_by client old.clients
   pub serial : plan.session.serial ≡ old.session_serial + 1
   pub given : AreGiven old.run plan.session.serial (edited_all (edits_view plan.edits) old.seats)
-  pub short : old.settings.holding ≡ holdings.All → plan.session.reply_bytes ≤ 16384
   pub table : new ≡ opened client plan old
 
 -- the plan does what it should

@@ -12,7 +12,6 @@ abbrev pub slot_state_of : SlotState → model.SlotState
 slot_state_of slot_state.Free = model.Free
 slot_state_of (slot_state.Running memory) = model.Running
 slot_state_of (slot_state.Kept reply) = model.Kept reply.bytes.items
-slot_state_of (slot_state.Unkept memory) = model.Unkept
 
 abbrev pub slot_of : Slot → model.Slot
 slot_of slot = record { last = slot.last; uid = slot.uid; state = slot_state_of slot.state }
@@ -26,15 +25,10 @@ abbrev pub kept_reply : model.SlotState → Option (List ℕ)
 kept_reply model.Free = None
 kept_reply model.Running = None
 kept_reply (model.Kept reply) = Some reply
-kept_reply model.Unkept = None
 
--- the slot in another state, and the session with it
-abbrev pub slot_in : model.SlotState → model.Slot → model.Slot
-slot_in state slot = record slot { state = state }
-
-abbrev pub with_state : ℕ → model.SlotState → model.Session → model.Session
-with_state place state session =
-    model.with_slot place (slot_in state (model.slot_at session place)) session
+-- the slot once it keeps the reply
+abbrev pub kept_slot : List ℕ → model.Slot → model.Slot
+kept_slot reply slot = record slot { state = model.Kept reply }
 
 -- what a slot does with a request, without the reply
 abbrev pub next_of : model.Begun → Result Next Status

@@ -36,8 +36,6 @@ session_of session = record {
   client = session.client;
   serial = session.serial;
   max_operations = session.max_operations;
-  reply_bytes = session.reply_bytes;
-  cached_bytes = session.cached_bytes;
   slots = map slot_of session.slots.items;
 }
 

@@ -1,9 +1,9 @@
 //! CREATE_SESSION (RFC 8881, section 18.36).
 
-ghost use Rattle.std.specs.Prelude.{◌≡◌, ◌≢◌, ◌<◌, ◌≤◌, ◌+◌, ◌^◌, if◌then◌else◌, None, Some, IfOk, IfErr};
+ghost use Rattle.std.specs.Prelude.{◌≡◌, ◌≢◌, ◌<◌, ◌+◌, ◌^◌, if◌then◌else◌, None, IfOk, IfErr};
 ghost use Rattle.std.specs.Result.{result_err};
 ghost use Rattle.model_tree.specs.Refusals.Refusal.{first_refusal};
-ghost use Rattle.model.specs.Sessions.Session.{CreateSessionOutcome, create_session, create_unless, limits_for, most_reply, fore_channel, is_too_small, is_full_of_sessions};
+ghost use Rattle.model.specs.Sessions.Session.{CreateSessionOutcome, create_session, create_unless, limits_for, fore_channel, is_too_small, is_full_of_sessions};
 ghost use Rattle.wire.specs.ArgumentViews.{create_session_view};
 ghost use Rattle.wire.specs.SmallViews.{channel_view};
 ghost use Rattle.wire.specs.Short.{IsRefusal};
@@ -17,12 +17,11 @@ ghost use Rattle.session.specs.Views.{table_of, client_of};
 use crate::client::Client;
 use crate::edits::edit_seats;
 use crate::flags::SessionFlags;
-use crate::limits::{Limits, MIN_RECORD_BYTES};
+use crate::limits::Limits;
 use crate::plan::{CreatedSession, Creation, NewSession};
 use crate::session::{Session, session_id};
 use crate::table::Table;
 use bitflags::Flags;
-use model::holding::Holding;
 use model::not_done::NotDone;
 use model_tree::status::Status;
 use std::alloc::AllocError;
@@ -34,10 +33,10 @@ impl Table {
     /// # Errors
     /// In this order: STALE_CLIENTID for an unknown client; CLID_INUSE for another principal's;
     /// SEQ_MISORDERED for a number other than the record's next, unless it is the one before and
-    /// its result is kept; INVAL for a flag that may not be set; TOOSMALL for a fore channel with
-    /// records below `MIN_RECORD_BYTES` or without operations or requests; DELAY if a session that
-    /// would end runs a request, if there are `limits.sessions` besides those, or if no serial is
-    /// left. `Memory` is returned only if a session would be made.
+    /// its result is kept; INVAL for a flag that may not be set; TOOSMALL for a fore channel below
+    /// the record size or without operations or requests; DELAY if a session that would end runs a
+    /// request, if there are `limits.sessions` besides those, or if no serial is left. `Memory` is
+    /// returned only if a session would be made.
     pub fn plan_session(
         &mut self,
         limits: Limits,
@@ -151,7 +150,6 @@ impl Table {
         requires serial { self.now.sessions.serial + 1 < 2 ^ 64 }
         requires known { IsOfRun self.now.clients client.now }
         requires some { arguments.now.fore.max_requests ≢ 0 }
-        requires long { MIN_RECORD_BYTES ≤ arguments.now.fore.max_response_size }
         ensures planned { IfOk result (IsPlanned (create_unless (limits_of limits)
             (create_session_view arguments.now) (client_of client.now) (table_of self.now) None)
             (table_of self.now)) }
@@ -161,10 +159,8 @@ impl Table {
         let lacks = self.lacks_seat(client, arguments);
         let place = self.place_for(client, lacks, arguments);
         let serial = self.sessions.serial + 1;
-        let most_reply = most_reply(limits, self.settings.holding);
-        let fore = fore_channel(limits, most_reply, &arguments.fore, place.is_some());
-        let cached = cached_bytes(limits, &fore);
-        let session = Session::new(self.alloc, client.number, serial, &fore, cached)?;
+        let fore = fore_channel(limits, &arguments.fore, place.is_some());
+        let session = Session::new(self.alloc, client.number, serial, &fore)?;
         let id = session_id(client.number, serial);
         let edits = self.plan_seats(client, lacks, id, fore.max_requests, place)?;
         let ended = self.clients.ending(self.alloc, client)?;
@@ -203,36 +199,25 @@ fn check_arguments(
     if !SessionFlags::from_bits_retain(arguments.flags).may_be_asked() {
         return Err(Status::Inval);
     }
-    if is_too_small(&arguments.fore) {
+    if is_too_small(limits, &arguments.fore) {
         return Err(Status::TooSmall);
     }
     Ok(())
 }
 
-fn is_too_small(fore: &Channel) -> bool
-    ensures { (limits : Limits) → result ≡ is_too_small (limits_of limits) (channel_view fore.now) }
+fn is_too_small(limits: Limits, fore: &Channel) -> bool
+    ensures { result ≡ is_too_small (limits_of limits) (channel_view fore.now) }
 {
-    fore.max_request_size < MIN_RECORD_BYTES
-        || fore.max_response_size < MIN_RECORD_BYTES
+    fore.max_request_size < limits.record_bytes
+        || fore.max_response_size < limits.record_bytes
         || fore.max_operations == 0
         || fore.max_requests == 0
 }
 
-// The most bytes of a reply's record. If seats hold each, there are only short ones.
-fn most_reply(limits: Limits, holding: Holding) -> u32
-    ensures { result ≡ most_reply (limits_of limits) holding }
-{
-    match holding {
-        Holding::All => MIN_RECORD_BYTES,
-        Holding::Nothing | Holding::Changes => limits.record_bytes,
-    }
-}
-
 // The fore channel that is returned, by whether the session has a seat.
-fn fore_channel(limits: Limits, most_reply: u32, asked: &Channel, has_seat: bool) -> Channel
+fn fore_channel(limits: Limits, asked: &Channel, has_seat: bool) -> Channel
     ensures { channel_view result
-        ≡ fore_channel (limits_for (limits_of limits) has_seat) most_reply
-        (channel_view asked.now) }
+        ≡ fore_channel (limits_for (limits_of limits) has_seat) (channel_view asked.now) }
 {
     let slots = if has_seat {
         limits.seat_slots.min(limits.slots)
@@ -241,24 +226,12 @@ fn fore_channel(limits: Limits, most_reply: u32, asked: &Channel, has_seat: bool
     };
     Channel {
         header_pad_size: 0,
-        max_request_size: asked.max_request_size.min(limits.record_bytes),
-        max_response_size: asked.max_response_size.min(most_reply),
-        max_response_size_cached: asked.max_response_size_cached.min(limits.cached_bytes),
+        max_request_size: limits.record_bytes,
+        max_response_size: limits.record_bytes,
+        max_response_size_cached: asked.max_response_size_cached.min(limits.record_bytes),
         max_operations: asked.max_operations.min(limits.operations),
         max_requests: asked.max_requests.min(slots),
         rdma_ird: None,
-    }
-}
-
-// The bytes of a result that is to be cached, if more are refused.
-fn cached_bytes(limits: Limits, fore: &Channel) -> Option<u32>
-    ensures { result ≡ (if limits.minds_cached
-        then Some fore.now.max_response_size_cached else None) }
-{
-    if limits.minds_cached {
-        Some(fore.max_response_size_cached)
-    } else {
-        None
     }
 }
 

@@ -2,8 +2,7 @@
 //! clients in one run.
 //!
 //! `Table` takes EXCHANGE_ID, CREATE_SESSION, DESTROY_SESSION, DESTROY_CLIENTID, RECLAIM_COMPLETE
-//! and SEQUENCE. A slot keeps the reply to its last request, which a retry gets again, unless the
-//! reply is long: then a retry is refused.
+//! and SEQUENCE. A slot keeps the reply to its last request, which a retry gets again.
 #![tactic(auto)]
 
 mod client;
@@ -29,7 +28,7 @@ mod table;
 pub use edits::{edit_seats, is_idle};
 pub use exchange::ExchangedId;
 pub use laws::every_slot;
-pub use limits::{Limits, MAX_KEPT_BYTES, MAX_RECORD_BYTES, MAX_SLOTS, MIN_RECORD_BYTES};
+pub use limits::{Limits, MAX_RECORD_BYTES, MAX_SLOTS};
 pub use plan::{CreatedSession, Creation, NewSession};
 pub use sequence::Begun;
 pub use settings::{MAX_NAME_BYTES, NameFault, STANDARD_NAME, ServerName, Settings};

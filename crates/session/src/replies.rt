@@ -1,6 +1,6 @@
 //! The replies that slots keep, and those that seats hold.
 
-ghost use Rattle.std.specs.Prelude.{◌≡◌, ◌≤◌, ◌<◌, ℕ, List, true, false, length, IfOk, IfSome};
+ghost use Rattle.std.specs.Prelude.{◌≡◌, ◌≤◌, true, false, length, IfOk, IfSome};
 ghost use Rattle.std.specs.List.{find};
 ghost use Rattle.std.specs.Option.{option_map};
 ghost use Rattle.model_tree.specs.Seats.SeatEdits.{edited_all, edits_view};
@@ -11,7 +11,7 @@ ghost use Rattle.session.specs.Seating.{reply_held, has_held_slot};
 ghost use Rattle.session.specs.Views.{table_of, reply_kept};
 
 use crate::edits::{edit_seats, idle_edits};
-use crate::limits::MAX_KEPT_BYTES;
+use crate::limits::MAX_RECORD_BYTES;
 use crate::seating::{find_seat, held_of};
 use crate::table::Table;
 use model_tree::seat_edits::SeatEdits;
@@ -20,10 +20,10 @@ use std::alloc::AllocError;
 
 #[tactic(auto, unfolding(crate::specs::Views::table_of, crate::specs::Views::reply_kept, model::specs::Sessions::Session::finish))]
 impl Table {
-    /// The reply, a whole COMPOUND result, that the slot keeps, if it was short enough. Of a session
-    /// of an earlier run it is the one that the seat holds.
+    /// The reply, a whole COMPOUND result, that the slot keeps. Of a session of an earlier run it is
+    /// the one that the seat holds.
     pub fn kept(&self, id: &[u8; 16], slot: u32) -> Option<&[u8]>
-        ensures short { IfSome result (λ bytes. length bytes.now ≤ MAX_KEPT_BYTES) }
+        ensures short { IfSome result (λ bytes. length bytes.now ≤ MAX_RECORD_BYTES) }
         ensures kept { option_map (λ bytes. bytes.now) result
             ≡ reply_kept id.now slot (table_of self.now) }
     {
@@ -35,7 +35,7 @@ impl Table {
 
     // The reply that the seat holds of the slot.
     fn held(&self, id: &[u8; 16], slot: u32) -> Option<&[u8]>
-        ensures short { IfSome result (λ bytes. length bytes.now ≤ MAX_KEPT_BYTES) }
+        ensures short { IfSome result (λ bytes. length bytes.now ≤ MAX_RECORD_BYTES) }
         ensures held { option_map (λ bytes. bytes.now) result
             ≡ reply_held slot (seat_of id.now (table_of self.now).seats) }
     {
@@ -47,20 +47,10 @@ impl Table {
     /// If no session has this id, or the session has no such slot, nothing changes, and the reply's
     /// own comes back. No seat holds the reply: for that there is `finish_held`.
     pub fn finish(&mut self, id: &[u8; 16], slot: u32, reply: Vec<u8>) -> Option<Vec<u8>>
-        requires { length reply.items ≤ MAX_KEPT_BYTES }
+        requires { length reply.items ≤ MAX_RECORD_BYTES }
         ensures { table_of self.new ≡ finish id.now slot false reply.items (table_of self.old) }
     {
         self.sessions.keep(id, slot, reply)
-    }
-
-    /// The slot keeps no reply, since that to what it ran is longer than `MAX_KEPT_BYTES`: a retry
-    /// is refused. It takes no memory. If no session has this id, or the session has no such slot,
-    /// nothing changes.
-    pub fn finish_unkept(&mut self, id: &[u8; 16], slot: u32)
-        ensures { (reply : List ℕ) → MAX_KEPT_BYTES < length reply
-            → table_of self.new ≡ finish id.now slot false reply (table_of self.old) }
-    {
-        self.sessions.keep_nothing(id, slot);
     }
 
     /// The edits that make the session's seat hold a reply. If the session has no seat, or the seat
@@ -105,7 +95,7 @@ impl Table {
         reply: Vec<u8>,
         edits: SeatEdits,
     ) -> Option<Vec<u8>>
-        requires small { length reply.items ≤ MAX_KEPT_BYTES }
+        requires small { length reply.items ≤ MAX_RECORD_BYTES }
         requires planned { edited_all (edits_view edits) (table_of self.old).seats
             ≡ held_by id.now slot reply.items (table_of self.old).seats
             (find (is_session id.now) (table_of self.old).sessions) }

@@ -6,7 +6,7 @@ ghost use Rattle.model_tree.specs.Seats.Seats.{seat_of};
 ghost use Rattle.model.specs.Sessions.Session.{begin_dead};
 ghost use Rattle.wire.specs.ArgumentViews.{sequence_view};
 ghost use Rattle.wire.specs.Short.{IsRefusal};
-ghost use Rattle.session.specs.Calls.{BeginsSequence, HasReplyRoom};
+ghost use Rattle.session.specs.Calls.{BeginsSequence};
 ghost use Rattle.session.specs.Slots.{refusal_of};
 ghost use Rattle.session.specs.Views.{table_of};
 
@@ -22,16 +22,8 @@ pub enum Begun {
     /// The request is a retry: its reply is the kept one, which `Table::kept` gives.
     Replays,
     /// The slot runs the request, of the session of this client. `Table::finish` ends it, or
-    /// `Table::finish_held` if the session has a seat, or `Table::finish_unkept` if the reply is
-    /// too long to keep.
-    Runs {
-        client: u64,
-        /// Bytes of the reply's record.
-        reply_bytes: u32,
-        /// The most bytes of the result, if it is to be cached and a longer one is refused.
-        cached_bytes: Option<u32>,
-        answer: SequenceAnswer,
-    },
+    /// `Table::finish_held` if the session has a seat.
+    Runs { client: u64, answer: SequenceAnswer },
 }
 
 impl Table {
@@ -40,9 +32,8 @@ impl Table {
     /// # Errors
     /// In this order: BADSESSION; DEADSESSION for a session of an earlier run whose seat holds no
     /// reply to this number by this uid; BADSLOT; of a slot whose request runs, DELAY for its number
-    /// and SEQ_MISORDERED for another; of a slot that has replied, for its number, SEQ_FALSE_RETRY
-    /// by another uid, and RETRY_UNCACHED_REP by the same uid if the reply was not kept;
-    /// SEQ_MISORDERED for a number that is not the next; TOO_MANY_OPS above the session's
+    /// and SEQ_MISORDERED for another; SEQ_FALSE_RETRY for the number of a kept reply by another
+    /// uid; SEQ_MISORDERED for a number that is not the next; TOO_MANY_OPS above the session's
     /// operations. Each leaves the table as it was.
     pub fn begin(
         &mut self,
@@ -53,7 +44,6 @@ impl Table {
         ensures answered { BeginsSequence uid count (sequence_view arguments.now)
             (table_of self.old)
             (table_of self.new) result }
-        ensures room { HasReplyRoom (table_of self.old).settings.holding result }
         ensures refused { IfErr result IsRefusal }
     {
         let Some(session) = self.sessions.find(&arguments.session) else {
@@ -61,12 +51,6 @@ impl Table {
             return Ok(Begun::Replays);
         };
         let client = session.client;
-        let reply_bytes = session.reply_bytes;
-        let cached_bytes = if arguments.cache_this {
-            session.cached_bytes
-        } else {
-            None
-        };
         let highest_slot = session.highest_slot();
         match session.next(uid, count, arguments)? {
             Next::Replays => return Ok(Begun::Replays),
@@ -81,12 +65,7 @@ impl Table {
             target_highest_slot: highest_slot,
             flags: 0,
         };
-        Ok(Begun::Runs {
-            client,
-            reply_bytes,
-            cached_bytes,
-            answer,
-        })
+        Ok(Begun::Runs { client, answer })
     }
 
     // Why SEQUENCE fails on a session that is none of this run's. What its seat holds is returned

@@ -3,9 +3,9 @@
 ghost use Rattle.std.specs.Prelude.{◌≡◌, ◌≤◌};
 ghost use Rattle.std.specs.Vec.{vec_len};
 ghost use Rattle.model.specs.Sessions.Session.{session_id};
-ghost use Rattle.session.specs.declared.limits.TheConstants.{MAX_RECORD_BYTES, MAX_SLOTS, MIN_RECORD_BYTES};
+ghost use Rattle.session.specs.declared.limits.TheConstants.{MAX_SLOTS};
 
-use crate::limits::{MAX_KEPT_BYTES, MAX_RECORD_BYTES, MAX_SLOTS, MIN_RECORD_BYTES};
+use crate::limits::{MAX_RECORD_BYTES, MAX_SLOTS};
 use crate::slot::{Next, Slot, SlotState, free_slots};
 use model_tree::status::Status;
 use std::alloc::{AllocError, Global};
@@ -17,14 +17,8 @@ pub struct Session {
     pub client: u64,
     pub serial: u64,
     pub max_operations: u32,
-    /// Bytes of a reply's record.
-    pub reply_bytes: u32,
-    /// Bytes of a result that a client may want cached, if one that is longer is refused.
-    pub cached_bytes: Option<u32>,
     pub slots: Vec<Slot>,
     ghost few: { vec_len slots ≤ MAX_SLOTS },
-    ghost long: { MIN_RECORD_BYTES ≤ reply_bytes },
-    ghost short: { reply_bytes ≤ MAX_RECORD_BYTES },
 }
 
 /// The id of a session (RFC 8881, section 2.10.3): its client's id and its serial, 8 bytes each.
@@ -42,10 +36,10 @@ impl Session {
     ghost use Rattle.std.specs.Option.{option_map};
     ghost use Rattle.std.specs.Vec.{vec_len};
     ghost use Rattle.model_tree.specs.Seats.Seats.{no_seats};
-    ghost use Rattle.model.specs.Sessions.Session.{is_session, is_of_clients, is_running, no_slot, slot_at, begin_by, begin_new, with_slot, Kept, Unkept};
+    ghost use Rattle.model.specs.Sessions.Session.{is_session, is_of_clients, is_running, no_slot, slot_at, begin_by, begin_new, with_slot, finished_slot};
     ghost use Rattle.wire.specs.ArgumentViews.{sequence_view};
     ghost use Rattle.wire.specs.Short.{IsRefusal};
-    ghost use Rattle.session.specs.Slots.{slot_of, running_slot, with_state, next_of};
+    ghost use Rattle.session.specs.Slots.{slot_of, running_slot, next_of};
     ghost use Rattle.session.specs.Views.{session_of, session_reply};
 
     /// A session of which no slot ran yet.
@@ -54,17 +48,12 @@ impl Session {
         client: u64,
         serial: u64,
         fore: &Channel,
-        cached_bytes: Option<u32>,
     ) -> Result<Session, AllocError>
-        requires few { fore.now.max_requests ≤ MAX_SLOTS }
-        requires long { MIN_RECORD_BYTES ≤ fore.now.max_response_size }
-        requires short { fore.now.max_response_size ≤ MAX_RECORD_BYTES }
+        requires { fore.now.max_requests ≤ MAX_SLOTS }
         ensures { IfOk result (λ session. session_of session ≡ record {
           client = client;
           serial = serial;
           max_operations = fore.now.max_operations;
-          reply_bytes = fore.now.max_response_size;
-          cached_bytes = cached_bytes;
           slots = replicate fore.now.max_requests no_slot;
         }) }
     {
@@ -73,8 +62,6 @@ impl Session {
             client,
             serial,
             max_operations: fore.max_operations,
-            reply_bytes: fore.max_response_size,
-            cached_bytes,
             slots,
         })
     }
@@ -120,16 +107,7 @@ impl Session {
                     Err(Status::SeqFalseRetry)
                 }
             }
-            SlotState::Unkept(_) if is_last => {
-                if uid == slot.uid {
-                    Err(Status::RetryUncachedRep)
-                } else {
-                    Err(Status::SeqFalseRetry)
-                }
-            }
-            SlotState::Free | SlotState::Kept(_) | SlotState::Unkept(_) => {
-                self.next_new(slot, count, arguments)
-            }
+            SlotState::Free | SlotState::Kept(_) => self.next_new(slot, count, arguments),
         }
     }
 
@@ -169,9 +147,8 @@ impl Session {
     /// The slot keeps the reply to what it ran, and gives back the memory of the one before. If
     /// there is no such slot, the session stays, and the reply's own comes back.
     pub fn keep(&mut self, slot: u32, reply: Vec<u8>) -> Option<Vec<u8>>
-        requires small { length reply.items ≤ MAX_KEPT_BYTES }
-        ensures { session_of self.new
-            ≡ with_state slot (Kept reply.items) (session_of self.old) }
+        requires small { length reply.items ≤ MAX_RECORD_BYTES }
+        ensures { session_of self.new ≡ finished_slot slot reply.items (session_of self.old) }
     {
         let place = slot as usize;
         if place < self.slots.len() {
@@ -181,19 +158,9 @@ impl Session {
         }
     }
 
-    /// The slot keeps no reply to what it ran.
-    pub fn keep_nothing(&mut self, slot: u32)
-        ensures { session_of self.new ≡ with_state slot Unkept (session_of self.old) }
-    {
-        let place = slot as usize;
-        if place < self.slots.len() {
-            self.slots[place].keep_nothing();
-        }
-    }
-
     /// The reply that the slot keeps.
     pub fn kept(&self, slot: u32) -> Option<&[u8]>
-        ensures short { IfSome result (λ bytes. length bytes.now ≤ MAX_KEPT_BYTES) }
+        ensures short { IfSome result (λ bytes. length bytes.now ≤ MAX_RECORD_BYTES) }
         ensures kept { option_map (λ bytes. bytes.now) result
             ≡ session_reply slot (session_of self.now) }
     {

@@ -3,7 +3,7 @@
 ghost use Rattle.std.specs.Prelude.{◌<◌, ◌≤◌, ◌^◌, All};
 ghost use Rattle.std.specs.List.{AllPairs};
 
-use crate::limits::MAX_KEPT_BYTES;
+use crate::limits::MAX_RECORD_BYTES;
 use crate::session::Session;
 use std::alloc::{AllocError, Global};
 use wire::SequenceArguments;
@@ -22,8 +22,8 @@ impl Sessions {
     ghost use Rattle.std.specs.Prelude.{◌≡◌, ◌≤◌, ◌<◌, ◌++◌, [], ◌∷◌, length, vec_len, vec_capacity, OnOk};
     ghost use Rattle.std.specs.List.{list_any, find, position};
     ghost use Rattle.std.specs.Option.{option_map, option_copied};
-    ghost use Rattle.model.specs.Sessions.Session.{is_session, is_of_client, is_of_clients, without_where, changed_where, with_slot, Kept, Unkept};
-    ghost use Rattle.session.specs.Slots.{running_slot, with_state};
+    ghost use Rattle.model.specs.Sessions.Session.{is_session, is_of_client, is_of_clients, without_where, changed_where, with_slot, finished_slot};
+    ghost use Rattle.session.specs.Slots.{running_slot};
     ghost use Rattle.session.specs.Views.{session_of, sessions_of, book_of, book_with};
 
     /// No session.
@@ -85,25 +85,14 @@ impl Sessions {
     /// The slot of the session keeps the reply to what it ran, and gives back the memory of the one
     /// before.
     pub fn keep(&mut self, id: &[u8; 16], slot: u32, reply: Vec<u8>) -> Option<Vec<u8>>
-        requires small { length reply.items ≤ MAX_KEPT_BYTES }
+        requires small { length reply.items ≤ MAX_RECORD_BYTES }
         ensures { book_of self.new ≡ book_with self.old
-            (changed_where (is_session id.now) (with_state slot (Kept reply.items))
+            (changed_where (is_session id.now) (finished_slot slot reply.items)
             (sessions_of self.old)) }
     {
         match self.position(id) {
             Some(at) => self.list[at].keep(slot, reply),
             None => Some(reply),
-        }
-    }
-
-    /// The slot of the session keeps no reply to what it ran.
-    pub fn keep_nothing(&mut self, id: &[u8; 16], slot: u32)
-        ensures { book_of self.new ≡ book_with self.old
-            (changed_where (is_session id.now) (with_state slot Unkept)
-            (sessions_of self.old)) }
-    {
-        if let Some(at) = self.position(id) {
-            self.list[at].keep_nothing(slot);
         }
     }
 

@@ -5,20 +5,17 @@ ghost use Rattle.model.specs.Sessions.Session.{no_slot};
 ghost use Rattle.session.specs.Slots.{slot_of};
 
 use crate::held::KeptReply;
-use crate::limits::MAX_KEPT_BYTES;
+use crate::limits::MAX_RECORD_BYTES;
 use std::alloc::{AllocError, Global};
 use std::mem;
 
-/// What a slot holds: nothing yet, a request that runs, or the COMPOUND result of the last one, if
-/// that was not too long.
+/// What a slot holds: nothing yet, a request that runs, or the COMPOUND result of the last one.
 #[derive(Drop)]
 pub enum SlotState {
     Free,
     /// The memory of the reply before stays, and is given back when this one's is kept.
     Running(Option<Vec<u8>>),
     Kept(KeptReply),
-    /// Nothing but the memory of an earlier reply, for the next one.
-    Unkept(Option<Vec<u8>>),
 }
 
 /// A slot. `last` is the number of the last request that ran, 0 at first, and `uid` who sent it.
@@ -41,8 +38,8 @@ pub enum Next {
 impl Slot {
     ghost use Rattle.std.specs.Prelude.{◌≡◌, ◌≤◌, length, IfSome};
     ghost use Rattle.std.specs.Option.{option_map};
-    ghost use Rattle.model.specs.Sessions.Session.{no_slot, is_running_state, Kept, Unkept};
-    ghost use Rattle.session.specs.Slots.{slot_of, running_slot, slot_in, kept_reply};
+    ghost use Rattle.model.specs.Sessions.Session.{no_slot, is_running_state};
+    ghost use Rattle.session.specs.Slots.{slot_of, running_slot, kept_slot, kept_reply};
 
     /// A slot on which nothing ran.
     pub fn new() -> Slot
@@ -64,13 +61,13 @@ impl Slot {
 
     /// The reply that it keeps.
     pub fn kept(&self) -> Option<&[u8]>
-        ensures short { IfSome result (λ bytes. length bytes.now ≤ MAX_KEPT_BYTES) }
+        ensures short { IfSome result (λ bytes. length bytes.now ≤ MAX_RECORD_BYTES) }
         ensures kept { option_map (λ bytes. bytes.now) result
             ≡ kept_reply (slot_of self.now).state }
     {
         match &self.state {
             SlotState::Kept(reply) => Some(reply.bytes.as_slice()),
-            SlotState::Free | SlotState::Running(_) | SlotState::Unkept(_) => None,
+            SlotState::Free | SlotState::Running(_) => None,
         }
     }
 
@@ -86,19 +83,11 @@ impl Slot {
 
     /// Keeps the reply to its last request, and gives back the memory of the one before.
     pub fn keep(&mut self, reply: Vec<u8>) -> Option<Vec<u8>>
-        requires small { length reply.items ≤ MAX_KEPT_BYTES }
-        ensures { slot_of self.new ≡ slot_in (Kept reply.items) (slot_of self.old) }
+        requires small { length reply.items ≤ MAX_RECORD_BYTES }
+        ensures { slot_of self.new ≡ kept_slot reply.items (slot_of self.old) }
     {
         let kept = SlotState::Kept(KeptReply { bytes: reply });
         memory_of(mem::replace(&mut self.state, kept))
-    }
-
-    /// Keeps no reply to its last request.
-    pub fn keep_nothing(&mut self)
-        ensures { slot_of self.new ≡ slot_in Unkept (slot_of self.old) }
-    {
-        let memory = memory_of(mem::replace(&mut self.state, SlotState::Free));
-        self.state = SlotState::Unkept(memory);
     }
 }
 
@@ -106,7 +95,7 @@ impl Slot {
 fn memory_of(state: SlotState) -> Option<Vec<u8>> {
     match state {
         SlotState::Free => None,
-        SlotState::Running(memory) | SlotState::Unkept(memory) => memory,
+        SlotState::Running(memory) => memory,
         SlotState::Kept(reply) => Some(reply.bytes),
     }
 }

@@ -1,13 +1,10 @@
 //! What a server knows of its clients in one run, apart from the seats of its volume.
 
-ghost use Rattle.std.specs.Prelude.{◌≡◌, ◌≤◌, All};
+ghost use Rattle.std.specs.Prelude.{◌≤◌};
 ghost use Rattle.model_tree.specs.Seats.SeatViews.{seats_view};
-ghost use Rattle.model.specs.declared.holding.Holding.TheVariants as holding;
-ghost use Rattle.session.specs.declared.limits.TheConstants.{MIN_RECORD_BYTES};
 ghost use Rattle.session.specs.Given.{AreGiven, AreGiven-prop};
 
 use crate::clients::Clients;
-use crate::limits::MIN_RECORD_BYTES;
 use crate::sessions::Sessions;
 use crate::settings::Settings;
 use model_tree::seats::Seats;
@@ -23,8 +20,6 @@ pub struct Table {
     pub(crate) settings: Settings,
     ghost counted: { 1 ≤ clients.run },
     ghost given: { AreGiven clients.run sessions.serial (seats_view seats) } by { AreGiven-prop clients.run sessions.serial (seats_view seats) },
-    ghost short: { settings.holding ≡ holding.All
-        → All (λ session. session.reply_bytes ≤ MIN_RECORD_BYTES) sessions.list.items },
 }
 
 impl Table {

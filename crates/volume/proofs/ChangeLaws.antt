@@ -20,8 +20,7 @@ use Rattle.tree_edits.specs.Outlines.{without_data, tree_without_data}
 use Rattle.tree_edits.proofs.BlankLaws.{each_outline}
 use Rattle.tree_edits.proofs.PlaceLaws.{there_at}
 use Rattle.journal.specs.Layout as journal
-use Rattle.journal.specs.Layout.{targets, max_updates}
-use Rattle.journal.specs.declared.layout.LogArea.{LogArea}
+use Rattle.journal.specs.Layout.{targets}
 use Rattle.journal.specs.Log.{Log, contents}
 use Rattle.journal.proofs.Images.{length-targets}
 use Rattle.layout.specs.CachedNodes.{CachedNode, tree_of, cached_nodes_in}
@@ -32,7 +31,7 @@ use Rattle.layout.specs.declared.versions.Marking.TheVariants.{InSectors, AsName
 use Rattle.layout.specs.declared.versions.VersionNumber.{VersionNumber}
 use Rattle.layout.specs.declared.versions.VersionNumber.TheVariants as numbers
 use Rattle.layout.specs.Stands.{HasRegion, IsLaid, Kept, StandsNow, Version, seats_at}
-use Rattle.layout.specs.Versions.{IsNumber, IsServed, data_end_by, form_by, limits_by, log_by, marking_by, size_by, version_by}
+use Rattle.layout.specs.Versions.{IsServed, data_end_by, form_by, limits_by, log_by, marking_by, size_by, version_by}
 use Rattle.layout.proofs.CachedNodeLaws.{cached_nodes-back, only_cached_nodes}
 use Rattle.layout.proofs.FirstLaws.{sized_parts}
 use Rattle.layout.proofs.SeatLaws.{version_region}
@@ -43,7 +42,7 @@ use Rattle.model_tree.specs.Seats.Seats.{Seats, no_seats}
 use Rattle.model_tree.specs.Trees.Stamp.{stamp}
 use Rattle.model_tree.specs.Trees.Tree.{Tree}
 use Rattle.model_tree.specs.Trees.WellFormed.{IsWellFormed, IsBefore}
-use Rattle.volume.specs.Edits.{IsChange, edited_by, most_edit_updates, put_by}
+use Rattle.volume.specs.Edits.{IsChange, edited_by, put_by}
 use Rattle.volume.specs.Parents.{PutsParent}
 use Rattle.volume.specs.ParentIndex.{AreParents}
 use Rattle.volume.proofs.ParentLaws.{parents_after}
@@ -135,15 +134,10 @@ served_form numbers.Two place served = refl
 served_form (numbers.Three s) place served = refl
 
 -- a bitmap has at most two sectors
-edits_enough : (version : VersionNumber) (size : ℕ) → IsNumber version → most_edit_updates version + bitmap_sectors (marking_by version) ≤ max_updates (log_by version size)
-edits_enough numbers.One size number = let few : 48 ≤ 48 = omega arith in few
-edits_enough numbers.Two size number = let few : 48 ≤ 48 = omega arith in few
-edits_enough (numbers.Three s) size number = let few : 272 ≤ s.geometry.log = omega (arith, number.fits.limits.min_log) in few
-
--- the log has room for a change and the sectors of the bitmap
-pub few_enough : (version : VersionNumber) (area : LogArea) (size updates : ℕ) → IsNumber version → area ≡ log_by version size
-    → updates ≤ most_edit_updates version + bitmap_sectors (marking_by version) → updates ≤ max_updates area
-few_enough version area size updates number placed few = omega (arith, few, edits_enough version size number, ap max_updates placed)
+pub few_bitmap : (version : VersionNumber) → bitmap_sectors (marking_by version) ≤ 2
+few_bitmap numbers.One = omega arith
+few_bitmap numbers.Two = omega arith
+few_bitmap (numbers.Three s) = omega arith
 
 module _ (word : Type 0) (k : word) (version : VersionNumber) (is_served : IsServed version) (nodes run : ℕ) (log : Log) (cached_nodes : List (Option CachedNode)) (places : List Bool) (edits : List Edit) (outcome : PreparedTransaction)
     (count : length cached_nodes ≡ nodes) (whole : data_end_by version log.size ≡ end_by cached_nodes places) (comes : ComesTo word (marking_by version) (contents log) log.size cached_nodes places edits outcome)

@@ -6,8 +6,6 @@ use Rattle.tree_edits.specs.declared.edit.Edit.{Edit}
 use Rattle.tree_edits.specs.declared.edit.Edit.TheVariants as edit
 use Rattle.tree_edits.specs.Doing.{made_by, updates_of_all}
 use Rattle.tree_edits.specs.Edits.{AreDoable, edits_of}
-use Rattle.layout.specs.declared.versions.VersionNumber.{VersionNumber}
-use Rattle.layout.specs.declared.versions.VersionNumber.TheVariants as numbers
 use Rattle.model_tree.specs.Trees.Charge.{fits}
 use Rattle.model_tree.specs.Trees.Edit.{edited}
 use Rattle.model_tree.specs.Trees.Keyed.{at, is_key}
@@ -72,17 +70,11 @@ HasPut tree (edit.SetSize file size ∷ edits) = HasPut tree edits
 abbrev pub IsAboveAll : VolumeState → (number : ℕ) → Type 0
 IsAboveAll held number = (other : ℕ) → IsTrue (is_key other held.tree) → other < number
 
--- how many updates a change makes at most, those of the bitmap not counted
-abbrev pub most_edit_updates : VersionNumber → ℕ
-most_edit_updates numbers.One = 46
-most_edit_updates numbers.Two = 46
-most_edit_updates (numbers.Three s) = 272
-
 -- What a change requires of its edits: there are few, each can be done in the tree that those
 -- before it give, and the tree after all of them is well formed if it fits
 pub record IsChange (held : VolumeState) (edits : List Edit) : Type 0 where
-  -- any eight are few, of which one puts as many bytes as a WRITE takes, or sets a size
-  pub few : updates_of_all edits ≤ most_edit_updates held.version
+  -- any eight are few, of which one puts 8,192 bytes or sets a size
+  pub few : updates_of_all edits ≤ 46
   pub doable : AreDoable held.tree edits
   -- at most one name is put; a node that is made has it, and a number above all others
   pub named : length (named_by edits) ≤ 1

@@ -1,6 +1,5 @@
 -- What edits of seats write, sector by sector.
-use Rattle.std.specs.Prelude.{◌+◌, ◌*◌, ◌++◌, ℕ, suc, List, [], ◌∷◌, Option, Some, None}
-use Rattle.std.specs.Prelude.{map, nat_lt, take, if◌then◌else◌}
+use Rattle.std.specs.Prelude.{◌+◌, ◌*◌, ◌++◌, ℕ, suc, List, [], ◌∷◌, Option, Some, None, map, nat_lt, take, if◌then◌else◌}
 use Rattle.std.specs.List.{range_with_len}
 use Rattle.disk.specs.declared.update.Update.{Update}
 use Rattle.layout.specs.Versions.{frees_whole, seats_from, sizes_by}
@@ -58,5 +57,4 @@ updates_from version place (edit ∷ edits) =
 
 -- and those of all places: an edit past the last place writes nothing
 abbrev pub updates_by : VersionNumber → List SeatEdit → List Update
-updates_by version edits =
-    let sizes = sizes_by version in updates_from version 0 (take sizes.places edits)
+updates_by version edits = let sizes = sizes_by version in updates_from version 0 (take sizes.places edits)

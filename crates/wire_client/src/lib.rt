@@ -19,6 +19,6 @@ mod small;
 mod status;
 
 pub use argument::write_argument;
-pub use channel::{CHANNEL, MAX_RECORD_BYTES};
+pub use channel::CHANNEL;
 pub use laws::encoded_arguments_fit;
 pub use outcome::read_outcome;

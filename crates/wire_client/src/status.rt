@@ -7,7 +7,7 @@ ghost use Rattle.model.specs.Wire.WireAnswers.{refusal_of};
 use model_tree::status::Status;
 
 // Every status but OK, by rising number.
-const REFUSALS: [Status; 46] = [
+const REFUSALS: [Status; 44] = [
     Status::NoEnt,
     Status::Access,
     Status::Exist,
@@ -46,8 +46,6 @@ const REFUSALS: [Status; 46] = [
     Status::SeqMisordered,
     Status::SequencePos,
     Status::RepTooBig,
-    Status::RepTooBigToCache,
-    Status::RetryUncachedRep,
     Status::TooManyOps,
     Status::OpNotInSession,
     Status::ClientIdBusy,

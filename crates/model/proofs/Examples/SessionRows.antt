@@ -1,6 +1,6 @@
 -- Worked rows over the definitions of client records and sessions, in run 1 with the limits that
 -- the server serves.
-use Rattle.std.proofs.Common.{◌≡◌, ℕ, refl, List, [], ◌∷◌, replicate, Ok, Err, None, Some, Bool, true, false, codes}
+use Rattle.std.proofs.Common.{◌≡◌, ℕ, refl, List, [], ◌∷◌, Ok, Err, None, Some, Bool, true, false, codes}
 use Rattle.model_tree.specs.declared.status.Status.TheVariants as status
 use Rattle.model.specs.Operations.Operation.{Channel, ExchangeIdArguments, CreateSessionArguments, SequenceArguments}
 use Rattle.model.specs.Operations.Answer.{CreateSessionAnswer}
@@ -9,7 +9,7 @@ use Rattle.model.specs.declared.holding.Holding.TheVariants as holdings
 use Rattle.model.specs.Sessions.Session.{SessionLimits, Table, plain_settings, loaded_table, empty_table, client_number, exchange_id, exchange_answer, create_session, destroy_session, begin, started, finish, session_id, Refuses, Replays, Runs}
 
 abbrev limits : SessionLimits
-limits = record { clients = 64; sessions = 32; slots = 8; seat_slots = 2; operations = 16; least_bytes = 16384; record_bytes = 16384; cached_bytes = 16384; minds_cached = false }
+limits = record { clients = 64; sessions = 32; slots = 8; seat_slots = 2; operations = 16; record_bytes = 16384 }
 
 abbrev no_opens : ℕ → Bool
 no_opens number = false
@@ -202,59 +202,3 @@ destroy_twice = refl
 create_outlives : (create_session limits 7 (create 4294967297 1) (destroy_session id done).1).answer ≡ Ok answered
 unfolding exchange_id create_session session_id started finish destroy_session
 create_outlives = refl
-
--- Sessions of records up to 70,000 bytes: the answer is the least of what is asked for and the limit
-abbrev large : SessionLimits
-large = record limits { record_bytes = 70000; minds_cached = true }
-
-abbrev asked : (request response cached : ℕ) → Channel
-asked request response cached =
-    record channel { max_request_size = request; max_response_size = response; max_response_size_cached = cached }
-
-abbrev create_with : Channel → CreateSessionArguments
-create_with fore = record (create 4294967297 1) { fore = fore }
-
-abbrev answered_with : Channel → CreateSessionAnswer
-answered_with fore = record answered { fore = fore }
-
-gives_the_limit : (create_session large 7 (create_with (asked 1000000 80000 20000)) greeted).answer ≡ Ok (answered_with (asked 70000 70000 16384))
-unfolding exchange_id create_session session_id
-gives_the_limit = refl
-
-gives_what_is_asked : (create_session large 7 (create_with (asked 16384 20000 1000)) greeted).answer ≡ Ok (answered_with (asked 16384 20000 1000))
-unfolding exchange_id create_session session_id
-gives_what_is_asked = refl
-
-too_small : (create_session large 7 (create_with (asked 16384 16383 1000)) greeted).answer ≡ Err status.TooSmall
-unfolding exchange_id create_session
-too_small = refl
-
--- .. and the shortest replies, if seats hold each of them
-gives_short_replies : (create_session large 7 (create_with (asked 70000 70000 1000)) (record greeted { settings = record plain_settings { holding = holdings.All } })).answer
-    ≡ Ok (answered_with (asked 70000 16384 1000))
-unfolding exchange_id create_session session_id
-gives_short_replies = refl
-
--- A result of 16,384 bytes is kept, and a longer one only if a seat holds it
-abbrev done_with : (holds : Bool) → (bytes : ℕ) → Table
-done_with holds bytes = finish id 0 holds (replicate bytes 0) running
-
-keeps_a_short_one : begin 7 4 (request 0 1) (done_with false 16384) ≡ Replays (replicate 16384 0)
-unfolding exchange_id create_session session_id begin started finish
-keeps_a_short_one = refl
-
-keeps_no_long_one : begin 7 4 (request 0 1) (done_with false 16385) ≡ Refuses status.RetryUncachedRep
-unfolding exchange_id create_session session_id begin started finish
-keeps_no_long_one = refl
-
-long_one_of_others : begin 8 4 (request 0 1) (done_with false 16385) ≡ Refuses status.SeqFalseRetry
-unfolding exchange_id create_session session_id begin started finish
-long_one_of_others = refl
-
-next_to_a_long_one : begin 8 4 (request 0 2) (done_with false 16385) ≡ Runs
-unfolding exchange_id create_session session_id begin started finish
-next_to_a_long_one = refl
-
-keeps_a_held_one : begin 7 4 (request 0 1) (done_with true 16385) ≡ Replays (replicate 16385 0)
-unfolding exchange_id create_session session_id begin started finish
-keeps_a_held_one = refl

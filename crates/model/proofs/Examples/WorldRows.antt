@@ -1,6 +1,6 @@
 -- Worked rows over the world, bytes in and bytes out, on a fresh volume of 256 sectors and 16 nodes
 -- in its first run; the caller has uid 7 and gid 7, and each turn is at the moment 0.
-use Rattle.std.proofs.Common.{◌≡◌, ℕ, zero, suc, ◌+◌, ◌*◌, refl, List, [], ◌∷◌, ◌++◌, length, replicate, fold, false, true, Option, Some, None}
+use Rattle.std.proofs.Common.{◌≡◌, ℕ, zero, suc, ◌+◌, ◌*◌, refl, List, [], ◌∷◌, ◌++◌, length, replicate, fold, true, false, Option, Some, None}
 use Rattle.std.specs.Int.{w32}
 use Rattle.xdr.specs.Grammar.{number, number_at}
 use Rattle.xdr.specs.Forms.{padded, padded_at, counted, counted_at, each_at, elements, elements_at}
@@ -29,7 +29,7 @@ use Rattle.model.specs.Server.World.{World, ServerLimits, mounted_world, one, ar
 abbrev limits : ServerLimits
 limits = record {
   volume = limits_of 256 16;
-  sessions = record { clients = 64; sessions = 32; slots = 8; seat_slots = 2; operations = 16; least_bytes = 16384; record_bytes = 16384; cached_bytes = 16384; minds_cached = false };
+  sessions = record { clients = 64; sessions = 32; slots = 8; seat_slots = 2; operations = 16; record_bytes = 16384 };
   records = record { bytes = 16384; fragments = 64 };
   connections = 16;
   settings = record plain_settings { holding = holdings.All };
@@ -341,72 +341,6 @@ no_room = refl
 no_room_made : length (names_at (behind 4 small 0 (make_call 7)).tree root) ≡ 0
 unfolding small behind
 no_room_made = refl
-
--- A server that refuses a result of more than 100 bytes which its client wants cached. CREATE's makes
--- this one 104: REP_TOO_BIG_TO_CACHE, and nothing is made
-minding_greeted : World
-unfolding greeted
-minding_greeted = record greeted { limits = record limits { sessions = record limits.sessions { cached_bytes = 100; minds_cached = true } } }
-
-minding : World
-unfolding minding_greeted behind
-minding = behind 1 minding_greeted 0 create_session_call
-
-too_big_to_cache : answer 4 minding 0 (make_call 7)
-    ≡ Some (compound_reply 9 10067 3 (53 ∷ 0 ∷ 1 ∷ 1 ∷ 0 ∷ 1 ∷ 1 ∷ 0 ∷ 7 ∷ 7 ∷ 0 ∷ 24 ∷ 0 ∷ 6 ∷ 10067 ∷ []))
-unfolding minding answer
-too_big_to_cache = refl
-
-nothing_cached : length (names_at (behind 4 minding 0 (make_call 7)).tree root) ≡ 0
-unfolding minding behind
-nothing_cached = refl
-
--- .. and its client is told how many it may want cached, and gets a longer one that it does not
--- want cached
-tells_most_cached : answer 1 minding_greeted 0 create_session_call
-    ≡ Some (compound_reply 3 0 1 (43 ∷ 0 ∷ 1 ∷ 1 ∷ 0 ∷ 1 ∷ 1 ∷ 0 ∷ 0 ∷ 16384 ∷ 16384 ∷ 100 ∷ 16 ∷ 8 ∷ 0 ∷ channel 8))
-unfolding minding_greeted answer
-tells_most_cached = refl
-
-not_to_cache : answer 4 minding 0 (compound 9 7 4 (53 ∷ 1 ∷ 1 ∷ 0 ∷ 1 ∷ 1 ∷ 0 ∷ 0 ∷ 0 ∷ 24 ∷ (make_directory 0x61000000 ++ (10 ∷ []))))
-    ≡ Some (make_reply 7)
-unfolding minding answer
-not_to_cache = refl
-
--- A session of longer replies than 140 bytes: those of a request that makes "a" have 140, and GETFH
--- has no room
-roomy : World
-unfolding greeted behind
-roomy =
-    behind 1 (record greeted {
-      limits = record limits { sessions = record limits.sessions { least_bytes = 156 }; reply_bytes = 140 };
-      table = record greeted.table { settings = plain_settings };
-    }) 0 create_session_call
-
-short_behind_change : answer 4 roomy 0 (make_call 7) ≡ Some (compound_reply 9 10066 4
-    (53 ∷ 0 ∷ 1 ∷ 1 ∷ 0 ∷ 1 ∷ 1 ∷ 0 ∷ 7 ∷ 7 ∷ 0 ∷ 24 ∷ 0 ∷ 6 ∷ 0 ∷ 1 ∷ 0 ∷ 1 ∷ 1 ∷ 1 ∷ 2 ∷ 0 ∷ 2 ∷ 10 ∷ 10066 ∷ []))
-unfolding roomy answer
-short_behind_change = refl
-
--- .. Three of GETFH have room if nothing is made, and then CREATE has none
-abbrev get_thrice : List ℕ
-get_thrice = 24 ∷ 10 ∷ 10 ∷ 10 ∷ []
-
-abbrev thrice_got : List ℕ
-thrice_got = 53 ∷ 0 ∷ 1 ∷ 1 ∷ 0 ∷ 1 ∷ 1 ∷ 0 ∷ 7 ∷ 7 ∷ 0 ∷ 24 ∷ 0 ∷ 10 ∷ 0 ∷ 8 ∷ 0 ∷ 1 ∷ 10 ∷ 0 ∷ 8 ∷ 0 ∷ 1 ∷ 10 ∷ 0 ∷ 8 ∷ 0 ∷ 1 ∷ []
-
-long_without_change : answer 5 roomy 0 (compound 9 7 5 (begin_on 0 1 ++ get_thrice)) ≡ Some (compound_reply 9 0 5 thrice_got)
-unfolding roomy answer
-long_without_change = refl
-
-no_change_behind_long : answer 6 roomy 0 (compound 9 7 6 (begin_on 0 1 ++ (get_thrice ++ make_directory 0x61000000)))
-    ≡ Some (compound_reply 9 10066 6 (thrice_got ++ (6 ∷ 10066 ∷ [])))
-unfolding roomy answer
-no_change_behind_long = refl
-
-none_behind_long : length (names_at (behind 6 roomy 0 (compound 9 7 6 (begin_on 0 1 ++ (get_thrice ++ make_directory 0x61000000)))).tree root) ≡ 0
-unfolding roomy behind
-none_behind_long = refl
 
 -- one turn runs only SEQUENCE, and two run nothing that makes "a"
 one_operation : length (names_at half_made.tree root) ≡ 0

@@ -14,7 +14,7 @@ use Rattle.model.specs.Sessions.Session as sessions
 use Rattle.model.specs.Sessions.Session.{Table, Session}
 use Rattle.model.specs.Operations.Step.{State, does, permitted}
 use Rattle.model_tree.specs.Trees.Tree.{Tree}
-use Rattle.model.specs.Server.World.{World, ServerLimits, InProgress, Connection, Quiet, Waiting, Busy, Replied, Closed, HasRun, Gives, Replays, exchanged, created_by, tabled, started_in, begun, reclaimed, state_of, refuses, in_room, has_room, too_big, run as run_of, Turned, Entry, executed_entry, behind, ends, goes_on, with_result, is_last, has_run, operates, Next, Refuses, Reads, next_operation, requested, in_progress, called, turned, one, reply_at, closes, is_to_hold, further, noting}
+use Rattle.model.specs.Server.World.{World, ServerLimits, InProgress, Connection, Quiet, Waiting, Busy, Replied, Closed, HasRun, Gives, Replays, exchanged, created_by, tabled, started_in, begun, reclaimed, state_of, refuses, in_room, has_room, run as run_of, Turned, Entry, executed_entry, behind, ends, goes_on, with_result, is_last, has_run, operates, Next, Refuses, Reads, next_operation, requested, in_progress, called, turned, one, reply_at, closes, is_to_hold, further, noting}
 use Rattle.model.proofs.Server.Headline.{slice_get-last}
 use Rattle.model_tree.proofs.Rights.LimitLaws.{modes_keep_limits, inheritance_keeps_limits}
 use Rattle.model.proofs.Server.Headline.{taken_done, done_behind}
@@ -86,9 +86,9 @@ run_permitted world request now operation = by_outcome world.limits.volume (stat
 in_room_permitted : (world : World) (request : InProgress) (operation : Argument) (number : ℕ) (ran : HasRun) → RanPermitted world request operation ran
     → RanPermitted world request operation (in_room world request number ran)
 in_room_permitted world request operation number (Gives (Outcome.Refused of reason) after left) permits = permits
-in_room_permitted world request operation number (Gives (Outcome.Done answer) after left) permits = either (has_room world.limits.reply_bytes request number (Outcome.Done answer))
+in_room_permitted world request operation number (Gives (Outcome.Done answer) after left) permits = either (has_room world request (Outcome.Done answer))
   where
-    either : (b : Bool) → RanPermitted world request operation (cond b (Gives (Outcome.Done answer) after left) (refuses world request number (too_big world.limits.reply_bytes request number (Outcome.Done answer))))
+    either : (b : Bool) → RanPermitted world request operation (cond b (Gives (Outcome.Done answer) after left) (refuses world request number status.RepTooBig))
     either true = permits
     either false = λ done. absurd (cc)
 in_room_permitted world request operation number (Replays result session slot) permits = tt

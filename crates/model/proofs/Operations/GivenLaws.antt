@@ -18,7 +18,7 @@ use Rattle.model.specs.Operations.Step.{State, does, alters, stamp_of}
 use Rattle.model.specs.Operations.StepLaws.{IsSound}
 use Rattle.model_tree.specs.Seats.Seats.{Seats}
 use Rattle.model_tree.specs.Trees.Tree.{Tree}
-use Rattle.model.specs.Server.World.{World, ServerLimits, InProgress, Connection, Quiet, Waiting, Busy, Replied, Closed, HasRun, Gives, Replays, exchanged, created_by, tabled, started_in, begun, reclaimed, stepped, state_of, refuses, in_room, has_room, too_big, run as run_of, Turned, Entry, executed_entry, behind, ends, goes_on, with_result, is_last, has_run, operates, Next, Refuses, Reads, next_operation, requested, in_progress, called, turned, one, reply_at, closes, is_to_hold, further, noting}
+use Rattle.model.specs.Server.World.{World, ServerLimits, InProgress, Connection, Quiet, Waiting, Busy, Replied, Closed, HasRun, Gives, Replays, exchanged, created_by, tabled, started_in, begun, reclaimed, stepped, state_of, refuses, in_room, has_room, run as run_of, Turned, Entry, executed_entry, behind, ends, goes_on, with_result, is_last, has_run, operates, Next, Refuses, Reads, next_operation, requested, in_progress, called, turned, one, reply_at, closes, is_to_hold, further, noting}
 use Rattle.model.proofs.Server.Headline.{slice_get-last, taken_done, done_behind}
 use Rattle.model_tree.proofs.Rights.LimitLaws.{modes_keep_limits, inheritance_keeps_limits}
 use Rattle.model.proofs.Server.RunLaws.{does_lawful}
@@ -94,9 +94,9 @@ module _ (limits : ServerLimits) (run : ℕ) (room : limits.volume.aces_set + 5 
 
   in_room_stamped : (world : World) (request : InProgress) (number : ℕ) (ran : HasRun) → RanStamped world request ran → RanStamped world request (in_room world request number ran)
   in_room_stamped world request number (Gives (Outcome.Refused of reason) after left) stamps = stamps
-  in_room_stamped world request number (Gives (Outcome.Done answer) after left) stamps = either (has_room world.limits.reply_bytes request number (Outcome.Done answer))
+  in_room_stamped world request number (Gives (Outcome.Done answer) after left) stamps = either (has_room world request (Outcome.Done answer))
     where
-      either : (b : Bool) → RanStamped world request (cond b (Gives (Outcome.Done answer) after left) (refuses world request number (too_big world.limits.reply_bytes request number (Outcome.Done answer))))
+      either : (b : Bool) → RanStamped world request (cond b (Gives (Outcome.Done answer) after left) (refuses world request number status.RepTooBig))
       either true = stamps
       either false = λ differs. absurd (differs refl)
   in_room_stamped world request number (Replays result session slot) stamps = tt

@@ -1,5 +1,5 @@
 -- A page of READDIR has the entries that fit.
-use Rattle.std.proofs.Common.{ℕ, Bool, true, false, List, [], ◌∷◌, ◌++◌, ◌≡◌, ◌+◌, ◌-◌, ◌<◌, ◌≤◌, ◌==◌, ◌↔◌, cond, nat_le, length, refl, ap, arith, length-append, leb-true, eqb-true, eq-eqb}
+use Rattle.std.proofs.Common.{ℕ, Bool, true, false, List, [], ◌∷◌, ◌++◌, ◌≡◌, ◌+◌, ◌-◌, ◌<◌, ◌≤◌, ◌==◌, ◌↔◌, cond, nat_le, min, length, refl, ap, arith, length-append, leb-true, eqb-true, eq-eqb}
 use Rattle.std.proofs.lemmas.Bool.{leb-false}
 use Rattle.xdr.specs.Forms.{links, boolean}
 use Rattle.xdr.specs.Grammar.{number}
@@ -7,7 +7,7 @@ use Rattle.std.specs.Int.{w32, w64}
 use Rattle.xdr.proofs.Numbers.{length-number_32, length-number_64}
 use Rattle.model.specs.Operations.Answer.{Entry}
 use Rattle.model.specs.Operations.PageLaws.{page_size, EveryPage}
-use Rattle.model.specs.Operations.ReadDir.{entry_size, fitting, all_entries, page_bytes, page_room, page}
+use Rattle.model.specs.Operations.ReadDir.{entry_size, fitting, all_entries, page_room, page}
 use Rattle.model.specs.Wire.WireAnswers as answers
 
 -- how many bytes entries have
@@ -103,7 +103,7 @@ every_page limits state arguments =
     let room = page_room limits arguments in
     let shown = fitting room all in
     let of = fitted room all in
-    let most = page_bytes limits arguments in
+    let most = min arguments.max_count limits.transfer_bytes in
     record {
       rest = of.rest;
       prefix = of.prefix;

@@ -1,6 +1,6 @@
 -- What a held reply names is kept, by induction over a run: each pair that may be left has its own
 -- level.
-use Rattle.std.proofs.Common.{◌≡◌, ℕ, ◌≤◌, inl, inr, Bool, true, false, List, ◌++◌, length, option_to_list, Option, None, Some, refl, sym, ap, ◌∙◌, subst, arith, append-nil}
+use Rattle.std.proofs.Common.{◌≡◌, ℕ, zero, suc, ◌<◌, ◌≤◌, ◌⊎◌, inl, inr, Bool, true, false, List, [], ◌∷◌, ◌++◌, length, get_or, option_to_list, Option, None, Some, refl, sym, ap, ◌∙◌, subst, arith, append-nil}
 use Rattle.std.specs.List.{IsAmong}
 use Rattle.std.proofs.lemmas.Bool.{false≢true}
 use Rattle.model_tree.specs.Seats.Seats.{Seats, held_at}
@@ -10,7 +10,7 @@ use Rattle.model.specs.Server.Runs.{Event, Arrives, Turns, HangsUp, Connects, Ta
 use Rattle.model.proofs.Server.Headline.{AllLawful, StandsFor, StandsFor-append, of_all, AreBelow, AreBelow-more, AreReplied, AreReplied-more, AreReplied-place, Holds, Joined, tree_behind, more_done, done_behind, replied, goes, goes_by, settled_on, fails_at, settled_failing, stays_down, flushed, holds, holds_at_start, only_one, still_good, all_permitted, Ended, chain_ended, lawful_ended}
 use Rattle.model.proofs.Server.RunLaws.{event_fits}
 use Rattle.model.proofs.Sessions.SeatLaws.{among_left, either_list}
-use Rattle.model.proofs.Sessions.SeatStored.{IsKnown, run_is_known}
+use Rattle.model.proofs.Sessions.SeatStored.{IsListed, IsKnown, run_is_known}
 
 -- this reply was stored with such names
 record NamedBelow (level : ℕ) (replies : List (Stored × List ℕ)) (stored : Stored) : Type 0 where

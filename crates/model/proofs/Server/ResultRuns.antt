@@ -164,11 +164,11 @@ module _ (world : World) (has : AllHave world) (here : ℕ) where
       ended request (has here request there) world request (same world request) request.answered request.results last true None
   turned now _ (Unread request operation reason goes) =
       went request (goes_has request goes) world request (same world request) (Refused operation reason) None
-  turned now _ (TooBig request operation rest reason goes reads) =
+  turned now _ (TooBig request operation rest goes reads) =
       went (read_of request rest) (read_has request rest (goes_has request goes)) world (noting world world operation (read_of request rest))
       (noted _ world (read_of request rest) world (read_of request rest) (same world (read_of request rest)))
-      (Refused (operation_of operation) reason)
-      (Some (executed_entry world (read_of request rest) operation (Refused (operation_of operation) reason) world))
+      (Refused (operation_of operation) status.RepTooBig)
+      (Some (executed_entry world (read_of request rest) operation (Refused (operation_of operation) status.RepTooBig) world))
   turned now _ (Gave request operation rest outcome after left goes reads is) =
       let leaves : Leaves world (read_of request rest) (Gives outcome after left) =
       subst (Leaves world (read_of request rest)) is (run_leaves world (read_of request rest) now operation) in

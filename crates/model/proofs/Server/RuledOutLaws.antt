@@ -1,5 +1,5 @@
 -- The laws of what the definitions rule out.
-use Rattle.std.proofs.Common.{inr, ◌⊎◌, ◌≡◌, ◌≢◌, ℕ, zero, suc, ◌+◌, ◌-◌, ◌<◌, ◌≤◌, inl, Bool, true, false, cond, ◌==◌, ◌||◌, nat_lt, nat_le, List, [], ◌∷◌, ◌++◌, length, take, slice_get, find, Option, None, Some, Result, Ok, Err, refl, sym, ap, ◌∙◌, subst, arith, eq-eqb}
+use Rattle.std.proofs.Common.{inr, ◌⊎◌, ◌≡◌, ◌≢◌, ℕ, zero, suc, ◌+◌, ◌-◌, ◌<◌, ◌≤◌, inl, Bool, true, false, cond, ◌==◌, nat_lt, List, [], ◌∷◌, ◌++◌, length, take, slice_get, find, Option, None, Some, Result, Ok, Err, refl, sym, ap, ◌∙◌, subst, arith, eq-eqb}
 use borrow.Author.Tests.{eqb-false}
 use Rattle.std.proofs.lemmas.Bool.{eqb-true, false≢true, true≢false, cond-true}
 use Rattle.model_tree.specs.Seats.Seats.{Seats}
@@ -12,10 +12,10 @@ use Rattle.model.specs.Wire.Record.{framed}
 use Rattle.model.specs.Wire.Rpc as calls
 use Rattle.model.specs.Wire.Rpc.{CallRead, NoCall, OtherVersion, Calls, Request, Answers, read_call, request_of, reply_text, Success}
 use Rattle.model.specs.Sessions.Session as sessions
-use Rattle.model.specs.Sessions.Session.{Table, Session, Slot, SlotState, Free, Running, Kept, Unkept, Begun, Runs, begin, begin_by, begin_slot, begin_new, finish, finished_slot, kept_state, changed_where, is_session, slot_at, next_number}
+use Rattle.model.specs.Sessions.Session.{Table, Session, Slot, Kept, Begun, Runs, begin, begin_by, begin_slot, begin_new, finish, finished_slot, changed_where, is_session, slot_at, next_number}
 use Rattle.model_tree.specs.Trees.Tree.{Tree}
-use Rattle.model.specs.Server.World.{World, InProgress, Connection, Quiet, Waiting, Busy, Replied, Closed, HasRun, Gives, Replays, outcome_text, exchanged, created_by, session_created, tabled, started_in, begun, reclaimed, refuses, in_room, has_room, too_big, run, Turned, Entry, executed_entry, behind, ends, goes_on, reply_with, status_of, requested, in_progress, called, with_result, is_last, has_run, operates, Next, Refuses, Reads, next_operation, turned, one, without_connection, hangs_up, hung_up, turns, operations_left, is_busy, further, closes, is_to_hold, noting}
-use Rattle.model.specs.Server.Runs.{Takes, Happens, StaysDown, MayBeTaken, is_durable, tree_after, executed, executed_by, executed_of, effect_of, Event, Serving, left_after, Left, IsAfterEvent, is_done}
+use Rattle.model.specs.Server.World.{ServerLimits, World, InProgress, Connection, Quiet, Waiting, Busy, Replied, Closed, HasRun, Gives, Replays, outcome_text, exchanged, created_by, session_created, tabled, started_in, begun, reclaimed, refuses, in_room, has_room, run, Turned, Entry, executed_entry, behind, ends, goes_on, reply_with, status_of, requested, in_progress, called, with_result, is_last, has_run, operates, Next, Refuses, Reads, next_operation, turned, one, without_connection, hangs_up, hung_up, turns, operations_left, is_busy, further, closes, is_to_hold, noting}
+use Rattle.model.specs.Server.Runs.{Takes, Happens, StaysDown, MayBeTaken, is_durable, tree_after, executed, executed_by, executed_of, effect_of, Event, Serving, RunHistory, IsRun, Begins, Goes_on, Fails_at, Stays_down, Flushed, mounted, left_after, Left, IsAfterEvent, is_done}
 use Rattle.model.specs.Server.RuledOut.{NoSkip, NoEarlyReply, NoTakingBack, NoReplyAlone, NoSecondRun, NoForgetting, NoGap, IsOutcome, IsBehind, IsOneFurther, OneATurn, HangsUpLast, request_by, request_in, request_at, after_turns, HangUpIsEvents, EachEventHappens, with_operations, EndsByHolding}
 use Rattle.std.proofs.Common.{get_or-set_same, length-set, lt-ltb}
 use Rattle.std.specs.List.{IsAmong}
@@ -73,29 +73,24 @@ no_reply_alone old new event happens changed either left among = elim either [
 
 -- SEQUENCE
 
--- a retry runs nothing if it gets something else
-retry_never : (b : Bool) (retry new : sessions.Begun) → b ≡ true → (retry ≡ Runs → ⊥) → cond b retry new ≡ Runs → ⊥
-retry_never true retry new is none e = none e
-retry_never false retry new is none e = let never : ⊥ = cc in absurd never
-
-used_never : (uid count : ℕ) (arguments : SequenceArguments) (session : Session) (slot : Slot) (state : SlotState) → state ≢ Free → arguments.sequence ≡ slot.last
-    → begin_slot uid count arguments session slot state ≡ Runs → ⊥
-used_never uid count arguments session slot Free used same e = used refl
-used_never uid count arguments session slot Running used same e =
-    cond_never (arguments.sequence == slot.last) (sessions.Refuses status.Delay) (sessions.Refuses status.SeqMisordered) (refuses_not status.Delay) (refuses_not status.SeqMisordered) e
-used_never uid count arguments session slot (Kept reply) used same e =
-    retry_never (arguments.sequence == slot.last) _ (begin_new count arguments session slot) (eq-eqb arguments.sequence slot.last same)
-    (cond_never (uid == slot.uid) (sessions.Replays reply) (sessions.Refuses status.SeqFalseRetry) (replays_not reply) (refuses_not status.SeqFalseRetry)) e
-used_never uid count arguments session slot Unkept used same e =
-    retry_never (arguments.sequence == slot.last) _ (begin_new count arguments session slot) (eq-eqb arguments.sequence slot.last same) (refuses_not _) e
+kept_never : (uid count : ℕ) (arguments : SequenceArguments) (session : Session) (slot : Slot) (reply : List ℕ) → arguments.sequence ≡ slot.last
+    → begin_slot uid count arguments session slot (Kept reply) ≡ Runs → ⊥
+kept_never uid count arguments session slot reply same e = by_test (arguments.sequence == slot.last) (eq-eqb arguments.sequence slot.last same) e
+  where
+    by_test : (b : Bool) → b ≡ true → cond b (cond (uid == slot.uid) (sessions.Replays reply) (sessions.Refuses status.SeqFalseRetry)) (begin_new count arguments session slot) ≡ Runs → ⊥
+    by_test true is e = cond_never (uid == slot.uid) (sessions.Replays reply) (sessions.Refuses status.SeqFalseRetry) (replays_not reply) (refuses_not status.SeqFalseRetry) e
+    by_test false is e = absurd (never is)
+      where
+        never : false ≡ true → ⊥
+        never e = cc
 
 pub no_second_run : NoSecondRun
 unfolding begin
-no_second_run uid count arguments table session known used same e =
+no_second_run uid count arguments table session reply known kept same e =
     let there : begin_by uid count arguments table.seats (Some session) ≡ Runs = ap (begin_by uid count arguments table.seats) (sym known) ∙ e in
     let slot = slot_at session arguments.slot in
     let at_slot = (cond_runs (nat_lt arguments.slot (length session.slots)) _ (sessions.Refuses status.BadSlot) (refuses_not status.BadSlot) there).1 in
-    used_never uid count arguments session slot slot.state used same at_slot
+    kept_never uid count arguments session slot reply same (ap (begin_slot uid count arguments session slot) (sym kept) ∙ at_slot)
 
 -- what is found is found again, as it was changed
 found_changed : (id : List ℕ) (change : Session → Session) (sessions : List Session) (session : Session) → ((one : Session) → is_session id (change one) ≡ is_session id one)
@@ -119,35 +114,24 @@ kept_replays : (uid count : ℕ) (arguments : SequenceArguments) (session : Sess
 kept_replays uid count arguments session slot reply same caller =
     cond-true _ _ _ (eq-eqb arguments.sequence slot.last same) ∙ cond-true _ _ _ (eq-eqb uid slot.uid caller)
 
-unkept_refuses : (uid count : ℕ) (arguments : SequenceArguments) (session : Session) (slot : Slot) → arguments.sequence ≡ slot.last → uid ≡ slot.uid
-    → begin_slot uid count arguments session slot Unkept ≡ sessions.Refuses status.RetryUncachedRep
-unkept_refuses uid count arguments session slot same caller =
-    cond-true _ _ _ (eq-eqb arguments.sequence slot.last same) ∙ ap sessions.Refuses (cond-true _ _ _ (eq-eqb uid slot.uid caller))
-
-retry_is : (uid count : ℕ) (arguments : SequenceArguments) (session : Session) (slot : Slot) (keeps : Bool) (reply : List ℕ) → arguments.sequence ≡ slot.last → uid ≡ slot.uid
-    → begin_slot uid count arguments session slot (cond keeps (Kept reply) Unkept) ≡ cond keeps (sessions.Replays reply) (sessions.Refuses status.RetryUncachedRep)
-retry_is uid count arguments session slot true reply same caller = kept_replays uid count arguments session slot reply same caller
-retry_is uid count arguments session slot false reply same caller = unkept_refuses uid count arguments session slot same caller
-
-finished_retry : (uid count : ℕ) (arguments : SequenceArguments) (seats : Seats) (session : Session) (holds : Bool) (reply : List ℕ) → arguments.slot < length session.slots
+finished_replays : (uid count : ℕ) (arguments : SequenceArguments) (seats : Seats) (session : Session) (reply : List ℕ) → arguments.slot < length session.slots
     → arguments.sequence ≡ (slot_at session arguments.slot).last → uid ≡ (slot_at session arguments.slot).uid
-    → begin_by uid count arguments seats (Some (finished_slot arguments.slot holds reply session))
-    ≡ cond (holds || nat_le (length reply) 16384) (sessions.Replays reply) (sessions.Refuses status.RetryUncachedRep)
-finished_retry uid count arguments seats session holds reply within same caller =
-    let new : Slot = record (slot_at session arguments.slot) { state = kept_state holds reply } in
-    let done = finished_slot arguments.slot holds reply session in
+    → begin_by uid count arguments seats (Some (finished_slot arguments.slot reply session)) ≡ sessions.Replays reply
+finished_replays uid count arguments seats session reply within same caller =
+    let new : Slot = record (slot_at session arguments.slot) { state = Kept reply } in
+    let done = finished_slot arguments.slot reply session in
     let there : slot_at done arguments.slot ≡ new = get_or-set_same session.slots arguments.slot new sessions.no_slot within in
     let inside : arguments.slot < length done.slots = omega (arith, length-set session.slots arguments.slot new) in
     cond-true _ _ _ (lt-ltb arguments.slot (length done.slots) inside)
     ∙ ap (λ (slot : Slot). begin_slot uid count arguments done slot slot.state) there
-    ∙ retry_is uid count arguments done new (holds || nat_le (length reply) 16384) reply same caller
+    ∙ kept_replays uid count arguments done new reply same caller
 
 pub no_forgetting : NoForgetting
 unfolding begin finish
 no_forgetting uid count arguments table session holds reply known within same caller =
     ap (begin_by uid count arguments (finish arguments.session arguments.slot holds reply table).seats)
-    (found_changed arguments.session (finished_slot arguments.slot holds reply) table.sessions session (λ one. refl) known)
-    ∙ finished_retry uid count arguments (finish arguments.session arguments.slot holds reply table).seats session holds reply within same caller
+    (found_changed arguments.session (finished_slot arguments.slot reply) table.sessions session (λ one. refl) known)
+    ∙ finished_replays uid count arguments (finish arguments.session arguments.slot holds reply table).seats session reply within same caller
 
 pub no_gap : NoGap
 no_gap uid count arguments table session known e =
@@ -248,8 +232,7 @@ in_room_keeps : (world : World) (request : InProgress) (operation : Argument) (r
     → Keeps world request operation (in_room world request (operation_of operation) ran)
 in_room_keeps world request operation (Gives (Outcome.Refused number reason) after left) keeps = keeps
 in_room_keeps world request operation (Gives (Outcome.Done answer) after left) keeps =
-    either_keeps world request operation (has_room world.limits.reply_bytes request (operation_of operation) (Outcome.Done answer))
-    _ (refuses world request (operation_of operation) (too_big world.limits.reply_bytes request (operation_of operation) (Outcome.Done answer)))
+    either_keeps world request operation (has_room world request (Outcome.Done answer)) _ (refuses world request (operation_of operation) status.RepTooBig)
     keeps (same_request request)
 in_room_keeps world request operation (Replays result session slot) keeps = keeps
 

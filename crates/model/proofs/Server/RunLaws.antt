@@ -19,7 +19,7 @@ use Rattle.model.specs.Operations.Operation.{SequenceArguments, operation_of}
 use Rattle.model.specs.Wire.Rpc.{CallRead, NoCall, OtherVersion, Calls, Request, Answers, Runs, read_call, request_of}
 use Rattle.model.specs.Sessions.Session as sessions
 use Rattle.model.specs.Sessions.Session.{Table, Session}
-use Rattle.model.specs.Server.World.{World, InProgress, Connection, Quiet, Waiting, Busy, Replied, Closed, HasRun, Gives, Replays, exchanged, created_by, session_created, tabled, started_in, begun, reclaimed, stepped, state_of, refuses, in_room, has_room, too_big, run, Turned, Entry, executed_entry, behind, ends, goes_on, with_result, is_last, has_run, operates, Next, Refuses, Reads, next_operation, requested, in_progress, called, turned, one, connection_changed, arrives, arrives_at, takes, without_reply, connects, can_connect, hangs_up, is_busy, closes, is_to_hold, further, noting}
+use Rattle.model.specs.Server.World.{World, InProgress, Connection, Quiet, Waiting, Busy, Replied, Closed, HasRun, Gives, Replays, exchanged, created_by, session_created, tabled, started_in, begun, reclaimed, stepped, state_of, refuses, in_room, has_room, run, Turned, Entry, executed_entry, behind, ends, goes_on, with_result, is_last, has_run, operates, Next, Refuses, Reads, next_operation, requested, in_progress, called, turned, one, connection_changed, arrives, arrives_at, takes, without_reply, connects, can_connect, hangs_up, is_busy, closes, is_to_hold, further, noting}
 use Rattle.model_tree.specs.Trees.Keyed.{at}
 use Rattle.model.specs.Server.Runs.{is_done, before, Event, Arrives, Turns, HangsUp, Connects, Takes, effect_of, executed_of}
 use Rattle.model.proofs.Operations.RefusalLaws.{none_before}
@@ -155,8 +155,7 @@ in_room_fits : (world : World) (request : InProgress) (operation : Argument) (ra
     → RanFits world request operation (in_room world request (operation_of operation) ran)
 in_room_fits world request operation (Gives (Outcome.Refused number reason) after left) fits = fits
 in_room_fits world request operation (Gives (Outcome.Done answer) after left) fits =
-    either_ran world request operation (has_room world.limits.reply_bytes request (operation_of operation) (Outcome.Done answer))
-    _ (refuses world request (operation_of operation) (too_big world.limits.reply_bytes request (operation_of operation) (Outcome.Done answer))) fits (λ differs. absurd (differs refl))
+    either_ran world request operation (has_room world request (Outcome.Done answer)) _ (refuses world request (operation_of operation) status.RepTooBig) fits (λ differs. absurd (differs refl))
 in_room_fits world request operation (Replays result session slot) fits = tt
 
 abbrev TurnFits : Tree → Turned → Type 0

@@ -13,7 +13,7 @@ use Rattle.model.specs.Sessions.Session.{Table, Session, begin, is_session, next
 use Rattle.model.specs.Sessions.SessionRuns.{CountsFrom}
 use Rattle.model_tree.specs.Trees.Tree.{Tree}
 use Rattle.model.specs.Sessions.StateIds.{has_opens}
-use Rattle.model.specs.Server.World.{World, ServerLimits, InProgress, Connection, Quiet, Waiting, Busy, Replied, Closed, HasRun, Gives, Replays, exchanged, created_by, tabled, started_in, begun, reclaimed, refuses, in_room, has_room, too_big, run, Turned, Entry, executed_entry, behind, ends, goes_on, kept_by, result_of, with_result, is_last, has_run, operates, Next, Refuses, Reads, next_operation, requested, in_progress, called, turned, one, connection_changed, arrives, arrives_at, takes, without_reply, connects, can_connect, hangs_up, is_busy, reply_at, closes, is_to_hold, further, noting}
+use Rattle.model.specs.Server.World.{World, ServerLimits, InProgress, Connection, Quiet, Waiting, Busy, Replied, Closed, HasRun, Gives, Replays, exchanged, created_by, tabled, started_in, begun, reclaimed, refuses, in_room, has_room, run, Turned, Entry, executed_entry, behind, ends, goes_on, kept_by, result_of, with_result, is_last, has_run, operates, Next, Refuses, Reads, next_operation, requested, in_progress, called, turned, one, connection_changed, arrives, arrives_at, takes, without_reply, connects, can_connect, hangs_up, is_busy, reply_at, closes, is_to_hold, further, noting}
 use Rattle.model.specs.Server.Runs.{Event, Arrives, Turns, HangsUp, Connects, Takes, effect_of, executed_of, RunHistory, Serving, mounted, IsRun, Begins, Goes_on, Fails_at, Stays_down, Flushed}
 use Rattle.model.specs.Server.ServedOnce.{number_begun, number_by, numbers_in, EveryServedSlot}
 use Rattle.model.proofs.Server.Headline.{Joined, done_behind, taken_done}
@@ -104,9 +104,8 @@ in_room_goes : (id : List ℕ) (slot last : ℕ) (world : World) (request : InPr
     → RanGoes id slot last operation ran → RanGoes id slot last operation (in_room world request (operation_of operation) ran)
 in_room_goes id slot last world request operation (Gives (Outcome.Refused number reason) after left) stands goes = goes
 in_room_goes id slot last world request operation (Gives (Outcome.Done answer) after left) stands goes =
-    either_goes id slot last operation (has_room world.limits.reply_bytes request (operation_of operation) (Outcome.Done answer))
-    _ (refuses world request (operation_of operation) (too_big world.limits.reply_bytes request (operation_of operation) (Outcome.Done answer))) goes
-    (subst (λ (number : Option ℕ). Goes id slot last world.table number) (sym (refused_none id slot operation (operation_of operation) (too_big world.limits.reply_bytes request (operation_of operation) (Outcome.Done answer)))) stands)
+    either_goes id slot last operation (has_room world request (Outcome.Done answer)) _ (refuses world request (operation_of operation) status.RepTooBig) goes
+    (subst (λ (number : Option ℕ). Goes id slot last world.table number) (sym (refused_none id slot operation (operation_of operation) status.RepTooBig)) stands)
 in_room_goes id slot last world request operation (Replays result session place) stands goes = tt
 
 -- A turn

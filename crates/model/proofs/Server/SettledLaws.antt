@@ -1,7 +1,7 @@
 -- Which held replies are settled: all of them while nothing waits, and each that was stored when a
 -- reply was taken.
 use Rattle.std.proofs.Common.{◌≡◌, ℕ, ◌≤◌, Bool, true, false, cond, List, [], ◌++◌, length, option_to_list, Option, None, Some, refl, sym, ap, ◌∙◌, subst, arith, append-nil, length-append}
-use Rattle.std.proofs.lemmas.Bool.{true≢false}
+use Rattle.std.proofs.lemmas.Bool.{true≢false, false≢true}
 use Rattle.model.specs.Server.World.{World, one, reply_at}
 use Rattle.model.specs.Server.Runs.{Event, Arrives, Turns, HangsUp, Connects, Takes, Stored, stored_by, freed_between, RunHistory, history_after, taken_by, Serving, MayBeTaken, Happens, IsRun, Begins, Goes_on, Fails_at, Stays_down, Flushed, settled_by, taken_with, stored_when_taken}
 

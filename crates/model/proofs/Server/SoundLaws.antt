@@ -22,7 +22,7 @@ use Rattle.model.specs.Operations.Step.{does}
 use Rattle.model.specs.Operations.StepLaws.{IsSound}
 use Rattle.model_tree.specs.Trees.Tree.{Tree}
 use Rattle.model_tree.specs.Trees.WellFormed.{IsWellFormed, IsBefore}
-use Rattle.model.specs.Server.World.{in_room, refuses, has_room, too_big, World, ServerLimits, InProgress, Connection, Quiet, Waiting, Busy, Replied, Closed, HasRun, Gives, Replays, with_connection, with_table, exchanged, created_by, tabled, started_in, begun, reclaimed, stepped, state_of, run as runs_operation, Turned, Entry, executed_entry, replies, behind, ends, goes_on, with_result, is_last, has_run, operates, Next, Refuses, Reads, next_operation, requested, in_progress, called, turned, one, connection_changed, arrived, arrives, arrives_at, takes, without_reply, connects, can_connect, hangs_up, is_busy, without_connection, mounted_world, closes, is_to_hold, further, noting}
+use Rattle.model.specs.Server.World.{in_room, refuses, has_room, World, ServerLimits, InProgress, Connection, Quiet, Waiting, Busy, Replied, Closed, HasRun, Gives, Replays, with_connection, with_table, exchanged, created_by, tabled, started_in, begun, reclaimed, stepped, state_of, run as runs_operation, Turned, Entry, executed_entry, replies, behind, ends, goes_on, with_result, is_last, has_run, operates, Next, Refuses, Reads, next_operation, requested, in_progress, called, turned, one, connection_changed, arrived, arrives, arrives_at, takes, without_reply, connects, can_connect, hangs_up, is_busy, without_connection, mounted_world, closes, is_to_hold, further, noting}
 use Rattle.model.specs.Server.Runs.{Event, Arrives, Turns, HangsUp, Connects, Takes, effect_of, executed, Serving, RunHistory, IsRun, Begins, Goes_on, Fails_at, Stays_down, Flushed, Left, IsAfterEvent, MayBeLeft, mounted}
 use Rattle.model_tree.proofs.Trees.FreshTree.{fresh_well_formed, fresh_before}
 use Rattle.model_tree.proofs.Trees.KeyedLaws.{at-with_same, at-with_other, at-without_same, at-without_other, some≢none}
@@ -188,10 +188,10 @@ module _ (limits : ServerLimits) (run : ℕ) (room : limits.volume.aces_set + 5 
       → request.context.run ≡ run → SoundRan ran → SoundRan (in_room world request operation ran)
   unfolding SoundRan
   in_room_sound world request operation (Gives (Outcome.Refused number reason) after left) sound same ran = ran
-  in_room_sound world request operation (Gives (Outcome.Done answer) after left) sound same ran = either (has_room world.limits.reply_bytes request operation (Outcome.Done answer)) ran
+  in_room_sound world request operation (Gives (Outcome.Done answer) after left) sound same ran = either (has_room world request (Outcome.Done answer)) ran
     where
       either : (b : Bool) → IsSoundWorld limits run after × (left.context.run ≡ run)
-          → SoundRan (cond b (Gives (Outcome.Done answer) after left) (refuses world request operation (too_big world.limits.reply_bytes request operation (Outcome.Done answer))))
+          → SoundRan (cond b (Gives (Outcome.Done answer) after left) (refuses world request operation status.RepTooBig))
       either true ran = ran
       either false ran = (sound, same)
   in_room_sound world request operation (Replays result session slot) sound same ran = tt

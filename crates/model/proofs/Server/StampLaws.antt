@@ -19,7 +19,7 @@ use Rattle.model.specs.Operations.Files.{has_bytes, write}
 use Rattle.model.specs.Operations.Open.{cuts, cut_or_not, with_file, makes_file, cuts_file, opening_done}
 use Rattle.model.specs.Operations.SetAttr.{sets, set_attributes}
 use Rattle.model.specs.Operations.Step.{State, Stepped, current, is_name_there, rename, alters, effect, refusals, change_refusals, unless_refused, does}
-use Rattle.model.specs.Server.World.{World, ServerLimits, InProgress, Connection, Quiet, Waiting, Busy, Replied, Closed, HasRun, Gives, Replays, exchanged, created_by, session_created, tabled, started_in, begun, reclaimed, stepped, state_of, refuses, in_room, has_room, too_big, run, Turned, Entry, executed_entry, behind, ends, goes_on, with_result, is_last, has_run, operates, Next, Refuses, Reads, next_operation, requested, in_progress, called, turned, one, connection_changed, arrives, arrives_at, takes, without_reply, connects, can_connect, hangs_up, is_busy, closes, is_to_hold, further, noting}
+use Rattle.model.specs.Server.World.{World, ServerLimits, InProgress, Connection, Quiet, Waiting, Busy, Replied, Closed, HasRun, Gives, Replays, exchanged, created_by, session_created, tabled, started_in, begun, reclaimed, stepped, state_of, refuses, in_room, has_room, run, Turned, Entry, executed_entry, behind, ends, goes_on, with_result, is_last, has_run, operates, Next, Refuses, Reads, next_operation, requested, in_progress, called, turned, one, connection_changed, arrives, arrives_at, takes, without_reply, connects, can_connect, hangs_up, is_busy, closes, is_to_hold, further, noting}
 use Rattle.model.proofs.Server.Headline.{slice_get-append, slice_get-within, slice_get-last, done_behind}
 use Rattle.model.proofs.Operations.RefusalLaws.{none_earlier, none_after}
 use Rattle.model_tree.proofs.Facts.BooleanLaws.{second_held}
@@ -153,8 +153,7 @@ either_counts world false x y first second = second
 in_room_counts : (world : World) (request : InProgress) (operation : ℕ) (ran : HasRun) → RanCounts world ran → RanCounts world (in_room world request operation ran)
 in_room_counts world request operation (Gives (Outcome.Refused number reason) after left) counts = counts
 in_room_counts world request operation (Gives (Outcome.Done answer) after left) counts =
-    either_counts world (has_room world.limits.reply_bytes request operation (Outcome.Done answer))
-    _ (refuses world request operation (too_big world.limits.reply_bytes request operation (Outcome.Done answer))) counts (same_counts world)
+    either_counts world (has_room world request (Outcome.Done answer)) _ (refuses world request operation status.RepTooBig) counts (same_counts world)
 in_room_counts world request operation (Replays result session slot) counts = tt
 
 -- A turn

@@ -4,6 +4,7 @@ use Rattle.std.proofs.lemmas.Bool.{true≢false, eq-eqb}
 use Rattle.xdr.specs.declared.refusal.Refusal.{Refusal}
 use Rattle.model_tree.specs.declared.acl.Cred.{Cred}
 use Rattle.model_tree.specs.declared.status.Status.{Status}
+use Rattle.model_tree.specs.declared.status.Status.TheVariants as status
 use Rattle.model.specs.Operations.Answer.{Outcome, Done, Refused}
 use Rattle.model_tree.specs.Trees.Keyed.{at}
 use Rattle.model.specs.Operations.Operation.{Argument, operation_of}
@@ -29,9 +30,9 @@ pub data IsTurn (world : World) (here now : ℕ) : Turned → Type 0 where
       → IsTurn world here now (ends world here request last true None)
   Unread : (request : InProgress) (operation : ℕ) (reason : Status) → GoesWith world here request
       → IsTurn world here now (behind world here request (Refused operation reason) None)
-  TooBig : (request : InProgress) (operation : Argument) (rest : List ℕ) (reason : Status) → GoesWith world here request → next_operation request ≡ Reads operation rest
-      → IsTurn world here now (behind world here (noting world world operation (read_of request rest)) (Refused (operation_of operation) reason)
-      (Some (executed_entry world (read_of request rest) operation (Refused (operation_of operation) reason) world)))
+  TooBig : (request : InProgress) (operation : Argument) (rest : List ℕ) → GoesWith world here request → next_operation request ≡ Reads operation rest
+      → IsTurn world here now (behind world here (noting world world operation (read_of request rest)) (Refused (operation_of operation) status.RepTooBig)
+      (Some (executed_entry world (read_of request rest) operation (Refused (operation_of operation) status.RepTooBig) world)))
   Gave : (request : InProgress) (operation : Argument) (rest : List ℕ) (outcome : Outcome) (after : World) (left : InProgress) → GoesWith world here request
       → next_operation request ≡ Reads operation rest → run world (read_of request rest) now operation ≡ Gives outcome after left
       → IsTurn world here now (behind after here (noting world after operation left) outcome (Some (executed_entry world (read_of request rest) operation outcome after)))
@@ -51,12 +52,12 @@ module _ (world : World) (here now : ℕ) where
       → (left : HasRun) → run world (read_of request rest) now operation ≡ left
       → IsTurn world here now (has_run world here (read_of request rest) operation (in_room world (read_of request rest) (operation_of operation) left))
   ran request operation rest goes reads (Gives (Refused number reason) after left) is = Gave request operation rest (Refused number reason) after left goes reads is
-  ran request operation rest goes reads (Gives (Done answer) after left) is = by_room _ (has_room world.limits.reply_bytes (read_of request rest) (operation_of operation) (Done answer))
+  ran request operation rest goes reads (Gives (Done answer) after left) is = by_room (has_room world (read_of request rest) (Done answer))
     where
-      by_room : (reason : Status) (room : Bool) → IsTurn world here now (has_run world here (read_of request rest) operation
-          (cond room (Gives (Done answer) after left) (Gives (Refused (operation_of operation) reason) world (read_of request rest))))
-      by_room reason true = Gave request operation rest (Done answer) after left goes reads is
-      by_room reason false = TooBig request operation rest reason goes reads
+      by_room : (room : Bool) → IsTurn world here now (has_run world here (read_of request rest) operation
+          (cond room (Gives (Done answer) after left) (Gives (Refused (operation_of operation) status.RepTooBig) world (read_of request rest))))
+      by_room true = Gave request operation rest (Done answer) after left goes reads is
+      by_room false = TooBig request operation rest goes reads
   ran request operation rest goes reads (Replays result session slot) is = Repeats request operation rest result session slot goes reads is
 
   operates_is : (request : InProgress) → GoesWith world here request → (next : Next) → next_operation request ≡ next

@@ -1,8 +1,9 @@
 -- A request that has begun remembers whether a change that has to last is among what it names; and
 -- the settings of a run stay.
-use Rattle.std.proofs.Common.{◌≡◌, ◌≢◌, ℕ, ◌+◌, ◌<◌, ◌==◌, ◌&&◌, ◌⊎◌, inl, inr, Bool, true, false, not, cond, List, [], ◌∷◌, ◌++◌, length, option_to_list, slice_get, find, Option, None, Some, zero, suc, Result, Ok, Err, refl, sym, ap, ◌∙◌, subst, arith, eqb-true, eq-eqb}
+use Rattle.std.proofs.Common.{◌≡◌, ◌≢◌, ℕ, ◌+◌, ◌<◌, ◌==◌, ◌&&◌, ◌||◌, ◌⊎◌, inl, inr, Bool, true, false, not, cond, List, [], ◌∷◌, ◌++◌, length, option_to_list, slice_get, find, Option, None, Some, zero, suc, Result, Ok, Err, refl, sym, ap, ◌∙◌, subst, arith, append-nil, eqb-true, eq-eqb}
 use Rattle.std.specs.List.{IsAmong}
 use Rattle.std.proofs.lemmas.Bool.{true≢false, cases_eq, and_from, or_left, or_right}
+use Rattle.model_tree.specs.Refusals.Refusal.{first_refusal}
 use Rattle.model_tree.specs.Seats.Seats.{Seats}
 use Rattle.model_tree.specs.Trees.Keyed.{Keyed, at, with, without}
 use Rattle.model_tree.proofs.Trees.KeyedLaws.{at-with_same, at-with_other, at-without_same, at-without_other}
@@ -11,7 +12,7 @@ use Rattle.model_tree.specs.declared.status.Status.{Status}
 use Rattle.model_tree.specs.declared.status.Status.TheVariants as status
 use Rattle.model.specs.Operations.Answer.{Answer, ExchangeIdAnswer, CreateSessionAnswer, Outcome, Done, Refused}
 use Rattle.model.specs.Operations.Operation.{Argument, SequenceArguments, operation_of}
-use Rattle.model.specs.Server.Runs.{Event, Arrives, Turns, HangsUp, Connects, Takes, before, effect_of, RunHistory, Serving, mounted, naming, naming_by, names_by, names_after, named_so_far, numbers_of, taken_by, history_after, IsRun, Begins, Goes_on, Fails_at, Stays_down, Flushed}
+use Rattle.model.specs.Server.Runs.{Event, Arrives, Turns, HangsUp, Connects, Takes, before, effect_of, RunHistory, Serving, mounted, naming, naming_by, names_by, names_after, named_so_far, numbers_of, turned_by, taken_by, history_after, IsRun, Begins, Goes_on, Fails_at, Stays_down, Flushed}
 use Rattle.model.specs.Wire.Record.{framed}
 use Rattle.model.specs.Wire.Rpc.{Success, reply_text}
 use Rattle.model.specs.Sessions.SeatRuns.{NamesChange}
@@ -19,8 +20,8 @@ use Rattle.model.specs.Sessions.Session as sessions
 use Rattle.model.specs.Sessions.Session.{Settings, Table}
 use Rattle.model.specs.Sessions.SessionRuns as calls
 use Rattle.model.specs.Sessions.StateIds.{has_opens}
-use Rattle.model.specs.Server.World.{ServerLimits, World, InProgress, Connection, Quiet, Busy, Replied, HasRun, Gives, Replays, Entry, Answered, Turned, replies, with_table, with_connection, with_result, exchanged, created_by, tabled, started_in, begun, reclaimed, run, executed_entry, goes_on, ends, result_of, kept_by, closes, behind, is_to_hold, is_last, is_unstable, noting, is_busy, one, reply_at, connection_changed, without_connection, arrives, arrives_at, connects, takes, hangs_up, without_reply, can_connect}
-use Rattle.model.proofs.Server.Headline.{slice_get-append, AreBelow-at, holds, holds_at_start}
+use Rattle.model.specs.Server.World.{ServerLimits, World, InProgress, Connection, Quiet, Waiting, Busy, Replied, Closed, HasRun, Gives, Replays, Entry, Answered, Turned, replies, with_table, with_connection, with_result, exchanged, created_by, session_created, tabled, started_in, begun, reclaimed, run, executed_entry, goes_on, ends, result_of, kept_by, closes, behind, is_to_hold, is_last, is_unstable, noting, is_busy, one, reply_at, connection_changed, without_connection, arrives, arrives_at, connects, takes, hangs_up, without_reply, can_connect}
+use Rattle.model.proofs.Server.Headline.{slice_get-append, AreBelow-at, done_behind, taken_done, Holds, holds, holds_at_start}
 use Rattle.model.proofs.Server.ServedOnceLaws.{arrives_table, takes_table, connects_table, hangs_up_table}
 use Rattle.model.proofs.Server.StampLaws.{RanCounts, run_counts}
 use Rattle.model.proofs.Server.TurnCases.{GoesWith, Begun, New, IsTurn, Idles, Says, Closes, Unread, TooBig, Gave, Repeats, turn_is, read_of, arrival_only, taking_only}
@@ -171,8 +172,8 @@ turned_settings world here now _ Idles = refl
 turned_settings world here now _ (Says bytes xid reply waits) = refl
 turned_settings world here now _ (Closes request last there ended_as) = kept_settings here world request.slot true (result_of request last) world.table
 turned_settings world here now _ (Unread request operation reason goes) = (is_behind here world request (Refused operation reason) None).settings
-turned_settings world here now _ (TooBig request operation rest reason goes reads) =
-    (is_behind here world (noting world world operation (read_of request rest)) (Refused (operation_of operation) reason) _).settings
+turned_settings world here now _ (TooBig request operation rest goes reads) =
+    (is_behind here world (noting world world operation (read_of request rest)) (Refused (operation_of operation) status.RepTooBig) _).settings
 turned_settings world here now _ (Gave request operation rest outcome after left goes reads ran) =
     (is_behind here after (noting world after operation left) outcome _).settings
     ∙ (subst (HasLeft world (read_of request rest)) ran (run_left world (read_of request rest) now operation)).settings
@@ -384,8 +385,8 @@ module _ (history : RunHistory) (world : World) (here now : ℕ)
   turned_notes _ (Closes request last there ended_as) = replied_notes (ends world here request last true None) _ refl (λ named its. refl)
   turned_notes _ (Unread request operation reason goes) =
       behind_notes world request None _ (is_behind here world request (Refused operation reason) None) refl (unread_notes request goes)
-  turned_notes _ (TooBig request operation rest reason goes reads) =
-      let outcome : Outcome = Refused (operation_of operation) reason in
+  turned_notes _ (TooBig request operation rest goes reads) =
+      let outcome : Outcome = Refused (operation_of operation) status.RepTooBig in
       let noted : InProgress = noting world world operation (read_of request rest) in
       behind_notes world noted _ _ (is_behind here world noted outcome _) refl (big_notes request operation rest outcome goes)
   turned_notes _ (Gave request operation rest outcome after left goes reads ran) =

@@ -11,7 +11,7 @@ use Rattle.model.specs.Operations.Operation.{ExchangeIdArguments, CreateSessionA
 use Rattle.model.specs.Sessions.OpenClients.{is_confirmed_client, has_record}
 use Rattle.model.specs.Sessions.Opens.{Opens, Open}
 use Rattle.model_tree.specs.Refusals.Refusal.{first_refusal}
-use Rattle.model.specs.Sessions.Session.{SessionLimits, Client, Slot, Running, Session, Table, slot_at, is_session, is_client, is_of_client, is_running, is_unconfirmed_of, is_confirmed_of, confirmed_with, is_replaced_by, replaced_by, is_of_clients, staying, without_unconfirmed, without_client, is_full_of_clients, with_new_client, new_client, new_record, exchange_by, exchange_id, exchange_flags, has_only, has_state, new_session, create_session_answer, create_refusals, create_unless, create_again, create_by, create_session, CreateSessionOutcome, next_number, destroy_by, destroy_session, destroy_client_by, destroy_client_id, reclaim_by, reclaim_complete, with_slot, started, finish, kept_state, yielding, is_unconfirmed_client, with_clients, without_where}
+use Rattle.model.specs.Sessions.Session.{SessionLimits, Client, Slot, Running, Kept, Session, Table, slot_at, is_session, is_client, is_of_client, is_running, is_unconfirmed_of, is_confirmed_of, confirmed_with, is_replaced_by, replaced_by, is_of_clients, staying, without_unconfirmed, without_client, is_full_of_clients, with_new_client, new_client, new_record, exchange_by, exchange_id, exchange_flags, has_only, has_state, new_session, create_session_answer, create_refusals, create_unless, create_again, create_by, create_session, CreateSessionOutcome, next_number, destroy_by, destroy_session, destroy_client_by, destroy_client_id, reclaim_by, reclaim_complete, with_slot, started, finish, yielding, is_unconfirmed_client, with_clients, without_where}
 use Rattle.model.specs.Sessions.SlotsHeld.{is_slot_running}
 use Rattle.model.specs.Sessions.StateIds.{has_opens, without_clients}
 use Rattle.model.proofs.Sessions.SlotLaw.{exchange_same, destroy_client_same, reclaim_same, id_of}
@@ -345,7 +345,7 @@ module _ (uid : ℕ) (arguments : SequenceArguments) (table : Table) where
 
 module _ (name : List ℕ) (here : ℕ) (holds : Bool) (reply : List ℕ) (table : Table) where
   abbrev keeps : Session → Slot
-  keeps session = record (slot_at session here) { state = kept_state holds reply }
+  keeps session = record (slot_at session here) { state = Kept reply }
 
   pub finish_lives : (opens : Opens) → Lives table opens → Lives (finish name here holds reply table) opens
   unfolding finish

@@ -460,10 +460,10 @@ module _ (limits : ServerLimits) (world : World) (held : Held limits world) (liv
       ended (Refused 0 status.Ok) world request (refused_here request 0 status.Ok (λ some. living.requests here request there)) request.answered request.results last true None
   turned now _ (Unread request operation reason goes) =
       went (Refused operation reason) world request (refused_here request operation reason (its_session request goes)) None
-  turned now _ (TooBig request operation rest reason goes reads) =
-      went (Refused (operation_of operation) reason) world (noting world world operation (read_of request rest))
-      (noted _ world _ world (read_of request rest) (refused_here (read_of request rest) (operation_of operation) reason (read_session request rest goes)))
-      (Some (executed_entry world (read_of request rest) operation (Refused (operation_of operation) reason) world))
+  turned now _ (TooBig request operation rest goes reads) =
+      went (Refused (operation_of operation) status.RepTooBig) world (noting world world operation (read_of request rest))
+      (noted _ world _ world (read_of request rest) (refused_here (read_of request rest) (operation_of operation) status.RepTooBig (read_session request rest goes)))
+      (Some (executed_entry world (read_of request rest) operation (Refused (operation_of operation) status.RepTooBig) world))
   turned now _ (Gave request operation rest outcome after left goes reads is) =
       went outcome after (noting world after operation left)
       (noted _ world outcome after left (subst (HasLeft world) is (run_left limits world held living (read_of request rest) (its_running request rest goes) (read_session request rest goes) now operation

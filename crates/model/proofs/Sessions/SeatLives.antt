@@ -301,9 +301,9 @@ module _ (id : List ℕ) (slot : ℕ) (its_run : ℕ) (small : its_run < 2 ^ 32)
   turned_own here now _ (Closes request last there ended) number e = no_number number e
   turned_own here now _ (Unread request operation reason _) number e =
       no_number number (sym (ap (number_of id slot) (behind_executes here world request (Refused operation reason) None)) ∙ e)
-  turned_own here now _ (TooBig request operation rest reason _ reads) number e =
-      no_number number (sym (refused_none operation (operation_of operation) reason)
-      ∙ (sym (ap (number_of id slot) (behind_executes here world (noting world world operation (read_of request rest)) (Refused (operation_of operation) reason) _)) ∙ e))
+  turned_own here now _ (TooBig request operation rest _ reads) number e =
+      no_number number (sym (refused_none operation (operation_of operation) status.RepTooBig)
+      ∙ (sym (ap (number_of id slot) (behind_executes here world (noting world world operation (read_of request rest)) (Refused (operation_of operation) status.RepTooBig) _)) ∙ e))
   turned_own here now _ (Gave request operation rest outcome after left goes reads ran) number e =
       ran_own (read_of request rest) now operation outcome after left ran number
       (sym (ap (number_of id slot) (behind_executes here after (noting world after operation left) outcome _)) ∙ e)

@@ -248,8 +248,8 @@ module _ (limits : ServerLimits) (world : World) (held : Held limits world) (its
         (λ name place on. held.law.runs name place number (ap (is_busy_on name place) there ∙ on)) _
     turned_holds _ (Unread request operation reason goes) =
         behind_so world request (Refused operation reason) None refl (unread_notes history world number now below notes request goes)
-    turned_holds _ (TooBig request operation rest reason goes reads) =
-        let outcome : Outcome = Refused (operation_of operation) reason in
+    turned_holds _ (TooBig request operation rest goes reads) =
+        let outcome : Outcome = Refused (operation_of operation) status.RepTooBig in
         behind_so world (noting world world operation (read_of request rest)) outcome _ refl (big_notes history world number now below notes request operation rest outcome goes)
     turned_holds _ (Gave request operation rest outcome after left goes reads ran) =
         behind_so after (noting world after operation left) outcome _ (ran_settings world (read_of request rest) now operation outcome after left ran)
@@ -294,11 +294,11 @@ module _ (limits : ServerLimits) (world : World) (held : Held limits world) (its
     turned_keeps _ (Unread other operation reason goes) =
         as_its other.slot (behind world number other (Refused operation reason) None) (same_slot other goes)
         (behind_keeps number world other (Refused operation reason) None)
-    turned_keeps _ (TooBig other operation rest reason goes reads) =
-        let outcome = Refused (operation_of operation) reason in
-        let executed = Some (executed_entry world (read_of other rest) operation outcome world) in
+    turned_keeps _ (TooBig other operation rest goes reads) =
+        let reason = Refused (operation_of operation) status.RepTooBig in
+        let executed = Some (executed_entry world (read_of other rest) operation reason world) in
         let noted : InProgress = noting world world operation (read_of other rest) in
-        as_its other.slot (behind world number noted outcome executed) (same_slot other goes) (behind_keeps number world noted outcome executed)
+        as_its other.slot (behind world number noted reason executed) (same_slot other goes) (behind_keeps number world noted reason executed)
     turned_keeps _ (Gave other operation rest outcome after left goes reads ran) = elim (run_left other operation rest (Gives outcome after left) goes reads ran) [
       | inl same ↦
           let noted : InProgress = noting world after operation left in
@@ -322,10 +322,10 @@ module _ (limits : ServerLimits) (world : World) (held : Held limits world) (its
     turned_begins _ (Closes other last there ended) executed = absurd (cc)
     turned_begins _ (Unread other operation reason goes) executed =
         let none : None ≡ Some entry = sym (behind_executed number world other (Refused operation reason) None) ∙ executed in absurd (cc)
-    turned_begins _ (TooBig other operation rest reason goes reads) executed =
-        let outcome = Refused (operation_of operation) reason in
-        let its = executed_entry world (read_of other rest) operation outcome world in
-        let same : its ≡ entry = one_entry its _ (behind_executed number world (noting world world operation (read_of other rest)) outcome (Some its)) executed in
+    turned_begins _ (TooBig other operation rest goes reads) executed =
+        let reason = Refused (operation_of operation) status.RepTooBig in
+        let its = executed_entry world (read_of other rest) operation reason world in
+        let same : its ≡ entry = one_entry its _ (behind_executed number world (noting world world operation (read_of other rest)) reason (Some its)) executed in
         absurd (true≢false (sym (ap (λ (e : Entry). is_done e.outcome) same ∙ takes.1)))
     turned_begins _ (Gave other operation rest outcome after left goes reads ran) executed =
         let its = executed_entry world (read_of other rest) operation outcome after in

@@ -1,6 +1,6 @@
 -- A reply that a turn lets a seat hold, and that the seat holds already, was stored before, in a
 -- run that begins with seats of earlier runs.
-use Rattle.std.proofs.Common.{◌≡◌, ℕ, ◌<◌, ◌^◌, ◌&&◌, Bool, true, false, cond, List, [], ◌∷◌, ◌++◌, option_to_list, find, Option, None, Some, zero, suc, inl, inr, refl, sym, ap, ◌∙◌, arith}
+use Rattle.std.proofs.Common.{◌≡◌, ℕ, ◌+◌, ◌<◌, ◌≤◌, ◌^◌, ◌&&◌, Bool, true, false, cond, List, [], ◌∷◌, ◌++◌, length, option_to_list, find, Option, None, Some, zero, suc, inl, inr, refl, sym, ap, ◌∙◌, subst, arith, append-nil}
 use Rattle.std.specs.List.{IsAmong}
 use Rattle.std.proofs.lemmas.Bool.{true≢false}
 use Rattle.model_tree.specs.Seats.Seats.{HeldReply, Seats, has_seat, held_at, run_of}

@@ -1,6 +1,6 @@
 -- What holds of the seats together with the tables of clients and sessions, and that each call on
 -- them keeps it.
-use Rattle.std.proofs.Common.{◌≡◌, ℕ, zero, suc, ◌+◌, ◌-◌, ◌/◌, ◌^◌, ◌<◌, ◌≤◌, ◌⊎◌, inl, inr, Bool, true, false, not, cond, ◌==◌, nat_lt, nat_le, List, [], ◌∷◌, ◌++◌, map, filter, length, take, option_to_list, slice_get, find, Option, None, Some, is_some, refl, sym, ap, ◌∙◌, subst, arith, bytes_eq, length-set, append-nil, leb-true, ltb-true, eqb-true, eq-eqb, get_or, get_or-set_same, replicate}
+use Rattle.std.proofs.Common.{◌≡◌, ℕ, zero, suc, ◌+◌, ◌-◌, ◌/◌, ◌^◌, ◌<◌, ◌≤◌, ◌⊎◌, inl, inr, Bool, true, false, not, cond, ◌==◌, nat_lt, nat_le, List, [], ◌∷◌, ◌++◌, map, filter, length, take, option_to_list, slice_get, find, Option, None, Some, is_some, refl, sym, ap, ◌∙◌, subst, arith, bytes_eq, length-set, append-nil, leb-true, ltb-true, eqb-true, eq-eqb, get_or, get_or-set_same, get_or-set_other, replicate}
 use Rattle.std.specs.Int.{w64, to_be_bytes, from_be_bytes}
 use Rattle.std.specs.List.{AllByRecursion, IsAmong}
 use Rattle.std.proofs.lemmas.Bool.{true≢false, and_parts}
@@ -14,12 +14,12 @@ use Rattle.model_tree.specs.Refusals.Refusal.{first_refusal}
 use Rattle.model.specs.Server.Runs.{Stored, held_of_session, kept_in, kept_at, stored_as, stored_by, freed_between}
 use Rattle.model.specs.Sessions.SeatRuns.{HoldsFrom, IsFreed}
 use Rattle.model_tree.specs.Seats.Seats.{HeldReply, Seat, Seats, is_seat_of, seat_of, has_seat, held_in, held_at, freed, seated, holding, run_of, SeatsApart}
-use Rattle.model.specs.Sessions.Session.{SessionLimits, Client, Slot, Running, Session, Table, session_id, is_session, slot_at, no_slot, slots_given, with_slot, is_client, client_number, is_of_clients, replaced_by, staying, gives_way, seats_staying, persists, new_session, new_seat, create_refusals, create_unless, create_again, create_by, create_session, CreateSessionOutcome, next_number, destroy_by, is_running, started, finished_slot, kept_state, held_reply, held_by, finish}
+use Rattle.model.specs.Sessions.Session.{SessionLimits, Client, Slot, Running, Kept, Session, Table, session_id, is_session, slot_at, no_slot, is_running_state, slots_given, with_slot, is_client, client_number, is_of_clients, replaced_by, staying, gives_way, seats_staying, persists, limits_for, fore_channel, new_session, new_seat, create_refusals, create_unless, create_again, create_by, create_session, CreateSessionOutcome, next_number, destroy_by, is_running, started, finished_slot, held_reply, held_by, finish}
 use Rattle.model.proofs.Server.Headline.{slice_get-append, slice_get-within}
-use Rattle.model.proofs.Sessions.AllOf.{all-mono, all-fewer, all-mapped, all-more, all-both, all-found, all_true}
+use Rattle.model.proofs.Sessions.AllOf.{all-mono, all-fewer, all-mapped, all-more, all-both, all-found, all_true, only_found}
 use Rattle.model.proofs.Sessions.SeatLaws.{has_freed, apart_freed, was_there, had_seat, stays_or_goes, seated_other, seated_new, apart_seated, has_holding, apart_holding, held_here, held_other, holding_was, seat_holds, holds_there, among_left, among_right, freed_listed}
 use Rattle.model_tree.proofs.Facts.BytesLaws.{bytes_apart, bytes_differ}
-use Rattle.model.proofs.Sessions.SlotLaw.{SameSessions, session_id-serial, id_of, serial_left}
+use Rattle.model.proofs.Sessions.SlotLaw.{SameSessions, RunsOn, session_id-serial, id_of, serial_left}
 use Rattle.model.proofs.Sessions.StoringTurns.{same_seats, nothing_stored}
 use Rattle.model.proofs.Sessions.TableCalls.{Holds, either, found_passes, found_given}
 use Rattle.model.proofs.Sessions.TableLaws.{Clients, Sessions, given_by, given_serial}
@@ -390,8 +390,8 @@ module _ (limits : SessionLimits) (stored : List Stored) (gone : List (List ℕ)
       let none : has_seat its_seat.session table.seats ≡ false
       = new_has_none table.run table stored gone is made refl its_run small (all_below limits table.session_serial table.sessions holds.1) in
       let count : length its_seat.slots ≡ length made.slots =
-      length-replicate (slots_given limits arguments client table) None
-      ∙ sym (length-replicate (slots_given limits arguments client table) no_slot) in
+      length-replicate (fore_channel (limits_for limits (persists arguments client table)) arguments.fore).max_requests None
+      ∙ sym (length-replicate (fore_channel (limits_for limits (persists arguments client table)) arguments.fore).max_requests no_slot) in
       subst (λ (l : List (List ℕ)). Seated table.run (after_it (seated its_seat (seats_staying arguments client table))) stored (gone ++ l))
       (sym (freed_same its_seat table.seats (seats_staying arguments client table) none))
       (seated_with table.run freed_first stored gone_first freed_is made refl its_run small first_below its_seat refl count
@@ -459,38 +459,38 @@ last-place (z ∷ xs) x (suc i) y e = elim (last-place xs x i y e) [
 ]
 
 module _ (id : List ℕ) (place : ℕ) (reply : List ℕ) where
-  abbrev finishing : (holds : Bool) → Session → Session
-  finishing holds session = cond (is_session id session) (finished_slot place holds reply session) session
+  abbrev finishing : Session → Session
+  finishing session = cond (is_session id session) (finished_slot place reply session) session
 
-  by_name : {A : Type 0} (holds : Bool) (told : Session → A) → ((session : Session) → told (finished_slot place holds reply session) ≡ told session) → (session : Session)
-      → told (finishing holds session) ≡ told session
-  by_name holds told same session = by_test (is_session id session)
+  by_name : {A : Type 0} (told : Session → A) → ((session : Session) → told (finished_slot place reply session) ≡ told session) → (session : Session)
+      → told (finishing session) ≡ told session
+  by_name told same session = by_test (is_session id session)
     where
-      by_test : (b : Bool) → told (cond b (finished_slot place holds reply session) session) ≡ told session
+      by_test : (b : Bool) → told (cond b (finished_slot place reply session) session) ≡ told session
       by_test true = same session
       by_test false = refl
 
-  slots_still : (holds : Bool) (session : Session) → length (finishing holds session).slots ≡ length session.slots
-  slots_still holds = by_name holds (λ (s : Session). length s.slots) (λ s. length-set s.slots place (record (slot_at s place) { state = kept_state holds reply }))
+  slots_still : (session : Session) → length (finishing session).slots ≡ length session.slots
+  slots_still = by_name (λ (s : Session). length s.slots) (λ s. length-set s.slots place (record (slot_at s place) { state = Kept reply }))
 
-  finishing_runs : (holds : Bool) (run : ℕ) (sessions : List Session) → AllByRecursion (λ (session : Session). in_run session.client ≡ run) sessions
-      → AllByRecursion (λ (session : Session). in_run session.client ≡ run) (map (finishing holds) sessions)
-  finishing_runs holds = mapped_runs (finishing holds) (by_name holds (λ (s : Session). s.client) (λ s. refl)) (by_name holds (λ (s : Session). s.serial) (λ s. refl)) (slots_still holds)
+  finishing_runs : (run : ℕ) (sessions : List Session) → AllByRecursion (λ (session : Session). in_run session.client ≡ run) sessions
+      → AllByRecursion (λ (session : Session). in_run session.client ≡ run) (map finishing sessions)
+  finishing_runs = mapped_runs finishing (by_name (λ (s : Session). s.client) (λ s. refl)) (by_name (λ (s : Session). s.serial) (λ s. refl)) slots_still
 
-  finishing_fits : (holds : Bool) (seats : Seats) (sessions : List Session) → AllByRecursion (SeatFits seats) sessions → AllByRecursion (SeatFits seats) (map (finishing holds) sessions)
-  finishing_fits holds = mapped_fits (finishing holds) (by_name holds (λ (s : Session). s.client) (λ s. refl)) (by_name holds (λ (s : Session). s.serial) (λ s. refl)) (slots_still holds)
+  finishing_fits : (seats : Seats) (sessions : List Session) → AllByRecursion (SeatFits seats) sessions → AllByRecursion (SeatFits seats) (map finishing sessions)
+  finishing_fits = mapped_fits finishing (by_name (λ (s : Session). s.client) (λ s. refl)) (by_name (λ (s : Session). s.serial) (λ s. refl)) slots_still
 
-  finishing_still : (holds : Bool) (session : Session) → is_session id (finishing holds session) ≡ is_session id session
-  finishing_still holds session = by_name holds (is_session id) (λ s. refl) session
+  finishing_still : (session : Session) → is_session id (finishing session) ≡ is_session id session
+  finishing_still session = by_name (is_session id) (λ s. refl) session
 
   -- no seat holds it
   pub finished_unheld : (run : ℕ) (table : Table) (stored : List Stored) (gone : List (List ℕ)) → Seated run table stored gone → Seated run (finish id place false reply table) stored gone
   unfolding finish
   finished_unheld run table stored gone is = record {
-    of_run = finishing_runs false run table.sessions is.of_run;
+    of_run = finishing_runs run table.sessions is.of_run;
     apart = is.apart;
     past = is.past;
-    fits = finishing_fits false table.seats table.sessions is.fits;
+    fits = finishing_fits table.seats table.sessions is.fits;
     theirs = is.theirs;
     old = is.old;
     kept = is.kept;
@@ -506,10 +506,10 @@ module _ (id : List ℕ) (place : ℕ) (reply : List ℕ) where
       let all : stored ≡ stored ++ option_to_list (stored_by new (Some (id, place)) true)
       = sym (append-nil stored) ∙ ap (λ (o : Option Stored). stored ++ option_to_list o) (sym (nothing_stored id place reply table none)) in
       subst (λ (l : List Stored). Seated run new l gone) all (record {
-        of_run = finishing_runs true run table.sessions is.of_run;
+        of_run = finishing_runs run table.sessions is.of_run;
         apart = subst SeatsApart seats is.apart;
         past = λ name has. is.past name (ap (has_seat name) seats ∙ has);
-        fits = subst (λ (s : Seats). AllByRecursion (SeatFits s) new.sessions) seats (finishing_fits true table.seats table.sessions is.fits);
+        fits = subst (λ (s : Seats). AllByRecursion (SeatFits s) new.sessions) seats (finishing_fits table.seats table.sessions is.fits);
         theirs = subst (λ (s : Seats). HeldWas run s stored) seats is.theirs;
         old = is.old;
         kept = λ i one at. subst (λ (s : Seats). IsKept s stored gone i one) seats (is.kept i one at);
@@ -534,12 +534,12 @@ module _ (id : List ℕ) (place : ℕ) (reply : List ℕ) where
     unfolding finish
     kept_is =
         let named : is_session id session ≡ true = found_passes (is_session id) table.sessions session found in
-        let there : find (is_session id) (map (finishing true) table.sessions) ≡ Some (finishing true session)
-        = find-mapped (is_session id) (finishing true) table.sessions session (finishing_still true) found in
+        let there : find (is_session id) (map finishing table.sessions) ≡ Some (finishing session)
+        = find-mapped (is_session id) finishing table.sessions session finishing_still found in
         ap (held_of_session place) there
-        ∙ (ap (λ (b : Bool). held_of_session place (Some (cond b (finished_slot place true reply session) session))) named
+        ∙ (ap (λ (b : Bool). held_of_session place (Some (cond b (finished_slot place reply session) session))) named
         ∙ ap (λ (slot : Slot). kept_in slot slot.state)
-        (get_or-set_same session.slots place (record (slot_at session place) { state = kept_state true reply }) no_slot within))
+        (get_or-set_same session.slots place (record (slot_at session place) { state = Kept reply }) no_slot within))
 
     module _ (has : has_seat id table.seats ≡ true) where
       pub stored_is : stored_by (finish id place true reply table) (Some (id, place)) true ≡ Some its_stored
@@ -645,14 +645,14 @@ module _ (id : List ℕ) (place : ℕ) (reply : List ℕ) where
           let new = finish id place true reply table in
           let seats = sym seats_are in
           record {
-            of_run = finishing_runs true run table.sessions is.of_run;
+            of_run = finishing_runs run table.sessions is.of_run;
             apart = subst SeatsApart seats (apart_holding id place its_held table.seats is.apart);
             past = λ name there. is.past name (sym (has_holding id place its_held name table.seats) ∙ (ap (has_seat name) seats ∙ there));
             fits = subst (λ (s : Seats). AllByRecursion (SeatFits s) new.sessions) seats
                 (all-mono (SeatFits table.seats) (SeatFits its_seats) new.sessions
                 (λ other fits seat there.
                 let was = holding_was id place its_held (id_in other) table.seats seat there in
-                was.2 ∙ fits was.0 was.1) (finishing_fits true table.seats table.sessions is.fits));
+                was.2 ∙ fits was.0 was.1) (finishing_fits table.seats table.sessions is.fits));
             theirs = subst (λ (s : Seats). HeldWas run s all_stored) seats held_all;
             old = old_now;
             kept = λ i one at. subst (λ (s : Seats). IsKept s all_stored gone i one) seats (kept_now i one at);

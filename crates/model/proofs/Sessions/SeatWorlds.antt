@@ -8,14 +8,14 @@ use Rattle.model_tree.specs.declared.status.Status.TheVariants as status
 use Rattle.model.specs.Operations.Answer.{Answer, Outcome, Done, Refused, ExchangeIdAnswer, CreateSessionAnswer}
 use Rattle.model.specs.Operations.Operation.{Argument, SequenceArguments, operation_of}
 use Rattle.model.specs.Server.Runs.{Stored, stored_by, freed_between}
-use Rattle.model_tree.specs.Seats.Seats.{has_seat}
+use Rattle.model_tree.specs.Seats.Seats.{Seats, has_seat}
 use Rattle.model.specs.Sessions.Session as sessions
 use Rattle.model.specs.Sessions.Session.{Table, Session, Slot, SlotState, Free, Running, Kept, is_session, is_running_state, slot_at, no_slot}
 use Rattle.model.specs.Sessions.SessionRuns as calls
 use Rattle.model.specs.Sessions.SlotsHeld.{runs_at, is_slot_running, is_on, is_busy_on}
 use Rattle.model.specs.Sessions.StateIds.{has_opens}
 use Rattle.model.specs.Server.World.{ServerLimits, World, InProgress, HasRun, Gives, Replays, Entry, exchanged, created_by, tabled, started_in, begun, reclaimed, run, Turned, with_result, result_of, kept_by, is_to_hold, closes, behind, is_last, one, noting}
-use Rattle.model.proofs.Sessions.SlotLaw.{SameSessions, exchange_same, destroy_client_same, reclaim_same}
+use Rattle.model.proofs.Sessions.SlotLaw.{SameSessions, RunsOn, begin_runs, exchange_same, destroy_client_same, reclaim_same}
 use Rattle.model.proofs.Sessions.SlotRuns.{told_by}
 use Rattle.model.proofs.Sessions.SlotsHeld.{Held}
 use Rattle.model.proofs.Sessions.TableCalls.{Holds, either, ids_differ}
@@ -23,6 +23,7 @@ use Rattle.model.proofs.Sessions.TableIds.{every_call_gives_new}
 use Rattle.model.proofs.Server.TurnCases.{IsTurn, Idles, Says, Closes, Unread, TooBig, Gave, Repeats, turn_is, read_of}
 use Rattle.model_tree.proofs.Facts.BytesLaws.{bytes_same}
 use Rattle.model.proofs.Sessions.SeatTables.{Seated, seated_more, seated_same, seated_destroyed, seated_create, seated_started, finished_unheld, finished_unseated, finished_seated}
+use Rattle.model.proofs.Sessions.StoringTurns.{same_seats}
 
 pub on_itself : (id : List ℕ) (place : ℕ) → is_on (Some (id, place)) id place ≡ true
 on_itself id place = and_from (bytes_eq id id) (place == place) (bytes_same id id refl) (eq-eqb place place refl)
@@ -211,7 +212,7 @@ module _ (limits : ServerLimits) (world : World) (held : Held limits world) (its
       kept_running request.slot (result_of request last)
       (λ id place on. held.law.runs id place number (ap (is_busy_on id place) there ∙ on))
   turned_seated number now _ (Unread request operation reason goes) = behind_seated number world request (Refused operation reason) None stays
-  turned_seated number now _ (TooBig request operation rest reason goes reads) = behind_seated number world (noting world world operation (read_of request rest)) (Refused (operation_of operation) reason) _ stays
+  turned_seated number now _ (TooBig request operation rest goes reads) = behind_seated number world (noting world world operation (read_of request rest)) (Refused (operation_of operation) status.RepTooBig) _ stays
   turned_seated number now _ (Gave request operation rest outcome after left goes reads ran) =
       behind_seated number after (noting world after operation left) outcome _ (subst (RanSeated its_run world stored gone) ran (run_seated (read_of request rest) now operation))
   turned_seated number now _ (Repeats request operation rest result session slot goes reads ran) = nothing_more world.table stays

@@ -220,8 +220,8 @@ module _ (world : World) (apart : SeatsApart world.table.seats) where
       stays_there (kept_by request.slot true (result_of request last) world.table).seats id seat (kept_has id request.slot true (result_of request last) world.table) there went
   turned_frees number now _ (Unread request operation reason goes) id seat there went =
       stays_there (behind world number request (Refused operation reason) None).world.table.seats id seat (behind_has id number world request (Refused operation reason) None).0 there went
-  turned_frees number now _ (TooBig request operation rest reason goes reads) id seat there went =
-      let outcome = Refused (operation_of operation) reason in
+  turned_frees number now _ (TooBig request operation rest goes reads) id seat there went =
+      let outcome = Refused (operation_of operation) status.RepTooBig in
       let executed = Some (executed_entry world (read_of request rest) operation outcome world) in
       let noted : InProgress = noting world world operation (read_of request rest) in
       stays_there (behind world number noted outcome executed).world.table.seats id seat (behind_has id number world noted outcome executed).0 there went

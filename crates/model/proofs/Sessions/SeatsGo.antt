@@ -17,6 +17,7 @@ use Rattle.model.proofs.Sessions.SeatLaws.{seat_found, freed_seat, stays_or_goes
 use Rattle.model_tree.proofs.Facts.BytesLaws.{bytes_apart}
 use Rattle.model.proofs.Sessions.AllOf.{all-found}
 use Rattle.model.proofs.Sessions.SeatTables.{Seated, id_in, in_run, id_of_run, client_in_run}
+use Rattle.model.proofs.Sessions.StoringTurns.{same_seats}
 use Rattle.model.proofs.Server.ServedOnceLaws.{arrives_table, takes_table, connects_table, hangs_up_table}
 use Rattle.model.proofs.Sessions.SlotLaw.{id_of, exchange_same, destroy_client_same, reclaim_same}
 use Rattle.model.proofs.Sessions.SlotsHeld.{Held}
@@ -238,7 +239,7 @@ module _ (limits : ServerLimits) (world : World) (held : Held limits world) (its
   turned_go number now _ (Says bytes xid reply waits) = stays
   turned_go number now _ (Closes request last there ended) = ends_go request.slot (result_of request last)
   turned_go number now _ (Unread request operation reason goes) = behind_go number world request (Refused operation reason) None stays
-  turned_go number now _ (TooBig request operation rest reason goes reads) = behind_go number world (noting world world operation (read_of request rest)) (Refused (operation_of operation) reason) _ stays
+  turned_go number now _ (TooBig request operation rest goes reads) = behind_go number world (noting world world operation (read_of request rest)) (Refused (operation_of operation) status.RepTooBig) _ stays
   turned_go number now _ (Gave request operation rest outcome after left goes reads ran) =
       behind_go number after (noting world after operation left) outcome _ (subst (RanGo its_run world) ran (run_go (read_of request rest) now operation))
   turned_go number now _ (Repeats request operation rest result session slot goes reads ran) = stays

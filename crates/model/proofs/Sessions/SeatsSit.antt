@@ -142,8 +142,8 @@ module _ (limits : ServerLimits) (world : World) (held : Held limits world) (its
   turned_sits number now _ (Says bytes xid reply waits) answer makes = absurd (makes.made refl)
   turned_sits number now _ (Closes request last begins ended) answer makes = absurd (makes.made (kept_serial request.slot true (result_of request last) world.table))
   turned_sits number now _ (Unread request operation reason goes) answer makes = absurd (makes.made (behind_serial number world request (Refused operation reason) None))
-  turned_sits number now _ (TooBig request operation rest reason goes reads) answer makes =
-      let outcome = Refused (operation_of operation) reason in
+  turned_sits number now _ (TooBig request operation rest goes reads) answer makes =
+      let outcome = Refused (operation_of operation) status.RepTooBig in
       absurd (makes.made (behind_serial number world (noting world world operation (read_of request rest)) outcome (Some (executed_entry world (read_of request rest) operation outcome world))))
   turned_sits number now _ (Gave request operation rest outcome after left goes reads ran) answer makes =
       let entry : Entry = executed_entry world (read_of request rest) operation outcome after in

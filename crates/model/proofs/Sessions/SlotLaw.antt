@@ -13,7 +13,7 @@ use Rattle.model_tree.specs.declared.status.Status.TheVariants as status
 use Rattle.model_tree.specs.Refusals.Refusal.{Refusals, first_refusal}
 use Rattle.model.specs.Operations.Operation.{ExchangeIdArguments, CreateSessionArguments, SequenceArguments}
 use Rattle.model.specs.Operations.Answer.{CreateSessionAnswer}
-use Rattle.model.specs.Sessions.Session.{SessionLimits, Client, Slot, Session, Table, Begun, Refuses, Replays, Runs, Free, Running, Kept, Unkept, SlotState, is_running_state, session_id, is_session, slot_at, no_slot, empty_table, has_state, without_unconfirmed, without_client, is_full_of_clients, new_record, exchange_by, exchange_id, is_confirmed_of, exchange_flags, has_only, create_refusals, create_unless, create_again, create_by, create_session, new_session, staying, is_of_clients, replaced_by, is_full_of_sessions, CreateSessionOutcome, next_number, destroy_by, destroy_session, is_running, destroy_client_by, destroy_client_id, is_client, reclaim_by, reclaim_complete, begin_new, begin_slot, begin_by, begin, with_slot, started, finished_slot, kept_state, slots_given, finish, without_where, begin_held, begin_dead, yielding}
+use Rattle.model.specs.Sessions.Session.{SessionLimits, Client, Slot, Session, Table, Begun, Refuses, Replays, Runs, Free, Running, Kept, SlotState, is_running_state, session_id, is_session, slot_at, no_slot, empty_table, has_state, without_unconfirmed, without_client, is_full_of_clients, new_record, exchange_by, exchange_id, is_confirmed_of, exchange_flags, has_only, create_refusals, create_unless, create_again, create_by, create_session, new_session, staying, is_of_clients, replaced_by, is_full_of_sessions, fore_channel, CreateSessionOutcome, next_number, destroy_by, destroy_session, is_running, destroy_client_by, destroy_client_id, is_client, reclaim_by, reclaim_complete, begin_new, begin_slot, begin_by, begin, with_slot, started, finished_slot, finish, without_where, limits_for, persists, begin_held, begin_dead, yielding}
 use Rattle.model.specs.Sessions.SessionRuns.{Call, Exchanges, Creates, Destroys, DestroysClient, Reclaims, Begins, Finishes, after, runs_on, number_on, started_by, numbers_on, CountsFrom, OthersBetween, EverySlot}
 use Rattle.model_tree.proofs.Facts.BooleanLaws.{second_of_neither}
 use Rattle.model.proofs.Operations.RefusalLaws.{none_earlier}
@@ -228,7 +228,7 @@ create_unless_stands limits id slot last arguments client table None e stands =
       made = All-append (IsMade (made + 1)) (staying client table) session (All-made_before made (staying client table) fewer.made) (omega arith);
       small = omega arith;
       each = All-append (HasLast id slot last) (staying client table) session fewer.each
-          (new_has_last id slot last made session (slots_given limits arguments client table) stands.new_or_old (omega arith) (omega arith) refl);
+          (new_has_last id slot last made session (fore_channel (limits_for limits (persists arguments client table)) arguments.fore).max_requests stands.new_or_old (omega arith) (omega arith) refl);
       new_or_old = new_or_old_later id last made stands.new_or_old;
     }
 
@@ -273,25 +273,25 @@ put_length session place new = length-set session.slots place new
 
 -- The reply to what ran leaves each slot's number
 
-finished_by : (session : Session) (place slot : ℕ) (holds : Bool) (reply : List ℕ) (b : Bool) → (slot == place) ≡ b → slot < length session.slots
-    → (slot_at (finished_slot place holds reply session) slot).last ≡ (slot_at session slot).last
-finished_by session place slot holds reply true e within =
+finished_by : (session : Session) (place slot : ℕ) (reply : List ℕ) (b : Bool) → (slot == place) ≡ b → slot < length session.slots
+    → (slot_at (finished_slot place reply session) slot).last ≡ (slot_at session slot).last
+finished_by session place slot reply true e within =
     let same : slot ≡ place = eqb-true slot place e in
-    put_last session place slot (record (slot_at session place) { state = kept_state holds reply }) (slot_at session slot).last same
+    put_last session place slot (record (slot_at session place) { state = Kept reply }) (slot_at session slot).last same
     (ap (λ (n : ℕ). (slot_at session n).last) (sym same)) within
-finished_by session place slot holds reply false e within =
-    put_other session place slot (record (slot_at session place) { state = kept_state holds reply }) (eqb-false slot place e)
+finished_by session place slot reply false e within =
+    put_other session place slot (record (slot_at session place) { state = Kept reply }) (eqb-false slot place e)
 
 abbrev Has : List ℕ → ℕ → ℕ → ℕ → Session → Type 0
 Has id slot last made session = IsMade made session × HasLast id slot last session
 
-finished_has : (id : List ℕ) (slot last made : ℕ) (name : List ℕ) (place : ℕ) (holds : Bool) (reply : List ℕ) (session : Session) → HasLast id slot last session
-    → HasLast id slot last (cond (is_session name session) (finished_slot place holds reply session) session)
-finished_has id slot last made name place holds reply session has =
-    both (HasLast id slot last) (is_session name session) (finished_slot place holds reply session) session
+finished_has : (id : List ℕ) (slot last made : ℕ) (name : List ℕ) (place : ℕ) (reply : List ℕ) (session : Session) → HasLast id slot last session
+    → HasLast id slot last (cond (is_session name session) (finished_slot place reply session) session)
+finished_has id slot last made name place reply session has =
+    both (HasLast id slot last) (is_session name session) (finished_slot place reply session) session
     (λ named within.
-    let inside : slot < length session.slots = rw (put_length session place (record (slot_at session place) { state = kept_state holds reply })) at within in
-    finished_by session place slot holds reply (slot == place) refl inside ∙ has named inside)
+    let inside : slot < length session.slots = rw (put_length session place (record (slot_at session place) { state = Kept reply })) at within in
+    finished_by session place slot reply (slot == place) refl inside ∙ has named inside)
     has
 
 made_still : (made : ℕ) (test : Session → Bool) (change : Session → Session) → ((session : Session) → (change session).serial ≡ session.serial)
@@ -304,10 +304,10 @@ pub finish_stands : (id : List ℕ) (slot last : ℕ) (name : List ℕ) (place :
 unfolding finish
 finish_stands id slot last name place holds reply table stands = record {
   made = All-map (IsMade table.session_serial) (IsMade table.session_serial) _ table.sessions
-      (made_still table.session_serial (is_session name) (finished_slot place holds reply) (λ session. refl)) stands.made;
+      (made_still table.session_serial (is_session name) (finished_slot place reply) (λ session. refl)) stands.made;
   small = stands.small;
   each = All-map (HasLast id slot last) (HasLast id slot last) _ table.sessions
-      (finished_has id slot last table.session_serial name place holds reply) stands.each;
+      (finished_has id slot last table.session_serial name place reply) stands.each;
   new_or_old = stands.new_or_old;
 }
 
@@ -344,12 +344,6 @@ slot_runs uid count arguments session slot (Kept reply) e = kept_runs (arguments
         → arguments.sequence ≡ next_number slot.last
     kept_runs true e = absurd (cond_never (uid == slot.uid) (Replays reply) (Refuses status.SeqFalseRetry) (replays_not reply) (refuses_not status.SeqFalseRetry) e)
     kept_runs false e = new_runs count arguments session slot e
-slot_runs uid count arguments session slot Unkept e = unkept_runs (arguments.sequence == slot.last) e
-  where
-    unkept_runs : (b : Bool) → cond b (Refuses (cond (uid == slot.uid) status.RetryUncachedRep status.SeqFalseRetry)) (begin_new count arguments session slot) ≡ Runs
-        → arguments.sequence ≡ next_number slot.last
-    unkept_runs true e = absurd (refuses_not _ e)
-    unkept_runs false e = new_runs count arguments session slot e
 
 slot_rests : (uid count : ℕ) (arguments : SequenceArguments) (session : Session) (slot : Slot) (state : SlotState)
     → begin_slot uid count arguments session slot state ≡ Runs → is_running_state state ≡ false
@@ -357,7 +351,6 @@ slot_rests uid count arguments session slot Free e = refl
 slot_rests uid count arguments session slot Running e =
     absurd (cond_never (arguments.sequence == slot.last) (Refuses status.Delay) (Refuses status.SeqMisordered) (refuses_not status.Delay) (refuses_not status.SeqMisordered) e)
 slot_rests uid count arguments session slot (Kept reply) e = refl
-slot_rests uid count arguments session slot Unkept e = refl
 
 pub record RunsOn (arguments : SequenceArguments) (known : Option Session) : Type 0 where
   pub session : Session

@@ -1,5 +1,5 @@
 -- Which slots run, after each call on the table of sessions.
-use Rattle.std.proofs.Common.{◌≡◌, ℕ, zero, suc, ◌<◌, ◌≤◌, inl, inr, Bool, true, false, not, cond, ◌&&◌, ◌||◌, ◌==◌, nat_lt, nat_le, List, [], ◌∷◌, ◌++◌, map, filter, length, get_or, set, replicate, find, Option, None, Some, refl, sym, ap, ◌∙◌, subst, arith, bytes_eq, eqb-true, eq-eqb, ltb-true, get_or-set_same, get_or-set_other}
+use Rattle.std.proofs.Common.{◌≡◌, ℕ, zero, suc, ◌<◌, ◌≤◌, inl, inr, Bool, true, false, not, cond, ◌&&◌, ◌||◌, ◌==◌, nat_lt, List, [], ◌∷◌, ◌++◌, map, filter, length, get_or, set, replicate, find, Option, None, Some, refl, sym, ap, ◌∙◌, subst, arith, bytes_eq, eqb-true, eq-eqb, ltb-true, get_or-set_same, get_or-set_other}
 use Rattle.std.specs.List.{list_any}
 use Rattle.std.proofs.lemmas.Bool.{cases_eq, and_parts, not-false, or_parts}
 use Rattle.std.proofs.lemmas.Slice.Eq.{bytes_eq-Decides}
@@ -9,7 +9,7 @@ use Rattle.model_tree.specs.declared.status.Status.TheVariants as status
 use Rattle.model.specs.Operations.Answer.{CreateSessionAnswer}
 use Rattle.model.specs.Operations.Operation.{CreateSessionArguments, SequenceArguments}
 use Rattle.model_tree.specs.Refusals.Refusal.{first_refusal}
-use Rattle.model.specs.Sessions.Session.{SessionLimits, Client, Slot, SlotState, Free, Running, Kept, Unkept, Session, Table, Refuses, Runs, no_slot, slot_at, is_session, is_client, is_running, is_running_state, with_slot, destroy_by, destroy_session, create_session, create_by, create_again, create_unless, create_refusals, CreateSessionOutcome, is_of_clients, replaced_by, staying, next_number, new_session, slots_given, begin, begin_by, begin_slot, started, finish, kept_state}
+use Rattle.model.specs.Sessions.Session.{SessionLimits, Client, Slot, SlotState, Free, Running, Kept, Session, Table, Refuses, Runs, no_slot, slot_at, is_session, is_client, is_running, is_running_state, with_slot, destroy_by, destroy_session, create_session, create_by, create_again, create_unless, create_refusals, CreateSessionOutcome, is_of_clients, replaced_by, staying, next_number, new_session, fore_channel, begin, begin_by, begin_slot, started, finish, limits_for, persists}
 use Rattle.model.specs.Sessions.SlotsHeld.{runs_at, is_slot_running, is_on}
 use Rattle.model.proofs.Sessions.SlotLaw.{id_of, cond_runs, cond_never, refuses_not, dead_never}
 use Rattle.model.proofs.Sessions.TableCalls.{either, found_passes}
@@ -142,18 +142,14 @@ unfolding finish
 finished name here holds reply table id place = by_place (is_on (Some (name, here)) id place) refl
   where
     new : Session → Slot
-    new session = record (slot_at session here) { state = kept_state holds reply }
-
-    finished_rests : (keeps : Bool) → is_running_state (cond keeps (Kept reply) Unkept) ≡ false
-    finished_rests true = refl
-    finished_rests false = refl
+    new session = record (slot_at session here) { state = Kept reply }
 
     rests : (session : Session) → runs_at name here (changed_at name here new session) ≡ false
     rests session = by_name (is_session name session) refl
       where
         by_name : (b : Bool) → is_session name session ≡ b → runs_at name here (cond b (with_slot here (new session) session) session) ≡ false
         by_name false is = not_here name here session is
-        by_name true is = rests_here name here (with_slot here (new session) session) (kept_rests session.slots here (new session) (finished_rests (holds || nat_le (length reply) 16384)))
+        by_name true is = rests_here name here (with_slot here (new session) session) (kept_rests session.slots here (new session) refl)
 
     none_here : is_on (Some (name, here)) id place ≡ true → (session : Session) → runs_at id place (changed_at name here new session) ≡ false
     none_here is session =
@@ -185,7 +181,7 @@ created_same limits arguments client table None is id place =
     let three = none_earlier _ status.TooSmall _ two.1 in
     let four = none_earlier (list_any bad table.sessions) status.Delay _ three.1 in
     any-append (runs_at id place) (staying client table) (new_session limits arguments client table)
-    (rests_here id place (new_session limits arguments client table) (fresh_rests (slots_given limits arguments client table) place))
+    (rests_here id place (new_session limits arguments client table) (fresh_rests (fore_channel (limits_for limits (persists arguments client table)) arguments.fore).max_requests place))
     ∙ any-filter (runs_at id place) (λ x. not (is_of_clients (replaced_by client table) x)) bad table.sessions ends four.0
   where
     bad : Session → Bool
@@ -295,7 +291,6 @@ module _ (table : Table) (one_each : (id : List ℕ) → size (is_session id) ta
   slot_rests uid count arguments session slot Running e =
       absurd (cond_never (arguments.sequence == slot.last) (Refuses status.Delay) (Refuses status.SeqMisordered) (refuses_not status.Delay) (refuses_not status.SeqMisordered) e)
   slot_rests uid count arguments session slot (Kept reply) e = refl
-  slot_rests uid count arguments session slot Unkept e = refl
 
   rested : (uid count : ℕ) (arguments : SequenceArguments) (seats : Seats) (known : Option Session) → begin_by uid count arguments seats known ≡ Runs → Rested arguments known
   rested uid count arguments seats None e = absurd (dead_never uid arguments (seat_of arguments.session seats) e)

@@ -427,17 +427,17 @@ module _ (limits : ServerLimits) (world : World) (held : Held limits world) (her
       → Held limits (has_run world here request operation (in_room world request (operation_of operation) left)).world
   ran request goes operation (Gives (Refused number reason) after left) leaves =
       went request goes after (noting world after operation left) (noted limits _ world request after left leaves) (Refused number reason) (Some (executed_entry world request operation (Refused number reason) after))
-  ran request goes operation (Gives (Done answer) after left) leaves = by_room _ (has_room world.limits.reply_bytes request (operation_of operation) (Done answer))
+  ran request goes operation (Gives (Done answer) after left) leaves = by_room (has_room world request (Done answer))
     where
-      refused : (reason : Status) → Held limits (has_run world here request operation (refuses world request (operation_of operation) reason)).world
-      refused reason = went request goes world (noting world world operation request)
-          (noted limits _ world request world request (leaves_same limits world held request (running_on request goes))) (Refused (operation_of operation) reason)
-          (Some (executed_entry world request operation (Refused (operation_of operation) reason) world))
+      too_big : Held limits (has_run world here request operation (refuses world request (operation_of operation) status.RepTooBig)).world
+      too_big = went request goes world (noting world world operation request)
+          (noted limits _ world request world request (leaves_same limits world held request (running_on request goes))) (Refused (operation_of operation) status.RepTooBig)
+          (Some (executed_entry world request operation (Refused (operation_of operation) status.RepTooBig) world))
 
-      by_room : (reason : Status) (room : Bool) → Held limits (has_run world here request operation
-          (cond room (Gives (Done answer) after left) (refuses world request (operation_of operation) reason))).world
-      by_room reason true = went request goes after (noting world after operation left) (noted limits _ world request after left leaves) (Done answer) (Some (executed_entry world request operation (Done answer) after))
-      by_room reason false = refused reason
+      by_room : (room : Bool) → Held limits (has_run world here request operation
+          (cond room (Gives (Done answer) after left) (refuses world request (operation_of operation) status.RepTooBig))).world
+      by_room true = went request goes after (noting world after operation left) (noted limits _ world request after left leaves) (Done answer) (Some (executed_entry world request operation (Done answer) after))
+      by_room false = too_big
   ran request goes operation (Replays result session slot) none =
       replied (marks.framed (reply_text request.xid (Success result)))
       (λ id place. goes.same id place ∙ ap (λ (s : Option (List ℕ × ℕ)). is_on s id place) none)

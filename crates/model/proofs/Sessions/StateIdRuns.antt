@@ -199,9 +199,9 @@ module _ (run : ℕ) (small_run : run < 2 ^ 32) (world : World) (numbered : Numb
       ended_goes (Done Answer.PutRootFh) world request (numbered.busy here request there) refl refl numbered.counted None refl request.answered request.results last true
   turned now _ (Unread request operation reason goes) =
       went (Refused operation reason) world request (its_run request goes) refl refl numbered.counted None refl
-  turned now _ (TooBig request operation rest reason goes reads) =
-      gave (read_of request rest) operation (Refused (operation_of operation) reason) world (read_of request rest) (its_run request goes) (
-        same_goes run small_run world numbered (read_of request rest) (its_run request goes) operation (Refused (operation_of operation) reason) (inr refl),
+  turned now _ (TooBig request operation rest goes reads) =
+      gave (read_of request rest) operation (Refused (operation_of operation) status.RepTooBig) world (read_of request rest) (its_run request goes) (
+        same_goes run small_run world numbered (read_of request rest) (its_run request goes) operation (Refused (operation_of operation) status.RepTooBig) (inr refl),
         its_run request goes,
         refl,
         refl,

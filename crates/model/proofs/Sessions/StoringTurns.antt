@@ -53,8 +53,8 @@ turned_alone world number now _ Idles = inl refl
 turned_alone world number now _ (Says bytes xid reply waits) = inl refl
 turned_alone world number now _ (Closes request last there ended) = inl refl
 turned_alone world number now _ (Unread request operation reason goes) = behind_alone number world request (Refused operation reason) None
-turned_alone world number now _ (TooBig request operation rest reason goes reads) =
-    behind_alone number world (noting world world operation (read_of request rest)) (Refused (operation_of operation) reason) _
+turned_alone world number now _ (TooBig request operation rest goes reads) =
+    behind_alone number world (noting world world operation (read_of request rest)) (Refused (operation_of operation) status.RepTooBig) _
 turned_alone world number now _ (Gave request operation rest outcome after left goes reads ran) = behind_alone number after (noting world after operation left) outcome _
 turned_alone world number now _ (Repeats request operation rest result session slot goes reads ran) = inl refl
 

@@ -12,7 +12,7 @@ use Rattle.model_tree.specs.declared.status.Status.TheVariants as status
 use Rattle.model_tree.specs.Refusals.Refusal.{first_refusal}
 use Rattle.model.specs.Operations.Operation.{ExchangeIdArguments, CreateSessionArguments, SequenceArguments}
 use Rattle.model.specs.Operations.Answer.{CreateSessionAnswer, ExchangeIdAnswer}
-use Rattle.model.specs.Sessions.Session.{SessionLimits, Client, Slot, Session, Table, Begun, Refuses, Replays, Runs, Running, slot_at, no_slot, empty_table, without_unconfirmed, without_client, is_full_of_clients, new_record, exchange_by, exchange_id, is_confirmed_of, is_unconfirmed_of, is_unconfirmed_client, yielding, exchange_flags, has_only, has_state, is_client, is_session, create_session_answer, create_refusals, create_unless, create_again, create_by, create_session, new_session, staying, is_full_of_sessions, is_too_small, is_of_clients, replaced_by, session_flags, is_running, CreateSessionOutcome, next_number, destroy_by, destroy_session, destroy_client_by, destroy_client_id, reclaim_by, reclaim_complete, begin, with_slot, started, finish, kept_state, limits_for, persists}
+use Rattle.model.specs.Sessions.Session.{SessionLimits, Client, Slot, Session, Table, Begun, Refuses, Replays, Runs, Running, Kept, slot_at, no_slot, empty_table, without_unconfirmed, without_client, is_full_of_clients, new_record, exchange_by, exchange_id, is_confirmed_of, is_unconfirmed_of, is_unconfirmed_client, yielding, exchange_flags, has_only, has_state, is_client, is_session, create_session_answer, create_refusals, create_unless, create_again, create_by, create_session, new_session, staying, is_full_of_sessions, is_too_small, is_of_clients, replaced_by, session_flags, is_running, CreateSessionOutcome, next_number, destroy_by, destroy_session, destroy_client_by, destroy_client_id, reclaim_by, reclaim_complete, begin, with_slot, started, finish, limits_for, persists}
 use Rattle.model.specs.Sessions.SessionRuns.{Call, Exchanges, Creates, Destroys, DestroysClient, Reclaims, Begins, Finishes, after, started_by}
 use Rattle.model.specs.Sessions.SessionTables.{has_serial, IsTable, after_calls, EveryTable}
 use Rattle.model.proofs.Sessions.SlotLaw.{session_id-serial, id_of}
@@ -221,7 +221,7 @@ finish_holds : (limits : SessionLimits) (id : List ℕ) (place : ℕ) (seat : Bo
     → Holds limits (finish id place seat reply table)
 unfolding finish
 finish_holds limits id place seat reply table holds =
-    (holds.0, slotted_holds id place (λ session. record (slot_at session place) { state = kept_state seat reply }) limits table.session_serial table.sessions holds.1)
+    (holds.0, slotted_holds id place (λ session. record (slot_at session place) { state = Kept reply }) limits table.session_serial table.sessions holds.1)
 
 -- Every call, and every list of them
 

@@ -7,7 +7,7 @@ use Rattle.model_tree.specs.declared.status.Status.{Status}
 use Rattle.model_tree.specs.Refusals.Refusal.{first_refusal}
 use Rattle.model.specs.Operations.Operation.{ExchangeIdArguments, CreateSessionArguments, SequenceArguments}
 use Rattle.model.specs.Operations.Answer.{CreateSessionAnswer, ExchangeIdAnswer}
-use Rattle.model.specs.Sessions.Session.{SessionLimits, Client, Slot, Session, Table, Begun, Refuses, Replays, Runs, Running, slot_at, client_number, with_clients, with_sessions, without_unconfirmed, without_client, new_client, with_new_client, is_full_of_clients, new_record, exchange_by, exchange_id, is_confirmed_of, is_unconfirmed_of, exchange_flags, has_only, has_state, is_client, is_session, confirmed_with, create_session_answer, create_refusals, create_unless, create_again, create_by, create_session, new_session, staying, is_of_clients, replaced_by, is_running, CreateSessionOutcome, next_number, destroy_by, destroy_session, destroy_client_by, destroy_client_id, reclaim_by, reclaim_complete, begin, started, finish, kept_state, yielding, is_unconfirmed_client}
+use Rattle.model.specs.Sessions.Session.{SessionLimits, Client, Slot, Session, Table, Begun, Refuses, Replays, Runs, Running, Kept, slot_at, client_number, with_clients, with_sessions, without_unconfirmed, without_client, new_client, with_new_client, is_full_of_clients, new_record, exchange_by, exchange_id, is_confirmed_of, is_unconfirmed_of, exchange_flags, has_only, has_state, is_client, is_session, confirmed_with, create_session_answer, create_refusals, create_unless, create_again, create_by, create_session, new_session, staying, is_of_clients, replaced_by, is_running, CreateSessionOutcome, next_number, destroy_by, destroy_session, destroy_client_by, destroy_client_id, reclaim_by, reclaim_complete, begin, started, finish, held_by, yielding, is_unconfirmed_client}
 use Rattle.model.specs.Sessions.SessionRuns.{Exchanges, Creates, Destroys, DestroysClient, Reclaims, Begins, Finishes, started_by}
 use Rattle.model.specs.Sessions.SessionTables.{has_serial, was_there, is_new, session_was_there, is_new_session, GivesNew, EveryCallGivesNew}
 use Rattle.model.proofs.Sessions.TableLaws.{all-filter, all-append, all-map, all-weaker, confirms, stays}
@@ -227,7 +227,7 @@ module _ (before : Table) where
   finish_gives : (id : List ℕ) (place : ℕ) (holds : Bool) (reply : List ℕ) (table : Table) → GivesNew before table → GivesNew before (finish id place holds reply table)
   unfolding finish
   finish_gives id place holds reply table gives =
-      let slot : Session → Slot = λ session. record (slot_at session place) { state = kept_state holds reply } in
+      let slot : Session → Slot = λ session. record (slot_at session place) { state = Kept reply } in
       reseated _ (finish id place holds reply table).seats (changed_sessions table (slotted id place slot) (slot_serial id place slot) gives)
 
 pub every_call_gives_new : EveryCallGivesNew

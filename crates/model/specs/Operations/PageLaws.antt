@@ -1,9 +1,9 @@
 -- What a page of READDIR is: RFC 8881, section 18.23.
-use Rattle.std.specs.Prelude.{ℕ, Bool, true, ◌≡◌, ◌≤◌, ◌<◌, ◌↔◌, List, [], ◌∷◌, ◌++◌, length}
+use Rattle.std.specs.Prelude.{ℕ, Bool, true, ◌≡◌, ◌≤◌, ◌<◌, ◌↔◌, List, [], ◌∷◌, ◌++◌, min, length}
 use Rattle.model.specs.Operations.Answer.{Entry}
 use Rattle.model_tree.specs.declared.limits.Limits.{Limits}
 use Rattle.model.specs.Operations.Operation.{ReadDirArguments}
-use Rattle.model.specs.Operations.ReadDir.{all_entries, page, page_bytes}
+use Rattle.model.specs.Operations.ReadDir.{all_entries, page}
 use Rattle.model.specs.Operations.State.{State}
 use Rattle.model.specs.Wire.WireAnswers as answers
 
@@ -19,10 +19,10 @@ pub record IsPage (limits : Limits) (state : State) (arguments : ReadDirArgument
   -- unless it is empty, it fits, as it is encoded
   pub fits : 0 < length (page limits state arguments).entries
       → page_size (page limits state arguments).entries (page limits state arguments).is_end
-      ≤ page_bytes limits arguments
+      ≤ min arguments.max_count limits.transfer_bytes
   -- and no further entry would fit
   pub longest : (next : Entry) (others : List Entry) (is_end : Bool) → rest ≡ next ∷ others
-      → page_bytes limits arguments
+      → min arguments.max_count limits.transfer_bytes
       < page_size ((page limits state arguments).entries ++ next ∷ []) is_end
   -- it reports the end exactly if no entry is left
   pub ends : ((page limits state arguments).is_end ≡ true) ↔ (rest ≡ [])

@@ -82,15 +82,11 @@ all_entries limits state arguments =
     map (listed_entry limits state.tree state.context.cred arguments.bitmap)
     (names_after arguments.cookie (names_at state.tree (current state)))
 
--- the bytes that were asked for, at most 65,536, a page of no entries, and what that leaves:
--- besides the entries there are the verifier, the bool that ends them and the one that reports the
--- end
-
-abbrev pub most_page_bytes : Limits → ℕ
-most_page_bytes limits = min limits.transfer_bytes 65536
+-- the bytes that were asked for, a page of no entries, and what that leaves: besides the entries
+-- there are the verifier, the bool that ends them and the one that reports the end
 
 abbrev pub page_bytes : Limits → ReadDirArguments → ℕ
-page_bytes limits arguments = min arguments.max_count (most_page_bytes limits)
+page_bytes limits arguments = min arguments.max_count limits.transfer_bytes
 
 abbrev pub empty_page_bytes : ℕ
 empty_page_bytes = 16

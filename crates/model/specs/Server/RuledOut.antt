@@ -1,5 +1,5 @@
 -- Servers that these definitions rule out, each by one law.
-use Rattle.std.specs.Prelude.{◌≡◌, ◌≢◌, ℕ, zero, suc, ◌+◌, ◌<◌, Bool, true, false, List, [], ◌∷◌, ◌++◌, length, take, slice_get, find, Option, None, Some, ◌⊎◌, ◌||◌, nat_le, if◌then◌else◌}
+use Rattle.std.specs.Prelude.{◌≡◌, ◌≢◌, ℕ, zero, suc, ◌+◌, ◌<◌, Bool, true, false, List, [], ◌∷◌, ◌++◌, length, take, slice_get, find, Option, None, Some, ◌⊎◌}
 use Rattle.std.specs.List.{IsAmong}
 use Rattle.model_tree.specs.Seats.Seats.{Seats}
 use Rattle.model_tree.specs.Trees.Keyed.{at}
@@ -8,11 +8,9 @@ use Rattle.model.specs.Operations.Operation.{Argument, SequenceArguments}
 use Rattle.model.specs.Wire.Record.{framed}
 use Rattle.model.specs.Wire.Rpc as rpc
 use Rattle.model.specs.Wire.Rpc.{CallRead, NoCall, OtherVersion, Calls, Request, Answers, read_call, request_of, reply_text, Success}
-use Rattle.model.specs.Sessions.Session as sessions
-use Rattle.model.specs.Sessions.Session.{Table, Session, Free, Runs, Replays, begin, finish, is_session, slot_at, next_number}
+use Rattle.model.specs.Sessions.Session.{Table, Session, Kept, Runs, Replays, begin, finish, is_session, slot_at, next_number}
 use Rattle.model_tree.specs.Trees.Tree.{Tree}
 use Rattle.model_tree.specs.declared.status.Status.{Status}
-use Rattle.model_tree.specs.declared.status.Status.TheVariants as status
 use Rattle.model.specs.Server.World.{World, ServerLimits, Entry, InProgress, in_progress, Connection, Waiting, Busy, Replied, Next, Refuses, Reads, next_operation, state_of, outcome_text, status_of, Turned, one, ends, reply_with, hangs_up, hung_up, is_busy}
 use Rattle.model.specs.Server.Runs.{Event, Turns, HangsUp, Takes, StaysDown, MayBeTaken, effect_of, before, IsDurable, is_durable, is_done, RunHistory, Serving, Left, left_after, mounted, executed, MayLeave, Happens, IsRun, IsGoodPrefix, done_with, tree_after}
 
@@ -55,18 +53,18 @@ NoReplyAlone =
     → (happens.defers ≡ false) ⊎ (new.waits ≡ false)
     → (left : Left) → IsAmong new.left left → left ≡ left_after new.world
 
--- One that runs a retry again: if the slot runs or ran this number, whether it keeps the reply or
--- not, nothing runs.
+-- One that runs a retry again: if the slot keeps the reply to this number, nothing runs.
 abbrev pub NoSecondRun : Type 0
 NoSecondRun =
     (uid count : ℕ) (arguments : SequenceArguments) (table : Table) (session : Session)
+    (reply : List ℕ)
     → find (is_session arguments.session) table.sessions ≡ Some session
-    → (slot_at session arguments.slot).state ≢ Free
+    → (slot_at session arguments.slot).state ≡ Kept reply
     → arguments.sequence ≡ (slot_at session arguments.slot).last
     → begin uid count arguments table ≡ Runs → ⊥
 
--- One that forgets a reply: once it is there, the same number by the same caller is answered by it,
--- if it is held or is short; of a longer one the retry is refused.
+-- One that forgets a reply: once it is kept, held or not, the same number by the same caller is
+-- answered by it.
 abbrev pub NoForgetting : Type 0
 NoForgetting =
     (uid count : ℕ) (arguments : SequenceArguments) (table : Table) (session : Session)
@@ -76,8 +74,7 @@ NoForgetting =
     → arguments.sequence ≡ (slot_at session arguments.slot).last
     → uid ≡ (slot_at session arguments.slot).uid
     → begin uid count arguments (finish arguments.session arguments.slot holds reply table)
-    ≡ (if holds || nat_le (length reply) 16384 then Replays reply
-    else sessions.Refuses status.RetryUncachedRep)
+    ≡ Replays reply
 
 -- One whose slots take a number other than the next: what runs has the number after the slot's
 -- last.

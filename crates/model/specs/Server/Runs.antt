@@ -8,7 +8,7 @@ use Rattle.model.specs.Operations.Answer.{Outcome}
 use Rattle.model_tree.specs.Trees.Keyed.{at}
 use Rattle.model.specs.Operations.Operation.{Argument}
 use Rattle.model_tree.specs.Seats.Seats.{HeldReply, Seats, SeatsApart, run_of, has_seat, held_at}
-use Rattle.model.specs.Sessions.Session.{Slot, SlotState, Free, Running, Kept, Unkept, Session, Table, is_session, slot_at, held_reply}
+use Rattle.model.specs.Sessions.Session.{Slot, SlotState, Free, Running, Kept, Session, Table, is_session, slot_at, held_reply}
 use Rattle.model_tree.specs.Trees.Stamp.{stamp, next_stamp}
 use Rattle.model.specs.Operations.Step.{alters, permitted}
 use Rattle.model_tree.specs.Trees.Tree.{Tree}
@@ -79,7 +79,6 @@ abbrev pub kept_in : Slot → SlotState → Option HeldReply
 kept_in slot Free = None
 kept_in slot Running = None
 kept_in slot (Kept reply) = Some (held_reply reply slot)
-kept_in slot Unkept = None
 
 abbrev pub held_of_session : ℕ → Option Session → Option HeldReply
 held_of_session place None = None

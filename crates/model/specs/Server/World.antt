@@ -14,7 +14,7 @@ use Rattle.model_tree.specs.Trees.Keyed.{Keyed, at, is_key, with, without}
 use Rattle.model_tree.specs.declared.limits.Limits.{Limits}
 use Rattle.model.specs.Sessions.Opens.{Opens, no_opens}
 use Rattle.model.specs.Operations.Operation.{Argument, SequenceArguments, operation_of}
-use Rattle.model.specs.Operations.OperationNumber.{OP_ACCESS, OP_EXCHANGE_ID, OP_CREATE_SESSION, OP_DESTROY_SESSION, OP_SEQUENCE, OP_DESTROY_CLIENTID, OP_RECLAIM_COMPLETE, OP_CREATE, OP_OPEN, OP_REMOVE, OP_RENAME, OP_SETATTR, OP_WRITE}
+use Rattle.model.specs.Operations.OperationNumber.{OP_ACCESS, OP_EXCHANGE_ID, OP_CREATE_SESSION, OP_DESTROY_SESSION, OP_SEQUENCE, OP_DESTROY_CLIENTID, OP_RECLAIM_COMPLETE}
 use Rattle.model.specs.Wire.Record.{RecordLimits, Prefix, Partial, Refused, Whole, prefix, framed}
 use Rattle.model_tree.specs.Refusals.Refusal.{first_refusal}
 use Rattle.model.specs.Wire.Rpc.{CallRead, NoCall, OtherVersion, Calls, read_call, is_call_read, Request, Answers, Runs, request_of, Reply, VersionRefused, Success, Compound, reply_text, compound_text, is_empty}
@@ -36,8 +36,7 @@ pub record ServerLimits : Type 0 where
   pub records : RecordLimits
   pub connections : ℕ
   pub settings : Settings
-  -- bytes of a reply's record up to the end of an OK result, the record's header not counted:
-  -- before a session's are known, and of a request that changes the tree
+  -- bytes of a reply's record up to the end of an OK result, the record's header not counted
   pub reply_bytes : ℕ
 
 -- A COMPOUND of which an operation has run. `rest` are the bytes of its further operations,
@@ -52,10 +51,6 @@ pub record InProgress : Type 0 where
   pub context : Context
   -- the session and the slot that run it
   pub slot : Option (List ℕ × ℕ)
-  -- the bytes that its reply's record may have up to the end of an OK result, the record's header
-  -- not counted; and those of its result, if the client wants that cached
-  pub room : ℕ
-  pub cached : Option ℕ
   -- an operation of it made a change that has to last
   pub altered : Bool
   -- the status of its last result, once that is there and a seat is to hold the reply
@@ -210,14 +205,11 @@ tabled world request operation answer (Some reason, table) =
     refuses (with_table world table) request operation reason
 tabled world request operation answer (None, table) = gives (with_table world table) request answer
 
--- From SEQUENCE on the request is the slot's, its client the session's, and its reply has the
--- session's room: 16 bytes less than the record, for the record's header and a refused result
+-- From SEQUENCE on the request is the slot's, and its client the session's
 abbrev pub of_session : InProgress → SequenceArguments → Session → InProgress
 of_session request arguments session = record request {
   context = record request.context { client = session.client };
   slot = Some (arguments.session, arguments.slot);
-  room = session.reply_bytes - 16;
-  cached = if arguments.cache_this then session.cached_bytes else None;
 }
 
 abbrev pub started_in : World → InProgress → SequenceArguments → Option Session → HasRun
@@ -294,37 +286,9 @@ reply_with request outcome = reply_text request.xid
     (Success (compound_text (status_of outcome) request.tag (request.answered + 1)
     (request.results ++ outcome_text outcome)))
 
--- those that may change the tree
-abbrev pub may_alter : (operation : ℕ) → Bool
-may_alter operation =
-    operation == OP_CREATE || operation == OP_OPEN || operation == OP_REMOVE
-    || operation == OP_RENAME || operation == OP_SETATTR || operation == OP_WRITE
-
--- The room that the reply has for the result of an operation: that of a request that changes the
--- tree is short, so that its slot keeps it and a seat may hold it.
-abbrev pub room_for : (reply_bytes : ℕ) → InProgress → (operation : ℕ) → ℕ
-room_for reply_bytes request operation =
-    if request.altered || may_alter operation then reply_bytes else request.room
-
-abbrev pub has_reply_room : (reply_bytes : ℕ) → InProgress → (operation : ℕ) → Outcome → Bool
-has_reply_room reply_bytes request operation outcome =
-    nat_le (length (reply_with request outcome)) (room_for reply_bytes request operation)
-
--- the result of the COMPOUND comes after 24 bytes of its reply
-abbrev pub is_cached : (cached : Option ℕ) → (reply : List ℕ) → Bool
-is_cached None reply = true
-is_cached (Some most) reply = nat_le (length reply) (most + 24)
-
-abbrev pub has_room : (reply_bytes : ℕ) → InProgress → (operation : ℕ) → Outcome → Bool
-has_room reply_bytes request operation outcome =
-    has_reply_room reply_bytes request operation outcome
-    && is_cached request.cached (reply_with request outcome)
-
--- why it has none
-abbrev pub too_big : (reply_bytes : ℕ) → InProgress → (operation : ℕ) → Outcome → Status
-too_big reply_bytes request operation outcome =
-    if has_reply_room reply_bytes request operation outcome then status.RepTooBigToCache
-    else status.RepTooBig
+abbrev pub has_room : World → InProgress → Outcome → Bool
+has_room world request outcome =
+    nat_le (length (reply_with request outcome)) world.limits.reply_bytes
 
 -- The last test of all (section 15.1.3): an OK result for which the reply has no room is refused,
 -- and nothing changes.
@@ -332,10 +296,8 @@ abbrev pub in_room : World → InProgress → (operation : ℕ) → HasRun → H
 in_room world request operation (Gives (Outcome.Refused number reason) after left) =
     Gives (Outcome.Refused number reason) after left
 in_room world request operation (Gives (Outcome.Done answer) after left) =
-    if has_room world.limits.reply_bytes request operation (Outcome.Done answer)
-    then Gives (Outcome.Done answer) after left
-    else refuses world request operation
-    (too_big world.limits.reply_bytes request operation (Outcome.Done answer))
+    if has_room world request (Outcome.Done answer) then Gives (Outcome.Done answer) after left
+    else refuses world request operation status.RepTooBig
 in_room world request operation (Replays result session slot) = Replays result session slot
 
 -- One turn
@@ -501,8 +463,6 @@ in_progress world xid cred compound = record {
   answered = 0;
   results = [];
   slot = None;
-  room = world.limits.reply_bytes;
-  cached = None;
   altered = false;
   ended = None;
   context = record { cred = cred; client = 0; run = world.run; current = None; saved = None };

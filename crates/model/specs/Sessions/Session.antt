@@ -23,13 +23,8 @@ pub record SessionLimits : Type 0 where
   pub slots : ℕ
   pub seat_slots : ℕ
   pub operations : ℕ
-  -- bytes of a request's or a reply's record: the fewest that a session may have, and the most
-  pub least_bytes : ℕ
+  -- bytes of a request's or a reply's record
   pub record_bytes : ℕ
-  -- the most bytes of a reply that CREATE_SESSION says are cached, and whether a result is refused
-  -- that its client wants cached and that is longer (section 2.10.6.4)
-  pub cached_bytes : ℕ
-  pub minds_cached : Bool
 
 -- A client record (section 18.35.4). `sequence` is the number that its next CREATE_SESSION has, and
 -- `kept` the last one's result; `has_reclaimed` says that RECLAIM_COMPLETE for all file systems was
@@ -45,12 +40,11 @@ pub record Client : Type 0 where
   pub kept : Option CreateSessionAnswer
 
 -- What a slot holds (section 2.10.6.1): nothing yet, a request that runs, or the whole COMPOUND
--- result of the last one, if that is not too long
+-- result of the last one
 pub data SlotState : Type 0 where
   Free : SlotState
   Running : SlotState
   Kept : (reply : List ℕ) → SlotState
-  Unkept : SlotState
 
 -- `last` is the number of the last request that ran, 0 at first, and `uid` who sent it
 pub record Slot : Type 0 where
@@ -62,10 +56,6 @@ pub record Session : Type 0 where
   pub client : ℕ
   pub serial : ℕ
   pub max_operations : ℕ
-  -- bytes of a reply's record, and those of a result that a client may want cached, if more are
-  -- refused
-  pub reply_bytes : ℕ
-  pub cached_bytes : Option ℕ
   pub slots : List Slot
 
 -- Which replies seats hold: those of Changes are the replies to requests that made a change which
@@ -161,7 +151,6 @@ abbrev pub is_running_state : SlotState → Bool
 is_running_state Free = false
 is_running_state Running = true
 is_running_state (Kept reply) = false
-is_running_state Unkept = false
 
 abbrev pub is_running : Session → Bool
 is_running session = list_any (λ slot. is_running_state slot.state) session.slots
@@ -335,8 +324,8 @@ is_of_clients numbers session = list_any (λ number. is_of_client number session
 
 abbrev pub is_too_small : SessionLimits → Channel → Bool
 is_too_small limits fore =
-    nat_lt fore.max_request_size limits.least_bytes
-    || nat_lt fore.max_response_size limits.least_bytes
+    nat_lt fore.max_request_size limits.record_bytes
+    || nat_lt fore.max_response_size limits.record_bytes
     || fore.max_operations == 0 || fore.max_requests == 0
 
 -- the sessions that stay, and whether one more finds no place or no serial
@@ -409,23 +398,18 @@ create_refusals limits arguments client table =
     ∷ (is_full_of_sessions limits client table, status.Delay)
     ∷ []
 
--- a server whose seats hold each reply has only short ones
-abbrev pub most_reply : SessionLimits → Holding → ℕ
-most_reply limits holdings.All = limits.least_bytes
-most_reply limits _ = limits.record_bytes
-
 -- a session that has a seat has few slots
 abbrev pub limits_for : SessionLimits → (persists : Bool) → SessionLimits
 limits_for limits false = limits
 limits_for limits true = record limits { slots = min limits.seat_slots limits.slots }
 
--- The channels that are returned, without RDMA. `most_reply` are the bytes of a reply's record.
-abbrev pub fore_channel : SessionLimits → (most_reply : ℕ) → Channel → Channel
-fore_channel limits most_reply asked = record {
+-- the channels that are returned, without RDMA
+abbrev pub fore_channel : SessionLimits → Channel → Channel
+fore_channel limits asked = record {
   header_pad_size = 0;
-  max_request_size = min asked.max_request_size limits.record_bytes;
-  max_response_size = min asked.max_response_size most_reply;
-  max_response_size_cached = min asked.max_response_size_cached limits.cached_bytes;
+  max_request_size = limits.record_bytes;
+  max_response_size = limits.record_bytes;
+  max_response_size_cached = min asked.max_response_size_cached limits.record_bytes;
   max_operations = min asked.max_operations limits.operations;
   max_requests = min asked.max_requests limits.slots;
   rdma_ird = None;
@@ -442,23 +426,17 @@ create_session_answer limits arguments client table = record {
   session = session_id client.number (table.session_serial + 1);
   sequence = arguments.sequence;
   flags = if persists arguments client table then 1 else 0;
-  fore =
-      fore_channel (limits_for limits (persists arguments client table))
-      (most_reply limits table.settings.holding) arguments.fore;
+  fore = fore_channel (limits_for limits (persists arguments client table)) arguments.fore;
   back = record arguments.back { rdma_ird = None };
 }
 
 abbrev pub new_session : SessionLimits → CreateSessionArguments → Client → Table → Session
-new_session limits arguments client table =
-    let most = most_reply limits table.settings.holding in
-    let fore = fore_channel limits most arguments.fore in record {
-      client = client.number;
-      serial = table.session_serial + 1;
-      max_operations = fore.max_operations;
-      reply_bytes = fore.max_response_size;
-      cached_bytes = if limits.minds_cached then Some fore.max_response_size_cached else None;
-      slots = replicate (slots_given limits arguments client table) no_slot;
-    }
+new_session limits arguments client table = record {
+  client = client.number;
+  serial = table.session_serial + 1;
+  max_operations = (fore_channel limits arguments.fore).max_operations;
+  slots = replicate (slots_given limits arguments client table) no_slot;
+}
 
 -- its seat, which holds no reply yet
 abbrev pub new_seat : SessionLimits → CreateSessionArguments → Client → Table → Seat
@@ -610,10 +588,6 @@ begin_slot uid count arguments session slot (Kept reply) =
     if arguments.sequence == slot.last
     then (if uid == slot.uid then Replays reply else Refuses status.SeqFalseRetry)
     else begin_new count arguments session slot
-begin_slot uid count arguments session slot Unkept =
-    if arguments.sequence == slot.last
-    then Refuses (if uid == slot.uid then status.RetryUncachedRep else status.SeqFalseRetry)
-    else begin_new count arguments session slot
 
 -- A session of an earlier run gives only what is held: the held number by the held uid gets the
 -- held result, and all else is refused.
@@ -654,14 +628,10 @@ started uid arguments table = with_sessions
     table.sessions)
     table
 
--- The table once the reply to what ran is made: a slot keeps a result of at most 16,384 bytes, and
--- each that a seat holds.
-abbrev pub kept_state : (holds : Bool) → (reply : List ℕ) → SlotState
-kept_state holds reply = if holds || nat_le (length reply) 16384 then Kept reply else Unkept
-
-abbrev pub finished_slot : ℕ → (holds : Bool) → List ℕ → Session → Session
-finished_slot place holds reply session =
-    with_slot place (record (slot_at session place) { state = kept_state holds reply }) session
+-- the table once the reply to what ran is made
+abbrev pub finished_slot : ℕ → List ℕ → Session → Session
+finished_slot place reply session =
+    with_slot place (record (slot_at session place) { state = Kept reply }) session
 
 -- what a seat of the session holds
 abbrev pub held_reply : List ℕ → Slot → HeldReply
@@ -672,11 +642,10 @@ held_by id place reply seats None = seats
 held_by id place reply seats (Some session) =
     holding id place (held_reply reply (slot_at session place)) seats
 
--- the slot keeps the reply if it is short, and if it is to be held, a seat of the session holds it
--- too
+-- the slot keeps the reply, and if it is to be held, a seat of the session holds it too
 unfoldable pub finish : List ℕ → ℕ → (holds : Bool) → List ℕ → Table → Table
 finish id place holds reply table = record table {
-  sessions = changed_where (is_session id) (finished_slot place holds reply) table.sessions;
+  sessions = changed_where (is_session id) (finished_slot place reply) table.sessions;
   seats =
       if holds then held_by id place reply table.seats (find (is_session id) table.sessions)
       else table.seats;

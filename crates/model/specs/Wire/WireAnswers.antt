@@ -177,7 +177,7 @@ refusals =
     ∷ status.OpenMode ∷ status.BadOwner ∷ status.BadChar ∷ status.BadName ∷ status.OpIllegal
     ∷ status.BadSession ∷ status.BadSlot
     ∷ status.CompleteAlready ∷ status.SeqMisordered ∷ status.SequencePos ∷ status.RepTooBig
-    ∷ status.RepTooBigToCache ∷ status.RetryUncachedRep ∷ status.TooManyOps
+    ∷ status.TooManyOps
     ∷ status.OpNotInSession ∷ status.ClientIdBusy ∷ status.SeqFalseRetry
     ∷ status.DeadSession ∷ status.NotOnlyOp ∷ []
 

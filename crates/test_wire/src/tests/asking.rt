@@ -13,10 +13,9 @@ use std::alloc::{AllocError, Global};
 use std::io::{Read, Write};
 use std::test::*;
 use wire::{
-    Argument, Attributes, Bitmap, CallbackSecurity, CreateArguments, CreateSessionArguments,
-    ExchangeIdArguments, Outcome,
+    Argument, Attributes, Bitmap, CallbackSecurity, Channel, CreateArguments,
+    CreateSessionArguments, ExchangeIdArguments, Outcome,
 };
-use wire_client::CHANNEL;
 use xdr::Words;
 
 /// EXCHANGE_ID of the owner id `cl`, by uid 7, and the reply: client 4294967297.
@@ -28,7 +27,7 @@ pub(super) const EXCHANGED: &str = "80000064 2 1 0 0 0 0 0 0 1
 
 /// CREATE_SESSION of that client, and the reply.
 pub(super) const CREATE_SESSION: &str = "800000a0 3 0 2 186a3 4 1 1 14 0 0 7 7 0 0 0 0 1 1
-    2b 1 1 1 0 0 102000 102000 4000 10 8 0 0 102000 102000 4000 10 8 0 0 1 0";
+    2b 1 1 1 0 0 4000 4000 4000 10 8 0 0 4000 4000 4000 10 8 0 0 1 0";
 
 pub(super) const CREATED: &str = "8000007c 3 1 0 0 0 0 0 0 1
     2b 0 1 1 0 1 1 0 0 4000 4000 4000 10 8 0 0 4000 4000 4000 10 8 0";
@@ -102,13 +101,22 @@ fn exchange_id() -> Argument<'static>
 fn create_session(alloc: Global) -> Result<Argument<'static>, AllocError>
     ensures { IfOk result ArgumentFits }
 {
+    let channel = Channel {
+        header_pad_size: 0,
+        max_request_size: 0x4000,
+        max_response_size: 0x4000,
+        max_response_size_cached: 0x4000,
+        max_operations: 16,
+        max_requests: 8,
+        rdma_ird: None,
+    };
     let security = vec![in alloc; CallbackSecurity::NoSecurity]?;
     Ok(Argument::CreateSession(CreateSessionArguments {
         client: 0x1_0000_0001,
         sequence: 1,
         flags: 0,
-        fore: CHANNEL,
-        back: CHANNEL,
+        fore: channel,
+        back: channel,
         callback_program: 0,
         security,
     }))

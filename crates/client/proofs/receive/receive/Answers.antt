@@ -1,7 +1,7 @@
 use Rattle.std.proofs.Common.{ℕ, Bool, List, Option, subst, arith}
 use Rattle.client.specs.Streams.{Fetches}
 use Rattle.client.specs.declared.receive.Fetched.TheVariants as fetched
-use Rattle.client.proofs.Receiving.{begins, ended, has_no_memory, refused, finished, goes_on, bounds}
+use Rattle.client.proofs.Receiving.{begins, ended, refused, finished, goes_on, bounds}
 use Rattle.client.proofs.receive.receive.Goals as goal
 
 pub loop-more-init : goal.loop-more-init
@@ -9,9 +9,6 @@ loop-more-init g c = begins _ _ c.requires
 
 pub returns-in-Ended : goal.returns-in-Ended
 returns-in-Ended g c = ended _ _ _ _ _ _ _ c.loop-more.invariant c.in-Ended.ensures
-
-pub returns-in-NoMemory : goal.returns-in-NoMemory
-returns-in-NoMemory g c = has_no_memory _ _ _ _ _ _ _ c.loop-more.invariant c.in-NoMemory.ensures
 
 pub returns-in-Refused : goal.returns-in-Refused
 returns-in-Refused g c = refused _ _ _ _ _ _ _ c.loop-more.invariant c.in-Refused.ensures

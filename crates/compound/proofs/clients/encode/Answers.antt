@@ -1,4 +1,4 @@
-use Rattle.std.proofs.Common.{length, arith, ap, ◌∙◌}
+use Rattle.std.proofs.Common.{◌+◌, ◌≤◌, ◌++◌, length, arith, ap, ◌∙◌}
 use Rattle.std.proofs.lemmas.List.{length-append}
 use Rattle.model.specs.Wire.WireAnswers.{exchange_id_answer}
 use Rattle.wire.specs.AnswerViews.{exchange_id_view as answer_view}

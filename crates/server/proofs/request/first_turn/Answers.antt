@@ -1,4 +1,4 @@
-use Rattle.std.proofs.Common.{◌≡◌, ◌∙◌, Some, refl, sym, ap, arith}
+use Rattle.std.proofs.Common.{◌≡◌, ◌∙◌, ℕ, Some, refl, sym, ap, subst, arith}
 use Rattle.compound.specs.States.{shared_of}
 use Rattle.compound.specs.Steps.{stepped_on}
 use Rattle.compound.specs.Volumes.{fault_ending}
@@ -8,10 +8,8 @@ use Rattle.fs.specs.Views.{fs_of, fs_failures}
 use Rattle.volume.proofs.ServeLaws.{is_err_of}
 use Rattle.compound.proofs.QuietLaws.{leaves_all}
 use Rattle.model.specs.Wire.Rpc.{read_call}
-use Rattle.session.specs.Views.{table_of}
 use Rattle.model.specs.Server.World.{Turned, called}
-use Rattle.server.specs.Runs.{run_by}
-use Rattle.server.specs.Stages.{in_progress_at, turn_of_end, left_by_turn}
+use Rattle.server.specs.Stages.{CanGoOn, in_progress_at, turn_of_end, left_by_turn}
 use Rattle.server.proofs.Turning.{same_changes, idle_changes, leads_as}
 use Rattle.server.proofs.request.first_turn.Goals as goal
 
@@ -25,14 +23,14 @@ returns-in_err-reply-clause-volume g c =
 pub step-requires-clause-goes_on : goal.step-requires-clause-goes_on
 step-requires-clause-goes_on g c =
     let opens = rw c.in-Begins.is at c.in_ok-reply.ensures.ok in
-    opens.0 (run_by (fs_of c.args.engine.now.fs.now) (table_of c.args.engine.now.table.now)) (sym c.restart_count.ensures)
+    subst (λ (run : ℕ). CanGoOn run c.args.request.now c.in-Begins.begun) c.restart_count.ensures opens.0
 
 pub returns-in-Ok-clause-turn : goal.returns-in-Ok-clause-turn
 returns-in-Ok-clause-turn g c = λ keeps.
     let opens = rw c.in-Begins.is at c.in_ok-reply.ensures.ok in
     leads_as (λ world number. stepped_on world number c.args.engine.now.moment (in_progress_at c.args.request.now c.in-Begins.begun)) (λ world number. called world number c.args.engine.now.moment (read_call c.args.request.now))
     (shared_of c.args.engine.now.fs.now c.args.engine.now.table.now c.args.engine.now.opens.now) (shared_of c.step.new.engine.fs.now c.step.new.engine.table.now c.step.new.engine.opens.now)
-    (λ world number served. opens.1 world number c.args.engine.now.moment (served.run ∙ sym c.restart_count.ensures) served.reply_bytes)
+    (λ world number served. opens.1 world number c.args.engine.now.moment (served.run ∙ sym c.restart_count.ensures))
     (left_by_turn (Some c.args.request.now) c.in-Ok.done) (left_by_turn (Some c.args.request.now) c.in-Ok.done) (turn_of_end c.in-Ok.done) (turn_of_end c.in-Ok.done) refl refl (c.in-Ok.ensures.step keeps)
 
 pub returns-in-Answers-clause-volume : goal.returns-in-Answers-clause-volume
@@ -47,11 +45,11 @@ returns-in-Ok-clause-volume g c =
     let opens = rw c.in-Begins.is at c.in_ok-reply.ensures.ok in
     same_changes g.D.Device.keeps_word (shared_of c.args.engine.now.fs.now c.args.engine.now.table.now c.args.engine.now.opens.now) (fs_of c.args.engine.now.fs.now) (fs_of c.step.new.engine.fs.now) _ _
     (λ world number. stepped_on world number c.args.engine.now.moment (in_progress_at c.args.request.now c.in-Begins.begun)) (λ world number. called world number c.args.engine.now.moment (read_call c.args.request.now))
-    (λ world number served. opens.1 world number c.args.engine.now.moment (served.run ∙ sym c.restart_count.ensures) served.reply_bytes) Done c.in-Ok.ensures.volume
+    (λ world number served. opens.1 world number c.args.engine.now.moment (served.run ∙ sym c.restart_count.ensures)) Done c.in-Ok.ensures.volume
 
 pub returns-in-Err-clause-volume : goal.returns-in-Err-clause-volume
 returns-in-Err-clause-volume g c =
     let opens = rw c.in-Begins.is at c.in_ok-reply.ensures.ok in
     same_changes g.D.Device.keeps_word (shared_of c.args.engine.now.fs.now c.args.engine.now.table.now c.args.engine.now.opens.now) (fs_of c.args.engine.now.fs.now) (fs_of c.step.new.engine.fs.now) _ _
     (λ world number. stepped_on world number c.args.engine.now.moment (in_progress_at c.args.request.now c.in-Begins.begun)) (λ world number. called world number c.args.engine.now.moment (read_call c.args.request.now))
-    (λ world number served. opens.1 world number c.args.engine.now.moment (served.run ∙ sym c.restart_count.ensures) served.reply_bytes) (fault_ending c.in-Err.failed.fault) c.in-Err.ensures.volume
+    (λ world number served. opens.1 world number c.args.engine.now.moment (served.run ∙ sym c.restart_count.ensures)) (fault_ending c.in-Err.failed.fault) c.in-Err.ensures.volume

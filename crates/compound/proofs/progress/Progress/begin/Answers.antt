@@ -4,4 +4,4 @@ use Rattle.compound.proofs.progress.Progress.begin.Goals as goal
 
 pub returns : goal.returns
 returns c =
-    begins c.args.run _ refl refl c.in_ok-results.ensures.0 refl refl refl refl refl refl refl refl refl
+    begins c.args.run _ refl refl c.in_ok-results.ensures.0 refl refl refl refl refl refl refl

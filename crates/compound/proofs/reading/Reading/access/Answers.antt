@@ -18,7 +18,7 @@ use Rattle.compound.proofs.reading.Reading.access.Goals as goal
 pub returns-in-Err : goal.returns-in-Err
 unfolding in_progress_of
 returns-in-Err g c = record {
-  answered = c.refuse.ensures.answered 3;
+  answered = c.refuse.ensures.answered;
   gives = λ now table opens.
       let fs = fs_of c.args.self.now.fs.now in
       let request = in_progress_of c.args.self.now.running.now in
@@ -63,7 +63,7 @@ returns-in-Ok-access g c = record {
 pub returns-in-Err-access : goal.returns-in-Err-access
 unfolding in_progress_of
 returns-in-Err-access g c = record {
-  answered = c.refuse-in-Err-access.ensures.answered 3;
+  answered = c.refuse-in-Err-access.ensures.answered;
   gives = λ now table opens.
       let fs = fs_of c.args.self.now.fs.now in
       let request = in_progress_of c.args.self.now.running.now in

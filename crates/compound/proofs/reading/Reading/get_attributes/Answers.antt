@@ -9,7 +9,6 @@ use Rattle.wire_attributes.specs.NodeValues.{answer_view}
 use Rattle.compound.specs.Operates.{GivesIn}
 use Rattle.compound.specs.States.{shared}
 use Rattle.compound.specs.Views.{in_progress_of}
-use Rattle.compound.proofs.Outcomes.{read_memory}
 use Rattle.compound.proofs.Rooms.{gives_refusal}
 use Rattle.compound.proofs.Telling.{tells_status, attributes_bad, attributes_on_tree, tells_ok, tells_err}
 use Rattle.compound.proofs.Trees.{is_on, is_there, of_request, wants}
@@ -18,7 +17,7 @@ use Rattle.compound.proofs.reading.Reading.get_attributes.Goals as goal
 pub returns-in-Err : goal.returns-in-Err
 unfolding in_progress_of
 returns-in-Err g c = record {
-  answered = c.refuse.ensures.answered 9;
+  answered = c.refuse.ensures.answered;
   gives = λ now table opens.
       let fs = fs_of c.args.self.now.fs.now in
       let request = in_progress_of c.args.self.now.running.now in
@@ -50,22 +49,24 @@ refuse-requires-in-Err-attributes g c =
 
 pub returns-in_ok-values-in-Ok-attributes : goal.returns-in_ok-values-in-Ok-attributes
 unfolding in_progress_of
-returns-in_ok-values-in-Ok-attributes g c =
-    read_memory _ _ _ c.settle_encoded.result c.settle_encoded.ensures.answered (λ now table opens.
-    let fs = fs_of c.args.self.now.fs.now in
-    let request = in_progress_of c.args.self.now.running.now in
-    let kind = Argument.GetAttr c.args.asked.now in
-    let answer = Answer.GetAttr (answer_view c.in-Ok-attributes.answer) in
-    c.settle_encoded.ensures.gives now (shared fs table opens) kind answer
-    (record { number_is = refl; values_are = sym c.in_ok-values-in-Ok-attributes.ensures }) refl
-    (tells_ok now fs table opens request kind (attributes_on_tree c.args.asked.now) answer
-    (λ state there. subst (λ (bitmap : List ℕ). GetsAttributes fs state now bitmap (Ok c.in-Ok-attributes.answer)) c.as_slice.ensures.numbers
-    (c.in-Ok-attributes.ensures.step state now (is_on fs request _ _ c.args.self.now.ready.run c.in-Ok.ensures.ok.0 c.in-Ok.ensures.ok.1 there)))))
+returns-in_ok-values-in-Ok-attributes g c = record {
+  answered = c.settle_encoded.ensures.answered;
+  gives = λ now table opens.
+      let fs = fs_of c.args.self.now.fs.now in
+      let request = in_progress_of c.args.self.now.running.now in
+      let kind = Argument.GetAttr c.args.asked.now in
+      let answer = Answer.GetAttr (answer_view c.in-Ok-attributes.answer) in
+      c.settle_encoded.ensures.gives now (shared fs table opens) kind answer
+      (record { number_is = refl; values_are = sym c.in_ok-values-in-Ok-attributes.ensures }) refl
+      (tells_ok now fs table opens request kind (attributes_on_tree c.args.asked.now) answer
+      (λ state there. subst (λ (bitmap : List ℕ). GetsAttributes fs state now bitmap (Ok c.in-Ok-attributes.answer)) c.as_slice.ensures.numbers
+      (c.in-Ok-attributes.ensures.step state now (is_on fs request _ _ c.args.self.now.ready.run c.in-Ok.ensures.ok.0 c.in-Ok.ensures.ok.1 there))));
+}
 
 pub returns-in-Err-attributes : goal.returns-in-Err-attributes
 unfolding in_progress_of
 returns-in-Err-attributes g c = record {
-  answered = c.refuse-in-Err-attributes.ensures.answered 9;
+  answered = c.refuse-in-Err-attributes.ensures.answered;
   gives = λ now table opens.
       let fs = fs_of c.args.self.now.fs.now in
       let request = in_progress_of c.args.self.now.running.now in

@@ -8,14 +8,13 @@ use Rattle.model_tree.specs.declared.status.Status.{Status}
 use Rattle.compound.specs.Operates.{GivesIn}
 use Rattle.compound.specs.States.{shared}
 use Rattle.compound.specs.Views.{in_progress_of}
-use Rattle.compound.proofs.Outcomes.{read_memory}
 use Rattle.compound.proofs.Rooms.{gives_refusal}
 use Rattle.compound.proofs.Trees.{is_on, is_there, of_request, gets_status, get_bad, got_ok, got_err, wants}
 use Rattle.compound.proofs.reading.Reading.get_handle.Goals as goal
 
 pub returns-in-Err : goal.returns-in-Err
 returns-in-Err g c = record {
-  answered = c.refuse.ensures.answered 10;
+  answered = c.refuse.ensures.answered;
   gives = λ now table opens.
       let fs = fs_of c.args.self.now.fs.now in
       let request = in_progress_of c.args.self.now.running.now in
@@ -42,18 +41,20 @@ refuse-requires-in-Err-handle g c =
     (c.in-Err-handle.ensures.step request.context.cred state 0 (is_on fs request _ _ c.args.self.now.ready.run c.in-Ok.ensures.ok.0 c.in-Ok.ensures.ok.1 (is_there fs request))))
 
 pub returns-in_ok-values-in-Ok-handle : goal.returns-in_ok-values-in-Ok-handle
-returns-in_ok-values-in-Ok-handle g c =
-    read_memory _ _ _ c.settle_encoded.result c.settle_encoded.ensures.answered (λ now table opens.
-    let fs = fs_of c.args.self.now.fs.now in
-    let request = in_progress_of c.args.self.now.running.now in
-    c.settle_encoded.ensures.gives now (shared fs table opens) Argument.GetFh (Answer.GetFh c.in-Ok-handle.handle)
-    (record { number_is = refl; values_are = sym c.in_ok-values-in-Ok-handle.ensures }) refl
-    (got_ok now fs table opens request c.in-Ok-handle.handle
-    (λ state there. c.in-Ok-handle.ensures.step request.context.cred state now (is_on fs request _ _ c.args.self.now.ready.run c.in-Ok.ensures.ok.0 c.in-Ok.ensures.ok.1 there))))
+returns-in_ok-values-in-Ok-handle g c = record {
+  answered = c.settle_encoded.ensures.answered;
+  gives = λ now table opens.
+      let fs = fs_of c.args.self.now.fs.now in
+      let request = in_progress_of c.args.self.now.running.now in
+      c.settle_encoded.ensures.gives now (shared fs table opens) Argument.GetFh (Answer.GetFh c.in-Ok-handle.handle)
+      (record { number_is = refl; values_are = sym c.in_ok-values-in-Ok-handle.ensures }) refl
+      (got_ok now fs table opens request c.in-Ok-handle.handle
+      (λ state there. c.in-Ok-handle.ensures.step request.context.cred state now (is_on fs request _ _ c.args.self.now.ready.run c.in-Ok.ensures.ok.0 c.in-Ok.ensures.ok.1 there)));
+}
 
 pub returns-in-Err-handle : goal.returns-in-Err-handle
 returns-in-Err-handle g c = record {
-  answered = c.refuse-in-Err-handle.ensures.answered 10;
+  answered = c.refuse-in-Err-handle.ensures.answered;
   gives = λ now table opens.
       let fs = fs_of c.args.self.now.fs.now in
       let request = in_progress_of c.args.self.now.running.now in

@@ -15,7 +15,7 @@ use Rattle.compound.proofs.reading.Reading.look_up.Goals as goal
 pub returns-in-Err : goal.returns-in-Err
 unfolding in_progress_of
 returns-in-Err g c = record {
-  answered = c.refuse.ensures.answered 15;
+  answered = c.refuse.ensures.answered;
   gives = λ now table opens.
       let fs = fs_of c.args.self.now.fs.now in
       let request = in_progress_of c.args.self.now.running.now in
@@ -58,7 +58,7 @@ returns-in-Ok-lookup g c = record {
 pub returns-in-Err-lookup : goal.returns-in-Err-lookup
 unfolding in_progress_of
 returns-in-Err-lookup g c = record {
-  answered = c.refuse-in-Err-lookup.ensures.answered 15;
+  answered = c.refuse-in-Err-lookup.ensures.answered;
   gives = λ now table opens.
       let fs = fs_of c.args.self.now.fs.now in
       let request = in_progress_of c.args.self.now.running.now in

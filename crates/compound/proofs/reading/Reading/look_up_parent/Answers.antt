@@ -15,7 +15,7 @@ use Rattle.compound.proofs.reading.Reading.look_up_parent.Goals as goal
 pub returns-in-Err : goal.returns-in-Err
 unfolding in_progress_of
 returns-in-Err g c = record {
-  answered = c.refuse.ensures.answered 16;
+  answered = c.refuse.ensures.answered;
   gives = λ now table opens.
       let fs = fs_of c.args.self.now.fs.now in
       let request = in_progress_of c.args.self.now.running.now in
@@ -58,7 +58,7 @@ returns-in-Ok-parent g c = record {
 pub returns-in-Err-parent : goal.returns-in-Err-parent
 unfolding in_progress_of
 returns-in-Err-parent g c = record {
-  answered = c.refuse-in-Err-parent.ensures.answered 16;
+  answered = c.refuse-in-Err-parent.ensures.answered;
   gives = λ now table opens.
       let fs = fs_of c.args.self.now.fs.now in
       let request = in_progress_of c.args.self.now.running.now in

@@ -11,24 +11,25 @@ use Rattle.model.specs.Sessions.Opens.{Open, Opens}
 use Rattle.model.specs.Operations.Operation.{Argument, ChangeInfo, NoCreate}
 use Rattle.model.specs.Sessions.StateIds.{is_table_full, new_open, opened}
 use Rattle.model_tree.specs.declared.status.Status.{Status}
+use Rattle.model_tree.specs.declared.status.Status.TheVariants as status
 use Rattle.opens.specs.Views.{opened_stateid, open_of, opens_of}
 use Rattle.wire.specs.ArgumentViews.{open_type_view, open_view}
 use Rattle.wire.specs.SmallViews.{change_view}
-use Rattle.compound.specs.Beside.{opened_answer, ComesToOpen, IsOpenedRoom}
+use Rattle.compound.specs.Beside.{has_opened_room, opened_answer, ComesToOpen}
 use Rattle.compound.specs.Operates.{GivesIn, Operates}
 use Rattle.compound.specs.States.{shared}
 use Rattle.compound.specs.Views.{in_progress_of}
 use Rattle.compound.proofs.OpenLaws.{on_tree}
 use Rattle.compound.proofs.OpenNamedLaws.{is_current, open_bad, open_status, opened_room, opens_to}
 use Rattle.compound.proofs.Changing.{refused_gives}
-use Rattle.compound.proofs.Rooms.{gives_refusal, refused_in_room, none_by, with_room}
+use Rattle.compound.proofs.Rooms.{gives_refusal, refused_in_room}
 use Rattle.compound.proofs.Trees.{is_on, wants}
 use Rattle.compound.proofs.WriteLaws.{beside, is_beside}
 use Rattle.compound.proofs.reading.Reading.open_current.Goals as goal
 
 pub returns-in-Err-clause-gives : goal.returns-in-Err-clause-gives
 returns-in-Err-clause-gives g c = record {
-  answered = c.refuse.ensures.answered 18;
+  answered = c.refuse.ensures.answered;
   gives = λ now table.
       let opens = opens_of c.args.opens.now in
       let fs = fs_of c.args.self.now.fs.now in
@@ -76,7 +77,7 @@ refuse-requires-in-Err-open_current g c =
 pub returns-in-Err-open_current-clause-gives : goal.returns-in-Err-open_current-clause-gives
 unfolding in_progress_of
 returns-in-Err-open_current-clause-gives g c = record {
-  answered = c.refuse-in-Err-open_current.ensures.answered 18;
+  answered = c.refuse-in-Err-open_current.ensures.answered;
   gives = λ now table.
       let opens = opens_of c.args.opens.now in
       let fs = fs_of c.args.self.now.fs.now in
@@ -97,10 +98,10 @@ returns-in-Err-open_current-clause-gives g c = record {
 
 -- It is opened, if the reply has room
 
-pub returns-then-not-room-clause-gives : goal.returns-then-not-room-clause-gives
+pub returns-then-not-has_opened_room-clause-gives : goal.returns-then-not-has_opened_room-clause-gives
 unfolding in_progress_of
-returns-then-not-room-clause-gives g c = record {
-  answered = c.refuse-then-not-room.ensures.answered 18;
+returns-then-not-has_opened_room-clause-gives g c = record {
+  answered = c.refuse-then-not-has_opened_room.ensures.answered;
   gives = λ now table.
       let opens = opens_of c.args.opens.now in
       let fs = fs_of c.args.self.now.fs.now in
@@ -110,13 +111,12 @@ returns-then-not-room-clause-gives g c = record {
       let left = opens_of c.reserve.new.self in
       let asked = new_open request.context.client arguments.owner c.in-Ok.number arguments.access in
       let made = opened opens asked in
-      c.refuse-then-not-room.ensures.gives now (shared fs table opens) (shared fs table left) kind
-      (subst (λ (after : Opens). GivesIn now (shared fs table opens) (shared fs table after) request request kind (Refused 18 c.opened_room-room.result.too_big)) (sym c.in_ok-reserve.ensures.same)
+      c.refuse-then-not-has_opened_room.ensures.gives now (shared fs table opens) (shared fs table left) kind
+      (subst (λ (after : Opens). GivesIn now (shared fs table opens) (shared fs table after) request request kind (Refused 18 status.RepTooBig)) (sym c.in_ok-reserve.ensures.same)
       (refused_in_room now (shared fs table opens) (shared fs table made.opens) request
       (record request { context = at_opened request.context c.in-Ok.number (opened_stateid request.context.run made) }) kind
-      (opened_answer (opened_stateid request.context.run made) (info_of (current_opened c.in-Ok.number).directory) []) _
-      (opened_room request request.context.run made.serial made.state.seqid (info_of (current_opened c.in-Ok.number).directory) [] false _
-      (with_room (none_by _ c.if-not-room.true) (subst (λ (words : List ℕ). IsOpenedRoom request words c.opened_room-room.result) c.new.ensures c.opened_room-room.ensures)))
+      (opened_answer (opened_stateid request.context.run made) (info_of (current_opened c.in-Ok.number).directory) [])
+      (opened_room request request.context.run made.serial made.state.seqid (info_of (current_opened c.in-Ok.number).directory) [] false (c.if-not-has_opened_room.ensures ∙ ap (has_opened_room request) c.new.ensures))
       (opens_to now fs request arguments fs table opens NoCreate c.in-Ok.number (current_opened c.in-Ok.number) refl
       (λ state there known. (c.in-Ok-open_current.ensures.step state now arguments (is_on fs request c.in-Ok.number state c.args.self.now.ready.run c.in-Ok.ensures.ok.0 c.in-Ok.ensures.ok.1 there)
       (is_current now fs request arguments opens c.args.self.now.ready.run c.in-Ok.ensures.ok.0 c.in-Ok.number c.limits.result.now.opens c.is_full-is_full.result (open_of c.in_ok-asked.asked)
@@ -132,9 +132,9 @@ pub give_open-requires-clause-number : goal.give_open-requires-clause-number
 give_open-requires-clause-number g c =
     subst (λ (n : ℕ). 0 < n) (sym (ap (λ (it : Open). it.number) c.in_ok-asked.ensures)) c.in-Ok-open_current.ensures.number
 
-pub returns-else-not-room-clause-gives : goal.returns-else-not-room-clause-gives
+pub returns-else-not-has_opened_room-clause-gives : goal.returns-else-not-has_opened_room-clause-gives
 unfolding in_progress_of
-returns-else-not-room-clause-gives g c = record {
+returns-else-not-has_opened_room-clause-gives g c = record {
   answered = c.give_open.ensures.answered;
   gives = λ now table.
       let opens = opens_of c.args.opens.now in
@@ -153,7 +153,7 @@ returns-else-not-room-clause-gives g c = record {
       let one = open_of c.in_ok-asked.asked in
       let given = ap (λ (held : Opens). (opened held one).opens) same ∙ ap (λ (it : Open). (opened opens it).opens) c.in_ok-asked.ensures in
       subst (λ (after : Opens). Operates now (shared fs table opens) (shared fs table after) request kind c.give_open.result) (sym (c.give_open.ensures.opens ∙ given))
-      (c.give_open.ensures.gives now (shared fs table opens) (shared fs table (opened opens asked).opens) kind refl (sym same)
+      (c.give_open.ensures.gives now (shared fs table opens) (shared fs table (opened opens asked).opens) kind (sym same)
       (subst (λ (words : List ℕ). ComesToOpen now (shared fs table opens) (shared fs table (opened opens asked).opens) request one (change_view c.change_info.result) words kind) (sym c.new-in-Ok-open_current.ensures)
       (subst (λ (it : Open). ComesToOpen now (shared fs table opens) (shared fs table (opened opens asked).opens) request it (change_view c.change_info.result) [] kind) (sym c.in_ok-asked.ensures)
       (subst (λ (change : ChangeInfo). ComesToOpen now (shared fs table opens) (shared fs table (opened opens asked).opens) request asked change [] kind) (sym c.change_info.ensures)

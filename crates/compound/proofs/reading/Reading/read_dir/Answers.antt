@@ -4,7 +4,6 @@ use Rattle.fs.specs.Listing.{Lists, page_view}
 use Rattle.model.specs.Operations.Answer.{Answer, Refused}
 use Rattle.model.specs.Operations.Operation.{Argument, ReadDirArguments}
 use Rattle.model_tree.specs.declared.status.Status.{Status}
-use Rattle.model_tree.specs.declared.status.Status.TheVariants as status
 use Rattle.wire.specs.ArgumentViews.{read_dir_view}
 use Rattle.model.specs.Operations.Step.{State}
 use Rattle.compound.specs.Memory.{OrMemory}
@@ -16,7 +15,7 @@ use Rattle.compound.specs.Trees.{IsHere, fault_result}
 use Rattle.compound.specs.declared.executed.Executed.{Executed}
 use Rattle.compound.proofs.Changing.{fault_is_encoded}
 use Rattle.compound.proofs.ListLaws.{list_on_tree, lists_up, told_lists, told_memory}
-use Rattle.compound.proofs.Outcomes.{read_memory, read_or}
+use Rattle.compound.proofs.Outcomes.{read_or}
 use Rattle.compound.proofs.Rooms.{gives_refusal}
 use Rattle.compound.proofs.Telling.{tells_ok}
 use Rattle.compound.proofs.Trees.{is_on, is_there, of_request, wants}
@@ -25,7 +24,7 @@ use Rattle.compound.proofs.reading.Reading.read_dir.Goals as goal
 pub returns-in-Err : goal.returns-in-Err
 unfolding in_progress_of
 returns-in-Err g c = record {
-  answered = c.refuse.ensures.answered 26;
+  answered = c.refuse.ensures.answered;
   gives = λ now table opens.
       let fs = fs_of c.args.self.now.fs.now in
       let request = in_progress_of c.args.self.now.running.now in
@@ -37,24 +36,26 @@ returns-in-Err g c = record {
 
 pub returns-in_ok-values-in-Ok-read_dir : goal.returns-in_ok-values-in-Ok-read_dir
 unfolding in_progress_of
-returns-in_ok-values-in-Ok-read_dir g c =
-    read_memory _ _ _ c.settle_encoded.result c.settle_encoded.ensures.answered (λ now table opens.
-    let fs = fs_of c.args.self.now.fs.now in
-    let request = in_progress_of c.args.self.now.running.now in
-    let arguments = read_dir_view c.args.arguments.now in
-    let kind = Argument.ReadDir arguments in
-    let answer = Answer.ReadDir (page_view c.in-Ok-read_dir.page) in
-    c.settle_encoded.ensures.gives now (shared fs table opens) kind answer
-    (record { number_is = refl; values_are = sym c.in_ok-values-in-Ok-read_dir.ensures }) refl
-    (tells_ok now fs table opens request kind (list_on_tree arguments) answer
-    (λ state there. subst (λ (asked : ReadDirArguments). Lists fs state now asked (Ok c.in-Ok-read_dir.page)) c.listing.ensures.arguments
-    (c.in-Ok-read_dir.ensures.step state now c.args.arguments.now.dir_count (is_on fs request _ _ c.args.self.now.ready.run c.in-Ok.ensures.ok.0 (c.in-Ok.ensures.ok.1 ∙ sym c.listing.ensures.directory) there)))))
+returns-in_ok-values-in-Ok-read_dir g c = record {
+  answered = c.settle_encoded.ensures.answered;
+  gives = λ now table opens.
+      let fs = fs_of c.args.self.now.fs.now in
+      let request = in_progress_of c.args.self.now.running.now in
+      let arguments = read_dir_view c.args.arguments.now in
+      let kind = Argument.ReadDir arguments in
+      let answer = Answer.ReadDir (page_view c.in-Ok-read_dir.page) in
+      c.settle_encoded.ensures.gives now (shared fs table opens) kind answer
+      (record { number_is = refl; values_are = sym c.in_ok-values-in-Ok-read_dir.ensures }) refl
+      (tells_ok now fs table opens request kind (list_on_tree arguments) answer
+      (λ state there. subst (λ (asked : ReadDirArguments). Lists fs state now asked (Ok c.in-Ok-read_dir.page)) c.listing.ensures.arguments
+      (c.in-Ok-read_dir.ensures.step state now c.args.arguments.now.dir_count (is_on fs request _ _ c.args.self.now.ready.run c.in-Ok.ensures.ok.0 (c.in-Ok.ensures.ok.1 ∙ sym c.listing.ensures.directory) there))));
+}
 
 -- If it is not done
 
-pub tell_fault-requires-clause-up : goal.tell_fault-requires-clause-up
+pub tell_fault-requires : goal.tell_fault-requires
 unfolding in_progress_of
-tell_fault-requires-clause-up g c =
+tell_fault-requires g c =
     let fs = fs_of c.args.self.now.fs.now in
     let request = in_progress_of c.args.self.now.running.now in
     let state = of_request fs request in
@@ -76,5 +77,5 @@ returns-in-Err-read_dir g c =
     (c.in-Err-read_dir.ensures.step state now c.args.arguments.now.dir_count (on state there)) in
     let first = step state 0 (is_there fs request) in
     subst (λ (r : Result Executed Fault). OrMemory r (Reads fs request (Argument.ReadDir arguments))) (sym c.tell_fault.ensures)
-    (read_or fs request (Argument.ReadDir arguments) (fault_result 26 status.RepTooBig fault) (told_lists fs request arguments fault step)
-    (fault_is_encoded request 26 26 status.RepTooBig fault (omega arith) (λ zero. omega (arith, zero)) (lists_up fs state 0 arguments fault up first)) (told_memory fs state 0 arguments fault up first))
+    (read_or fs request (Argument.ReadDir arguments) (fault_result 26 fault) (told_lists fs request arguments fault step)
+    (fault_is_encoded request 26 fault (omega arith) (lists_up fs state 0 arguments fault up first)) (told_memory fs state 0 arguments fault up first))

@@ -9,7 +9,7 @@ use Rattle.compound.proofs.reading.Reading.refuse_opening.Goals as goal
 
 pub returns-in-Ok : goal.returns-in-Ok
 returns-in-Ok g c = λ arguments unserved. record {
-  answered = c.refuse.ensures.answered 18;
+  answered = c.refuse.ensures.answered;
   gives = λ now table opens.
       let fs = fs_of c.args.self.now.fs.now in
       let request = in_progress_of c.args.self.now.running.now in
@@ -21,7 +21,7 @@ returns-in-Ok g c = λ arguments unserved. record {
 
 pub returns-in-Err : goal.returns-in-Err
 returns-in-Err g c = λ arguments unserved. record {
-  answered = c.refuse-in-Err.ensures.answered 18;
+  answered = c.refuse-in-Err.ensures.answered;
   gives = λ now table opens.
       let fs = fs_of c.args.self.now.fs.now in
       let request = in_progress_of c.args.self.now.running.now in

@@ -1,6 +1,6 @@
 use Rattle.std.proofs.Common.{refl}
-use Rattle.fs.specs.Views.{fs_failures}
-use Rattle.compound.specs.States.{shared_of}
+use Rattle.fs.specs.Views.{fs_of, fs_failures}
+use Rattle.compound.specs.States.{shared, shared_of}
 use Rattle.compound.specs.Views.{in_progress_of}
 use Rattle.opens.specs.Views.{opens_of}
 use Rattle.session.specs.Views.{table_of}

@@ -1,24 +1,24 @@
-use Rattle.std.proofs.Common.{◌≡◌, true, sym, subst, refl}
+use Rattle.std.proofs.Common.{◌≡◌, true, sym, subst, ◌∙◌, refl}
 use Rattle.fs.specs.FileSystem.{FileSystem}
 use Rattle.fs.specs.Views.{fs_of, fs_failures}
 use Rattle.fs.specs.Operations.{new_directory}
-use Rattle.model.specs.Operations.Answer.{Outcome, Refused, Done}
+use Rattle.model.specs.Operations.Answer.{Outcome, Refused}
 use Rattle.model.specs.Operations.Context.{at_node}
 use Rattle.model_tree.specs.declared.status.Status.{Status}
+use Rattle.model_tree.specs.declared.status.Status.TheVariants as status
 use Rattle.wire.specs.SmallViews.{attributes_view}
-use Rattle.compound.specs.Operates.{GivesIn, RunsTo, HasRoom, room_of}
+use Rattle.compound.specs.Operates.{GivesIn, RunsTo, HasRoom}
 use Rattle.compound.specs.States.{shared}
-use Rattle.compound.specs.Trees.{made_answer}
-use Rattle.model.specs.Attributes.Attribute.{trimmed}
 use Rattle.compound.specs.Views.{in_progress_of}
-use Rattle.compound.proofs.Creating.{made_runs, made_room, create_err, full, up_or_down}
+use Rattle.compound.proofs.Creating.{made_runs, made_room, create_err, full, made_short, up_or_down}
 use Rattle.fs.proofs.ChangeLaws.{changes_by}
 use Rattle.compound.proofs.QuietLaws.{leaves_all, left_all}
 use Rattle.compound.proofs.VolumeLaws.{refusal_changes, made_gives}
-use Rattle.compound.proofs.Rooms.{fits_by_room, gives_in_room, gives_refusal, with_room}
+use Rattle.compound.proofs.Rooms.{gives_in_room, gives_refusal}
 use Rattle.compound.proofs.Trees.{is_on, is_there, of_request, create_bad, wants}
 use Rattle.session.specs.Views.{table_of}
 use Rattle.opens.specs.Views.{opens_of}
+use Rattle.compound.proofs.Outcomes.{on_err}
 use Rattle.compound.proofs.running.Running.create_directory.Goals as goal
 
 pub returns-in-Err : goal.returns-in-Err
@@ -34,7 +34,7 @@ returns-in-Err g c = record {
         c.refuse.ensures.gives c.args.engine.now.moment (shared fs table opens) (shared fs table opens) kind
         (subst (λ (reason : Status). GivesIn c.args.engine.now.moment (shared fs table opens) (shared fs table opens) request request kind (Refused 6 reason)) (sym c.in-Err.ensures.err.0)
         (gives_refusal c.args.engine.now.moment (shared fs table opens) (shared fs table opens) request kind 6 _ (wants c.args.engine.now.moment fs table opens request kind refl c.in-Err.ensures.err.1)));
-    answered = c.refuse.ensures.answered 6;
+    answered = c.refuse.ensures.answered;
     table = refl;
     opens = tt;
     volume =
@@ -84,13 +84,18 @@ returns-in-Ok-make_dir g c = record {
         let step = rw c.as_slice.ensures.numbers at c.in-Ok-make_dir.ensures.step in
         subst (λ (outcome : Outcome). GivesIn c.args.engine.now.moment (shared fs table opens) (shared new table opens) request (record request { context = at_node request.context made.number }) kind outcome) (sym c.created.ensures.is)
         (gives_in_room c.args.engine.now.moment (shared fs table opens) (shared new table opens) request (record request { context = at_node request.context made.number }) kind _
-        (made_room request made.before made.number _ true _ (with_room c.in-Ok-make_dir.ensures.room.done c.created_room-room.ensures)).has_is
+        (made_room request made.before made.number _ (sym c.in-Ok-make_dir.ensures.room.done ∙ c.has_created_room-has_room.ensures))
         (made_runs c.args.engine.now.moment fs table opens request c.args.name.now given new made
         (λ state there. step state (is_on fs request _ _ c.requires.run c.in-Ok.ensures.ok.0 c.in-Ok.ensures.ok.1 there) keeps)));
     answered =
         let request = in_progress_of c.args.self.now in
         let made = c.in-Ok-make_dir.made in
-        (record { fits = c.created.ensures.fits; small = c.created.ensures.small; room = subst (HasRoom (room_of request 6) request) (sym c.created.ensures.is) (fits_by_room request 6 (Done (made_answer made.before made.number (trimmed (attributes_view c.args.attributes.now).bitmap))) (made_room request made.before made.number _ true _ (with_room c.in-Ok-make_dir.ensures.room.done c.created_room-room.ensures)).has_is) }, tt);
+        record {
+          fits = c.created.ensures.fits;
+          small = c.created.ensures.small;
+          room = subst (HasRoom request) (sym c.created.ensures.is)
+              (made_short request made.before made.number _ (sym c.in-Ok-make_dir.ensures.room.done ∙ c.has_created_room-has_room.ensures));
+        };
     table = refl;
     opens = tt;
     volume =
@@ -100,8 +105,8 @@ returns-in-Ok-make_dir g c = record {
         let request = in_progress_of c.args.self.now in
         let volume = rw c.as_slice.ensures.numbers at c.in-Ok-make_dir.ensures.volume in
         changes_by g.D.Device.keeps_word _ _
-        (made_gives _ fs table opens request c.args.engine.now.moment _ c.args.name.now (attributes_view c.args.attributes.now) c.requires.run c.in-Ok.ensures.ok.0 c.in-Ok.ensures.ok.1
-        (with_room c.in-Ok-make_dir.ensures.room.done c.created_room-room.ensures))
+        (made_gives fs table opens request c.args.engine.now.moment _ c.args.name.now (attributes_view c.args.attributes.now) c.requires.run c.in-Ok.ensures.ok.0 c.in-Ok.ensures.ok.1
+        (sym c.in-Ok-make_dir.ensures.room.done ∙ c.has_created_room-has_room.ensures))
         _ _ _ _ _ volume;
   };
 }
@@ -126,7 +131,7 @@ returns-in-Err-Status g c = record {
         (subst (λ (after : FileSystem). RunsTo c.args.engine.now.moment (shared fs table opens) (shared after table opens) request request kind (Refused 6 c.in-Err-Status.status)) (sym same)
         (create_err c.args.engine.now.moment fs table opens request c.args.name.now given c.in-Err-Status.status
         (λ state there. step state (is_on fs request _ _ c.requires.run c.in-Ok.ensures.ok.0 c.in-Ok.ensures.ok.1 there)))));
-    answered = c.refuse-in-Err-Status.ensures.answered 6;
+    answered = c.refuse-in-Err-Status.ensures.answered;
     table = refl;
     opens = tt;
     volume =
@@ -165,10 +170,10 @@ returns-in-Err-NoRoom g c = record {
         let same = left_all _ _ _ _ _ _ (rw c.in-Err-NoRoom.field-0-is at c.in-Err-NoRoom.ensures.volume) in
         let no_room = rw c.in-Err-NoRoom.field-0-is at c.in-Err-NoRoom.ensures.room.refused in
         c.refuse-in-Err-NoRoom.ensures.gives c.args.engine.now.moment (shared fs table opens) (shared new table opens) kind
-        (subst (λ (after : FileSystem). GivesIn c.args.engine.now.moment (shared fs table opens) (shared after table opens) request request kind (Refused 6 c.created_room-room.result.too_big)) (sym same)
-        (full c.args.engine.now.moment fs table opens request c.args.name.now given _ (with_room (no_room refl) c.created_room-room.ensures)
+        (subst (λ (after : FileSystem). GivesIn c.args.engine.now.moment (shared fs table opens) (shared after table opens) request request kind (Refused 6 status.RepTooBig)) (sym same)
+        (full c.args.engine.now.moment fs table opens request c.args.name.now given (sym (no_room refl) ∙ c.has_created_room-has_room.ensures)
         (λ state there. step state (is_on fs request _ _ c.requires.run c.in-Ok.ensures.ok.0 c.in-Ok.ensures.ok.1 there))));
-    answered = c.refuse-in-Err-NoRoom.ensures.answered 6;
+    answered = c.refuse-in-Err-NoRoom.ensures.answered;
     table = refl;
     opens = tt;
     volume =
@@ -183,9 +188,9 @@ returns-in-Err-NoRoom g c = record {
         let volume = rw c.in-Err-NoRoom.field-0-is at c.in-Err-NoRoom.ensures.volume in
         let same = left_all _ _ _ _ _ _ volume in
         let no_room = rw c.in-Err-NoRoom.field-0-is at c.in-Err-NoRoom.ensures.room.refused in
-        refusal_changes g.D.Device.keeps_word fs new table opens _ _ request c.args.engine.now.moment kind 6 c.created_room-room.result.too_big same (volume.volume_changes.none (λ broken. cc)) c.requires.up
-        (subst (λ (after : FileSystem). GivesIn c.args.engine.now.moment (shared fs table opens) (shared after table opens) request request kind (Refused 6 c.created_room-room.result.too_big)) (sym same)
-        (full c.args.engine.now.moment fs table opens request c.args.name.now given _ (with_room (no_room refl) c.created_room-room.ensures)
+        refusal_changes g.D.Device.keeps_word fs new table opens _ _ request c.args.engine.now.moment kind 6 status.RepTooBig same (volume.volume_changes.none (λ broken. cc)) c.requires.up
+        (subst (λ (after : FileSystem). GivesIn c.args.engine.now.moment (shared fs table opens) (shared after table opens) request request kind (Refused 6 status.RepTooBig)) (sym same)
+        (full c.args.engine.now.moment fs table opens request c.args.name.now given (sym (no_room refl) ∙ c.has_created_room-has_room.ensures)
         (λ state there. step state (is_on fs request _ _ c.requires.run c.in-Ok.ensures.ok.0 c.in-Ok.ensures.ok.1 there))));
   };
 }
@@ -223,8 +228,8 @@ returns-in-Err-Device g c = record {
         let volume = rw (c.in-Err-Device.field-0-is, c.as_slice.ensures.numbers) at c.in-Err-Device.ensures.volume in
         let device_room = rw c.in-Err-Device.field-0-is at c.in-Err-Device.ensures.room.device in
         changes_by g.D.Device.keeps_word _ _
-        (made_gives _ fs table opens request c.args.engine.now.moment _ c.args.name.now (attributes_view c.args.attributes.now) c.requires.run c.in-Ok.ensures.ok.0 c.in-Ok.ensures.ok.1
-        (with_room (device_room refl) c.created_room-room.ensures))
+        (made_gives fs table opens request c.args.engine.now.moment _ c.args.name.now (attributes_view c.args.attributes.now) c.requires.run c.in-Ok.ensures.ok.0 c.in-Ok.ensures.ok.1
+        (sym (device_room refl) ∙ c.has_created_room-has_room.ensures))
         _ _ _ _ _ volume;
   };
 }

@@ -20,9 +20,8 @@ use Rattle.compound.specs.States.{shared}
 use Rattle.compound.specs.Views.{in_progress_of}
 use Rattle.compound.proofs.Storing.{seated_as, seated_still, seats_change}
 use Rattle.compound.proofs.Tables.{create_runs, create_refuses, edits_fit, none_ended, same_tree, seat_slots_are}
-use Rattle.compound.proofs.TablesGo.{create_run}
 use Rattle.compound.proofs.Outcomes.{if_not, on_err}
-use Rattle.compound.proofs.OwnResults.{result_answered, result_joins, result_kept}
+use Rattle.compound.proofs.OwnResults.{result_answered, result_kept}
 use Rattle.compound.proofs.QuietLaws.{leaves_all}
 use Rattle.compound.proofs.running.Running.create_session.Goals as goal
 
@@ -69,19 +68,8 @@ returns-in_ok-put_seats-in-Ok-New g c = record {
         c.answer_first-done.ensures.gives now (shared fs old before) (shared new table (opens_of c.remove_clients.new.self)) (Argument.CreateSession arguments)
         (subst (λ (opens : Opens). RunsTo now (shared fs old before) (shared new table opens) request request (Argument.CreateSession arguments) (Done (Answer.CreateSession known)))
         (sym (c.remove_clients.ensures ∙ ap (λ clients. without_clients clients before) c.deref.ensures.value)) runs);
-    answered = c.answer_first-done.ensures.answered 43;
-    kept = result_kept (in_progress_of c.args.self.now) 43 _ _ (c.answer_first-done.ensures.own tt 43);
-    joins = result_joins (table_of c.args.engine.now.table.now).settings (in_progress_of c.args.self.now) 43 _ (c.answer_first-done.ensures.own tt 43);
-    settings =
-        let old = table_of c.args.engine.now.table.now in
-        let request = in_progress_of c.args.self.now in
-        let arguments = create_session_view c.args.arguments.now in
-        let limits = limits_of c.limits_by-limits.result in
-        let wanted = create_session limits request.context.cred.uid arguments old in
-        let plan = c.in-Ok-New.plan in
-        let both : IsPlanned wanted old plan × AreEdits old.run limits.seat_slots (edits_view plan.edits) old.seats = rw c.in-Ok-New.field-0-is at c.in-Ok-New.ensures.planned in
-        let made = c.add_session-created.ensures wanted (subst (λ (t : Table). IsPlanned wanted t plan) (sym c.plan_session.ensures.same) both.0) in
-        ap (λ (t : Table). t.settings) (sym made.2) ∙ (create_run limits request.context.cred.uid arguments old).1;
+    answered = result_answered (in_progress_of c.args.self.now) _ c.answer_first-done.ensures.answered;
+    kept = result_kept (in_progress_of c.args.self.now) _ _ c.answer_first-done.ensures.answered;
     table = tt;
     opens = tt;
     volume =
@@ -117,8 +105,6 @@ returns-in_err-put_seats-in-Ok-New g c = record {
     gives = λ keeps. if_not _ _ _ c.from_residual.ensures.1;
     answered = if_not _ _ _ c.from_residual.ensures.1;
     kept = if_not _ _ _ c.from_residual.ensures.1;
-    joins = if_not _ _ _ c.from_residual.ensures.1;
-    settings = ap (λ (t : Table). t.settings) c.plan_session.ensures.same;
     table = on_err _ c.plan_session.ensures.same;
     opens = on_err _ refl;
     volume =
@@ -171,10 +157,8 @@ returns-in-Ok-Again g c = record {
         subst (λ (t : Table). Operates now (shared fs old before) (shared fs t before) request kind c.answer_first.result) (sym c.plan_session.ensures.same)
         (c.answer_first.ensures.gives now (shared fs old before) (shared fs old before) kind
         (subst (λ (opens : Opens). RunsTo now (shared fs old before) (shared fs old opens) request request kind (Done (Answer.CreateSession known))) (none_ended before) runs));
-    answered = c.answer_first.ensures.answered 43;
-    kept = result_kept (in_progress_of c.args.self.now) 43 _ _ (c.answer_first.ensures.own tt 43);
-    joins = result_joins (table_of c.args.engine.now.table.now).settings (in_progress_of c.args.self.now) 43 _ (c.answer_first.ensures.own tt 43);
-    settings = ap (λ (t : Table). t.settings) c.plan_session.ensures.same;
+    answered = result_answered (in_progress_of c.args.self.now) _ c.answer_first.ensures.answered;
+    kept = result_kept (in_progress_of c.args.self.now) _ _ c.answer_first.ensures.answered;
     table = tt;
     opens = tt;
     volume =
@@ -220,10 +204,8 @@ returns-in-Err-Status g c = record {
         let is = rw c.in-Err-Status.field-0-is at c.in-Err-Status.ensures.planned in
         subst (λ (t : Table). Operates now (shared fs old before) (shared fs t before) request kind c.refuse.result) (sym c.plan_session.ensures.same)
         (c.refuse.ensures.gives now (shared fs old before) (shared fs old before) kind (create_refuses limits now fs old before request arguments c.in-Err-Status.status served is));
-    answered = result_answered (in_progress_of c.args.self.now) 43 _ (c.refuse.ensures.answered 43);
-    kept = result_kept (in_progress_of c.args.self.now) 43 _ _ (c.refuse.ensures.answered 43);
-    joins = result_joins (table_of c.args.engine.now.table.now).settings (in_progress_of c.args.self.now) 43 _ (c.refuse.ensures.answered 43);
-    settings = ap (λ (t : Table). t.settings) c.plan_session.ensures.same;
+    answered = result_answered (in_progress_of c.args.self.now) _ c.refuse.ensures.answered;
+    kept = result_kept (in_progress_of c.args.self.now) _ _ c.refuse.ensures.answered;
     table = tt;
     opens = tt;
     volume =
@@ -249,8 +231,6 @@ returns-in-Err-Memory g c = record {
     gives = λ keeps. tt;
     answered = tt;
     kept = tt;
-    joins = tt;
-    settings = ap (λ (t : Table). t.settings) c.plan_session.ensures.same;
     table = c.plan_session.ensures.same;
     opens = refl;
     volume = leaves_all g.D.Device.keeps_word _ _ _ _ _ refl refl;

@@ -1,7 +1,4 @@
-use Rattle.std.proofs.Common.{Option, sym, ap, ◌∙◌}
-use Rattle.model.specs.Sessions.Session.{Table}
-use Rattle.model_tree.specs.declared.status.Status.{Status}
-use Rattle.compound.proofs.TablesGo.{destroy_client_run}
+use Rattle.std.proofs.Common.{◌∙◌}
 use Rattle.model.specs.Operations.Answer.{Answer, Done, Refused}
 use Rattle.model.specs.Operations.Operation.{Argument}
 use Rattle.opens.specs.Views.{opens_of}
@@ -16,8 +13,7 @@ use Rattle.compound.proofs.running.Running.destroy_clientid.Goals as goal
 pub returns-in-Ok : goal.returns-in-Ok
 unfolding in_progress_of
 returns-in-Ok c = λ version. (
-  c.answer_first.ensures.own tt 57,
-  sym (ap (λ (r : Option Status × Table). r.1.settings) c.in-Ok.ensures.answered) ∙ (destroy_client_run _ _ (table_of c.args.table.now)).1,
+  c.answer_first.ensures.answered,
   λ now fs same.
       let opens = opens_of c.args.opens.now in
       let request = in_progress_of c.args.self.now in
@@ -30,8 +26,7 @@ returns-in-Ok c = λ version. (
 pub returns : goal.returns
 unfolding in_progress_of
 returns c = λ version. (
-  c.refuse.ensures.answered 57,
-  sym (ap (λ (r : Option Status × Table). r.1.settings) c.in-Err.ensures.answered) ∙ (destroy_client_run _ _ (table_of c.args.table.now)).1,
+  c.refuse.ensures.answered,
   λ now fs same.
       let opens = opens_of c.args.opens.now in
       let request = in_progress_of c.args.self.now in

@@ -1,9 +1,9 @@
-use Rattle.std.proofs.Common.{refl, ap, subst, ◌∙◌}
+use Rattle.std.proofs.Common.{refl, sym, ap, subst, ◌∙◌}
 use Rattle.fs.specs.Views.{fs_of, fs_failures}
 use Rattle.model.specs.Operations.Answer.{Answer, Done, Refused}
 use Rattle.model.specs.Operations.Operation.{Argument}
 use Rattle.model_tree.specs.Seats.SeatEdits.{edited_all, edits_view}
-use Rattle.model.specs.Sessions.Session.{Table, destroy_session}
+use Rattle.model.specs.Sessions.Session.{destroy_session}
 use Rattle.session.specs.Views.{table_of}
 use Rattle.volume.proofs.ServeLaws.{is_err_of}
 use Rattle.volume.specs.Changes as ends
@@ -13,9 +13,8 @@ use Rattle.compound.specs.States.{shared}
 use Rattle.compound.specs.Views.{in_progress_of}
 use Rattle.compound.proofs.Storing.{seated_as, seated_still, seats_change}
 use Rattle.compound.proofs.Tables.{destroy_done, destroy_runs, destroy_refuses, edits_fit, same_tree}
-use Rattle.compound.proofs.TablesGo.{destroy_run}
 use Rattle.compound.proofs.Outcomes.{if_not, on_err}
-use Rattle.compound.proofs.OwnResults.{result_answered, result_joins, result_kept}
+use Rattle.compound.proofs.OwnResults.{result_answered, result_kept}
 use Rattle.compound.proofs.QuietLaws.{leaves_all}
 use Rattle.opens.specs.Views.{opens_of}
 use Rattle.compound.proofs.running.Running.destroy_session.Goals as goal
@@ -43,10 +42,8 @@ returns-in_ok-put_seats-in-Ok g c = record {
         let planned = c.in-Ok.ensures.planned in
         c.answer_first-done.ensures.gives now (shared fs old opens) (shared new table opens) (Argument.DestroySession id)
         (destroy_runs now fs new old table opens request id (destroy_done id old table planned.done (c.end_session.ensures planned.done)) (c.in_ok-put_seats-in-Ok.ensures.same keeps));
-    answered = c.answer_first-done.ensures.answered 44;
-    kept = result_kept (in_progress_of c.args.self.now) 44 _ _ (c.answer_first-done.ensures.own tt 44);
-    joins = result_joins (table_of c.args.engine.now.table.now).settings (in_progress_of c.args.self.now) 44 _ (c.answer_first-done.ensures.own tt 44);
-    settings = ap (λ (t : Table). t.settings) (c.end_session.ensures c.in-Ok.ensures.planned.done) ∙ (destroy_run c.args.id.now (table_of c.args.engine.now.table.now)).1;
+    answered = result_answered (in_progress_of c.args.self.now) _ c.answer_first-done.ensures.answered;
+    kept = result_kept (in_progress_of c.args.self.now) _ _ c.answer_first-done.ensures.answered;
     table = tt;
     opens = tt;
     volume =
@@ -76,8 +73,6 @@ returns-in_err-put_seats-in-Ok g c = record {
     gives = λ keeps. if_not _ _ _ c.from_residual.ensures.1;
     answered = if_not _ _ _ c.from_residual.ensures.1;
     kept = if_not _ _ _ c.from_residual.ensures.1;
-    joins = if_not _ _ _ c.from_residual.ensures.1;
-    settings = refl;
     table = on_err _ refl;
     opens = on_err _ refl;
     volume =
@@ -113,10 +108,8 @@ returns-in-Err-Status g c = record {
         let is = rw c.in-Err-Status.field-0-is at c.in-Err-Status.ensures.planned in
         c.refuse.ensures.gives now (shared fs old opens) (shared fs old opens) (Argument.DestroySession c.args.id.now)
         (destroy_refuses now fs old opens (in_progress_of c.args.self.now) c.args.id.now c.in-Err-Status.status is);
-    answered = result_answered (in_progress_of c.args.self.now) 44 _ (c.refuse.ensures.answered 44);
-    kept = result_kept (in_progress_of c.args.self.now) 44 _ _ (c.refuse.ensures.answered 44);
-    joins = result_joins (table_of c.args.engine.now.table.now).settings (in_progress_of c.args.self.now) 44 _ (c.refuse.ensures.answered 44);
-    settings = refl;
+    answered = result_answered (in_progress_of c.args.self.now) _ c.refuse.ensures.answered;
+    kept = result_kept (in_progress_of c.args.self.now) _ _ c.refuse.ensures.answered;
     table = tt;
     opens = tt;
     volume =
@@ -139,8 +132,6 @@ returns-in-Err-Memory g c = record {
     gives = λ keeps. tt;
     answered = tt;
     kept = tt;
-    joins = tt;
-    settings = refl;
     table = refl;
     opens = refl;
     volume = leaves_all g.D.Device.keeps_word _ _ _ _ _ refl refl;

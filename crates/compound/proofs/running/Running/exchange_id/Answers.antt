@@ -1,7 +1,4 @@
-use Rattle.std.proofs.Common.{Ok, Result, refl, sym, ap, ◌∙◌}
-use Rattle.model.specs.Sessions.Session.{Table}
-use Rattle.model_tree.specs.declared.status.Status.{Status}
-use Rattle.compound.proofs.TablesGo.{exchange_run}
+use Rattle.std.proofs.Common.{Ok, refl, sym, ap, ◌∙◌}
 use Rattle.model.specs.Operations.Answer.{Answer, ExchangeIdAnswer, Done, Refused}
 use Rattle.model.specs.Operations.Operation.{Argument}
 use Rattle.opens.specs.Views.{opens_of}
@@ -19,8 +16,7 @@ use Rattle.compound.proofs.running.Running.exchange_id.Goals as goal
 pub returns-in-Ok : goal.returns-in-Ok
 unfolding in_progress_of
 returns-in-Ok c = (
-  c.answer_first_encoded.ensures.answered 42,
-  sym (ap (λ (r : Result ExchangeIdAnswer Status × Table). r.1.settings) c.in-Ok.ensures.answered) ∙ (exchange_run _ _ _ _ (table_of c.args.table.now)).1,
+  c.answer_first_encoded.ensures.answered,
   λ now fs same.
       let opens = opens_of c.args.opens.now in
       let request = in_progress_of c.args.self.now in
@@ -37,8 +33,7 @@ returns-in-Ok c = (
 pub returns-in-Err-Status : goal.returns-in-Err-Status
 unfolding in_progress_of
 returns-in-Err-Status c = (
-  c.refuse.ensures.answered 42,
-  sym (ap (λ (r : Result ExchangeIdAnswer Status × Table). r.1.settings) (rw c.in-Err-Status.field-0-is at c.in-Err-Status.ensures.answered)) ∙ (exchange_run _ _ _ _ (table_of c.args.table.now)).1,
+  c.refuse.ensures.answered,
   λ now fs same.
       let opens = opens_of c.args.opens.now in
       let request = in_progress_of c.args.self.now in

@@ -1,5 +1,5 @@
 use Rattle.std.proofs.Common.{refl, Result, Ok}
-use Rattle.fs.specs.Views.{fs_failures}
+use Rattle.fs.specs.Views.{fs_of, fs_failures}
 use Rattle.opens.specs.Views.{opens_of}
 use Rattle.session.specs.Views.{table_of}
 use Rattle.wire.specs.ArgumentViews.{open_view}

@@ -1,14 +1,9 @@
-use Rattle.std.proofs.Common.{◌≡◌, ◌<◌, ℕ, List, Result, false, refl, sym, ap, ap₂, subst, ◌∙◌, arith, IfOk}
+use Rattle.std.proofs.Common.{◌≡◌, ◌<◌, ℕ, List, Result, refl, sym, ap, subst, ◌∙◌, arith, IfOk}
 use Rattle.fs.proofs.ChangeLaws.{changes_by}
 use Rattle.fs.specs.Changes.{FsChanges}
-use Rattle.fs.specs.FileSystem.{FileSystem}
-use Rattle.fs.specs.declared.fault.FsFault.{FsFault}
-use Rattle.fs.specs.declared.fault.FsFault.TheVariants as faults
-use Rattle.fs.specs.declared.opening.Opened.{Opened}
-use Rattle.fs.specs.declared.opening.Opening.{Opening}
 use Rattle.fs.specs.Views.{fs_of, fs_failures}
 use Rattle.fs.specs.Opening.{after_open, open_effect, has_open_room, set_by, type_of}
-use Rattle.fs.specs.Operations.{IsNotDone, does_on}
+use Rattle.fs.specs.Operations.{does_on}
 use Rattle.fs.specs.Renaming.{info_of}
 use Rattle.model_tree.specs.declared.limits.Limits.{Limits}
 use Rattle.model.specs.Operations.Answer.{Refused}
@@ -19,7 +14,7 @@ use Rattle.model_tree.specs.declared.status.Status.{Status}
 use Rattle.opens.specs.Views.{open_of, opens_of}
 use Rattle.wire.specs.ArgumentViews.{open_type_view, open_view}
 use Rattle.wire.specs.SmallViews.{change_view}
-use Rattle.compound.specs.Beside.{has_opened_room, opened_too_big, ComesToOpen, IsRefusedOpen}
+use Rattle.compound.specs.Beside.{has_opened_room, ComesToOpen}
 use Rattle.compound.specs.Operates.{GivesIn, Operates, ChangesTreeAndOpens, HasResult}
 use Rattle.compound.specs.States.{shared}
 use Rattle.compound.specs.Volumes.{OperationGives, ending}
@@ -27,11 +22,9 @@ use Rattle.compound.specs.Views.{in_progress_of}
 use Rattle.compound.specs.declared.fault.Fault.{Fault}
 use Rattle.compound.specs.declared.fault.Fault.TheVariants as fault
 use Rattle.compound.specs.declared.executed.Executed.{Executed}
-use Rattle.compound.proofs.Changing.{told_gives, told_changes, fault_as, fault_is_encoded, not_refused}
-use Rattle.compound.proofs.QuietLaws.{leaves_all, left_all}
-use Rattle.volume.proofs.ServeLaws.{is_err_of}
+use Rattle.compound.proofs.Changing.{told_gives, told_changes, fault_is_encoded}
 use Rattle.compound.proofs.OpenLaws.{on_tree}
-use Rattle.compound.proofs.OpenNamedLaws.{left_no_room, named_opening, open_makes, open_up, opened_short, opens_to, sized}
+use Rattle.compound.proofs.OpenNamedLaws.{named_opening, open_makes, open_up, opened_short, opens_to, sized}
 use Rattle.compound.proofs.Rooms.{gives_refusal}
 use Rattle.compound.proofs.Trees.{is_on, wants}
 use Rattle.compound.proofs.VolumeLaws.{memory_changes, refusal_changes}
@@ -54,7 +47,7 @@ returns-in-Err g c = record {
         c.refuse.ensures.gives c.args.engine.now.moment (shared fs table opens) (shared fs table opens) kind
         (subst (λ (reason : Status). GivesIn c.args.engine.now.moment (shared fs table opens) (shared fs table opens) request request kind (Refused 18 reason)) (sym c.in-Err.ensures.err.0)
         (gives_refusal c.args.engine.now.moment (shared fs table opens) (shared fs table opens) request kind 18 _ (wants c.args.engine.now.moment fs table opens request kind refl c.in-Err.ensures.err.1)));
-    answered = c.refuse.ensures.answered 18;
+    answered = c.refuse.ensures.answered;
     table = refl;
     opens = tt;
     volume =
@@ -135,7 +128,6 @@ returns-in-Ok-open_file g c = record {
         let kind = Argument.Open arguments in
         let new = fs_of c.open_file.new.self in
         let how = open_type_view c.args.named.how.now in
-        let big = opened_too_big request (set_by (open_effect fs.volume.tree c.in-Ok.number c.args.named.name.now how) how) in
         let made = c.in-Ok-open_file.made in
         let state = beside fs request opens in
         let on = is_on fs request c.in-Ok.number state c.requires.run c.in-Ok.ensures.ok.0 c.in-Ok.ensures.ok.1 (is_beside fs request opens) in
@@ -155,7 +147,7 @@ returns-in-Ok-open_file g c = record {
         (c.args.named.opening ∙ ap (λ (of : OpenType). Opens_as of (ByName c.args.named.name.now)) (sym c.how_of.ensures.is))
         c.file_to_open-number.ensures.1) state there known) keeps)) in
         subst (λ (after : Opens). Operates c.args.engine.now.moment (shared fs table opens) (shared new table after) request kind c.give_open.result) (sym (c.give_open.ensures.opens ∙ given))
-        (c.give_open.ensures.gives c.args.engine.now.moment (shared fs table opens) (shared new table (opened opens asked).opens) kind refl (sym same)
+        (c.give_open.ensures.gives c.args.engine.now.moment (shared fs table opens) (shared new table (opened opens asked).opens) kind (sym same)
         (subst (λ (it : Open). ComesToOpen c.args.engine.now.moment (shared fs table opens) (shared new table (opened opens asked).opens) request it (change_view c.change_info.result) c.set_by.result kind) (sym c.in_ok-asked.ensures)
         (subst (λ (change : ChangeInfo). ComesToOpen c.args.engine.now.moment (shared fs table opens) (shared new table (opened opens asked).opens) request asked change c.set_by.result kind) (sym c.change_info.ensures)
         (subst (λ (words : List ℕ). ComesToOpen c.args.engine.now.moment (shared fs table opens) (shared new table (opened opens asked).opens) request asked (info_of made.directory) words kind) (sym c.set_by.ensures.is)
@@ -171,7 +163,6 @@ returns-in-Ok-open_file g c = record {
         let arguments = open_view c.args.named.arguments.now in
         let kind = Argument.Open arguments in
         let how = open_type_view c.args.named.how.now in
-        let big = opened_too_big request (set_by (open_effect fs.volume.tree c.in-Ok.number c.args.named.name.now how) how) in
         changes_by g.D.Device.keeps_word _ _
         (open_makes c.args.engine.now.moment fs request arguments table opens (record { directory = c.in-Ok.number; name = c.args.named.name; share = c.share_of.result; how = c.how_of.result }) c.is_full-is_full.result c.requires.run c.in-Ok.ensures.ok.0 c.in-Ok.ensures.ok.1
         (named_opening c.args.engine.now.moment fs request arguments opens _ c.requires.run c.in-Ok.ensures.ok.0 c.file_to_open-number.ensures.0 c.file_to_open-number.result c.limits.result.now.opens c.is_full-is_full.result (open_of c.in_ok-asked.asked)
@@ -179,71 +170,18 @@ returns-in-Ok-open_file g c = record {
         (record { directory = c.in-Ok.number; name = c.args.named.name; share = c.share_of.result; how = c.how_of.result }) c.in-Ok.ensures.ok.1 (sym c.share_of.ensures.access) (sym c.share_of.ensures.deny)
         (c.args.named.opening ∙ ap (λ (of : OpenType). Opens_as of (ByName c.args.named.name.now)) (sym c.how_of.ensures.is))
         c.file_to_open-number.ensures.1)
-        (has_open_room fs (record { directory = c.in-Ok.number; name = c.args.named.name; share = c.share_of.result; how = c.how_of.result }) c.open_room-room.result) big (sized c.args.engine.now.moment fs request arguments how c.args.named.name.now c.in-Ok.number c.args.named.opening c.in-Ok.ensures.ok.1 (has_open_room fs (record { directory = c.in-Ok.number; name = c.args.named.name; share = c.share_of.result; how = c.how_of.result }) c.open_room-room.result) big
-        (record {
-          has_is = c.open_room-room.ensures (open_effect fs.volume.tree c.in-Ok.number c.args.named.name.now (type_of c.how_of.result))
-              ∙ ap (λ (of : OpenType). has_opened_room request (set_by (open_effect fs.volume.tree c.in-Ok.number c.args.named.name.now of) how)) c.how_of.ensures.is;
-          reason_is = refl;
-        })) c.in-Ok-open_file.ensures.room.done)
+        (has_open_room fs (record { directory = c.in-Ok.number; name = c.args.named.name; share = c.share_of.result; how = c.how_of.result }) c.open_room-room.result) (sized c.args.engine.now.moment fs request arguments how c.args.named.name.now c.in-Ok.number c.args.named.opening c.in-Ok.ensures.ok.1 (has_open_room fs (record { directory = c.in-Ok.number; name = c.args.named.name; share = c.share_of.result; how = c.how_of.result }) c.open_room-room.result)
+        (c.open_room-room.ensures (open_effect fs.volume.tree c.in-Ok.number c.args.named.name.now (type_of c.how_of.result))
+        ∙ ap (λ (of : OpenType). has_opened_room request (set_by (open_effect fs.volume.tree c.in-Ok.number c.args.named.name.now of) how)) c.how_of.ensures.is)) c.in-Ok-open_file.ensures.room.done)
         _ _ _ _ _ c.in-Ok-open_file.ensures.volume;
   };
 }
 
 -- If it is not
 
-pub open_too_big-requires-clause-up : goal.open_too_big-requires-clause-up
-open_too_big-requires-clause-up g c = λ none.
-    let fs = fs_of c.args.engine.now.fs.now in
-    let new = fs_of c.open_file.new.self in
-    let kept = left_no_room _ _ _ _ _ _ Opened c.in-Err-open_file.fault none c.in-Err-open_file.ensures.volume in
-    subst (λ (one : FileSystem). one.volume.is_down ≡ false) (sym (left_all _ _ _ _ _ _ kept)) c.requires.up
-
-pub open_too_big-requires-clause-done : goal.open_too_big-requires-clause-done
+pub tell_fault-requires : goal.tell_fault-requires
 unfolding in_progress_of
-open_too_big-requires-clause-done g c = λ none reason is.
-    let opens = opens_of c.args.engine.now.opens.now in
-    let fs = fs_of c.args.engine.now.fs.now in
-    let new = fs_of c.open_file.new.self in
-    let request = in_progress_of c.args.self.now in
-    let arguments = open_view c.args.named.arguments.now in
-    let kind = Argument.Open arguments in
-    let asked : Opening = record { directory = c.in-Ok.number; name = c.args.named.name; share = c.share_of.result; how = c.how_of.result } in
-    let kept = left_no_room _ _ _ _ _ _ Opened c.in-Err-open_file.fault none c.in-Err-open_file.ensures.volume in
-    let state = beside fs request opens in
-    let there = is_beside fs request opens in
-    let on = is_on fs request c.in-Ok.number state c.requires.run c.in-Ok.ensures.ok.0 c.in-Ok.ensures.ok.1 there in
-    let opening = (named_opening c.args.engine.now.moment fs request arguments opens _ c.requires.run c.in-Ok.ensures.ok.0 c.file_to_open-number.ensures.0 c.file_to_open-number.result c.limits.result.now.opens c.is_full-is_full.result (open_of c.in_ok-asked.asked)
-    (ap (λ (limits : Limits). limits.opens) c.limits.ensures) c.in_ok-asked.ensures c.in_ok-reserve.ensures.same c.file_to_open-number.ensures.2 c.is_full-is_full.ensures.is c.is_full-is_full.ensures.high
-    (record { directory = c.in-Ok.number; name = c.args.named.name; share = c.share_of.result; how = c.how_of.result }) c.in-Ok.ensures.ok.1 (sym c.share_of.ensures.access) (sym c.share_of.ensures.deny)
-    (c.args.named.opening ∙ ap (λ (of : OpenType). Opens_as of (ByName c.args.named.name.now)) (sym c.how_of.ensures.is))
-    c.file_to_open-number.ensures.1) state there refl in
-    not_refused fs state c.args.engine.now.moment kind reason
-    (subst (λ (why : FsFault). IsNotDone fs state c.args.engine.now.moment kind why) none (c.in-Err-open_file.ensures.step state arguments on opening))
-    (subst (λ (one : FileSystem). IsRefusedOpen one request.context.cred c.args.engine.now.moment asked c.is_full-is_full.result reason) (left_all _ _ _ _ _ _ kept) is state arguments on opening)
-
-pub returns-in_err-too_big-in-Err-open_file : goal.returns-in_err-too_big-in-Err-open_file
-returns-in_err-too_big-in-Err-open_file g c = record {
-  same = record { fs = refl; table = refl; opens = refl };
-  state = record {
-    gives = λ keeps. if_not _ _ _ c.from_residual-in_err-too_big-in-Err-open_file.ensures.1;
-    answered = if_not _ _ _ c.from_residual-in_err-too_big-in-Err-open_file.ensures.1;
-    table = refl;
-    opens = on_err _ c.in_ok-reserve.ensures.same;
-    volume =
-        let fs = fs_of c.args.engine.now.fs.now in
-        let new = fs_of c.open_file.new.self in
-        let reason = c.in_err-too_big-in-Err-open_file.field-0.0 in
-        let residual = c.from_residual-in_err-too_big-in-Err-open_file in
-        let told = is_err_of residual.result reason residual.ensures.1 in
-        let both = rw c.in_err-too_big-in-Err-open_file.was at c.open_too_big.ensures.err in
-        let kept = left_no_room _ _ _ _ _ _ Opened c.in-Err-open_file.fault both.1 c.in-Err-open_file.ensures.volume in
-        rw (told, both.0) (leaves_all g.D.Device.keeps_word _ fs new _ _ (left_all _ _ _ _ _ _ kept) (kept.volume_changes.none (λ broken. cc)));
-  };
-}
-
-pub tell_fault-requires-clause-up : goal.tell_fault-requires-clause-up
-unfolding in_progress_of
-tell_fault-requires-clause-up g c =
+tell_fault-requires g c =
     let opens = opens_of c.args.engine.now.opens.now in
     let fs = fs_of c.args.engine.now.fs.now in
     let request = in_progress_of c.args.self.now in
@@ -257,9 +195,9 @@ tell_fault-requires-clause-up g c =
     (c.args.named.opening ∙ ap (λ (of : OpenType). Opens_as of (ByName c.args.named.name.now)) (sym c.how_of.ensures.is))
     c.file_to_open-number.ensures.1) state there known))
 
-pub returns-in_ok-too_big-in-Err-open_file : goal.returns-in_ok-too_big-in-Err-open_file
+pub returns-in-Err-open_file : goal.returns-in-Err-open_file
 unfolding in_progress_of
-returns-in_ok-too_big-in-Err-open_file g c = record {
+returns-in-Err-open_file g c = record {
   same = record { fs = refl; table = refl; opens = refl };
   state = record {
     gives = λ keeps.
@@ -270,21 +208,12 @@ returns-in_ok-too_big-in-Err-open_file g c = record {
         let kind = Argument.Open arguments in
         let new = fs_of c.open_file.new.self in
         let how = open_type_view c.args.named.how.now in
-        let big = opened_too_big request (set_by (open_effect fs.volume.tree c.in-Ok.number c.args.named.name.now how) how) in
-        let too_big_is = λ (none : c.in-Err-open_file.fault ≡ faults.NoRoom).
-        let kept = left_no_room _ _ _ _ _ _ Opened c.in-Err-open_file.fault none c.in-Err-open_file.ensures.volume in
-        let said : c.in_ok-too_big-in-Err-open_file.too_big ≡ opened_too_big request (set_by (open_effect new.volume.tree c.in-Ok.number c.args.named.name.now (type_of c.how_of.result)) how) =
-        (rw c.in_ok-too_big-in-Err-open_file.was at c.open_too_big.ensures.ok) none in
-        said ∙ ap₂ (λ (one : FileSystem) (of : OpenType). opened_too_big request (set_by (open_effect one.volume.tree c.in-Ok.number c.args.named.name.now of) how)) (left_all _ _ _ _ _ _ kept) c.how_of.ensures.is in
         let left = opens_of c.reserve.new.self in
         changed_if c.args.engine.now.moment fs new (table_of c.args.engine.now.table.now) opens left request kind c.tell_fault.result
-        (subst (λ (r : Result Executed Fault). IfOk r (ChangesTreeAndOpens fs new opens left c.args.engine.now.moment request kind)) (sym (c.tell_fault.ensures ∙ fault_as 18 c.in_ok-too_big-in-Err-open_file.too_big big c.in-Err-open_file.fault too_big_is))
-        (told_gives c.args.engine.now.moment fs request kind (on_tree c.args.engine.now.moment request arguments) _ _ (sized c.args.engine.now.moment fs request arguments how c.args.named.name.now c.in-Ok.number c.args.named.opening c.in-Ok.ensures.ok.1 (has_open_room fs (record { directory = c.in-Ok.number; name = c.args.named.name; share = c.share_of.result; how = c.how_of.result }) c.open_room-room.result) big
-        (record {
-          has_is = c.open_room-room.ensures (open_effect fs.volume.tree c.in-Ok.number c.args.named.name.now (type_of c.how_of.result))
-              ∙ ap (λ (of : OpenType). has_opened_room request (set_by (open_effect fs.volume.tree c.in-Ok.number c.args.named.name.now of) how)) c.how_of.ensures.is;
-          reason_is = refl;
-        }))
+        (subst (λ (r : Result Executed Fault). IfOk r (ChangesTreeAndOpens fs new opens left c.args.engine.now.moment request kind)) (sym c.tell_fault.ensures)
+        (told_gives c.args.engine.now.moment fs request kind (on_tree c.args.engine.now.moment request arguments) _ (sized c.args.engine.now.moment fs request arguments how c.args.named.name.now c.in-Ok.number c.args.named.opening c.in-Ok.ensures.ok.1 (has_open_room fs (record { directory = c.in-Ok.number; name = c.args.named.name; share = c.share_of.result; how = c.how_of.result }) c.open_room-room.result)
+        (c.open_room-room.ensures (open_effect fs.volume.tree c.in-Ok.number c.args.named.name.now (type_of c.how_of.result))
+        ∙ ap (λ (of : OpenType). has_opened_room request (set_by (open_effect fs.volume.tree c.in-Ok.number c.args.named.name.now of) how)) c.how_of.ensures.is))
         g.D.Device.keeps_word _ new _ _ c.requires.up _ opens left c.in-Err-open_file.fault c.in_ok-reserve.ensures.same
         (λ state there known. c.in-Err-open_file.ensures.step state arguments (is_on fs request c.in-Ok.number state c.requires.run c.in-Ok.ensures.ok.0 c.in-Ok.ensures.ok.1 there)
         ((named_opening c.args.engine.now.moment fs request arguments opens _ c.requires.run c.in-Ok.ensures.ok.0 c.file_to_open-number.ensures.0 c.file_to_open-number.result c.limits.result.now.opens c.is_full-is_full.result (open_of c.in_ok-asked.asked)
@@ -299,8 +228,8 @@ returns-in_ok-too_big-in-Err-open_file g c = record {
         let request = in_progress_of c.args.self.now in
         let arguments = open_view c.args.named.arguments.now in
         let kind = Argument.Open arguments in
-        subst (λ (r : Result Executed Fault). IfOk r (HasResult request 18)) (sym c.tell_fault.ensures)
-        (fault_is_encoded request 18 18 c.in_ok-too_big-in-Err-open_file.too_big c.in-Err-open_file.fault (omega arith) c.in_ok-too_big-in-Err-open_file.ensures.refuses (open_up c.args.engine.now.moment fs request arguments opens c.in-Err-open_file.fault c.requires.up
+        subst (λ (r : Result Executed Fault). IfOk r (HasResult request)) (sym c.tell_fault.ensures)
+        (fault_is_encoded request 18 c.in-Err-open_file.fault (omega arith) (open_up c.args.engine.now.moment fs request arguments opens c.in-Err-open_file.fault c.requires.up
         (λ state there known. c.in-Err-open_file.ensures.step state arguments (is_on fs request c.in-Ok.number state c.requires.run c.in-Ok.ensures.ok.0 c.in-Ok.ensures.ok.1 there)
         ((named_opening c.args.engine.now.moment fs request arguments opens _ c.requires.run c.in-Ok.ensures.ok.0 c.file_to_open-number.ensures.0 c.file_to_open-number.result c.limits.result.now.opens c.is_full-is_full.result (open_of c.in_ok-asked.asked)
         (ap (λ (limits : Limits). limits.opens) c.limits.ensures) c.in_ok-asked.ensures c.in_ok-reserve.ensures.same c.file_to_open-number.ensures.2 c.is_full-is_full.ensures.is c.is_full-is_full.ensures.high
@@ -318,19 +247,10 @@ returns-in_ok-too_big-in-Err-open_file g c = record {
         let kind = Argument.Open arguments in
         let new = fs_of c.open_file.new.self in
         let how = open_type_view c.args.named.how.now in
-        let big = opened_too_big request (set_by (open_effect fs.volume.tree c.in-Ok.number c.args.named.name.now how) how) in
-        let too_big_is = λ (none : c.in-Err-open_file.fault ≡ faults.NoRoom).
-        let kept = left_no_room _ _ _ _ _ _ Opened c.in-Err-open_file.fault none c.in-Err-open_file.ensures.volume in
-        let said : c.in_ok-too_big-in-Err-open_file.too_big ≡ opened_too_big request (set_by (open_effect new.volume.tree c.in-Ok.number c.args.named.name.now (type_of c.how_of.result)) how) =
-        (rw c.in_ok-too_big-in-Err-open_file.was at c.open_too_big.ensures.ok) none in
-        said ∙ ap₂ (λ (one : FileSystem) (of : OpenType). opened_too_big request (set_by (open_effect one.volume.tree c.in-Ok.number c.args.named.name.now of) how)) (left_all _ _ _ _ _ _ kept) c.how_of.ensures.is in
-        subst (λ (r : Result Executed Fault). FsChanges g.D.Device.keeps_word (OperationGives (shared fs table opens) request c.args.engine.now.moment kind) fs new (fs_failures c.args.engine.now.fs.now) (fs_failures c.open_file.new.self) (ending r)) (sym (c.tell_fault.ensures ∙ fault_as 18 c.in_ok-too_big-in-Err-open_file.too_big big c.in-Err-open_file.fault too_big_is))
-        (told_changes c.args.engine.now.moment fs request kind (on_tree c.args.engine.now.moment request arguments) _ _ (sized c.args.engine.now.moment fs request arguments how c.args.named.name.now c.in-Ok.number c.args.named.opening c.in-Ok.ensures.ok.1 (has_open_room fs (record { directory = c.in-Ok.number; name = c.args.named.name; share = c.share_of.result; how = c.how_of.result }) c.open_room-room.result) big
-        (record {
-          has_is = c.open_room-room.ensures (open_effect fs.volume.tree c.in-Ok.number c.args.named.name.now (type_of c.how_of.result))
-              ∙ ap (λ (of : OpenType). has_opened_room request (set_by (open_effect fs.volume.tree c.in-Ok.number c.args.named.name.now of) how)) c.how_of.ensures.is;
-          reason_is = refl;
-        }))
+        subst (λ (r : Result Executed Fault). FsChanges g.D.Device.keeps_word (OperationGives (shared fs table opens) request c.args.engine.now.moment kind) fs new (fs_failures c.args.engine.now.fs.now) (fs_failures c.open_file.new.self) (ending r)) (sym c.tell_fault.ensures)
+        (told_changes c.args.engine.now.moment fs request kind (on_tree c.args.engine.now.moment request arguments) _ (sized c.args.engine.now.moment fs request arguments how c.args.named.name.now c.in-Ok.number c.args.named.opening c.in-Ok.ensures.ok.1 (has_open_room fs (record { directory = c.in-Ok.number; name = c.args.named.name; share = c.share_of.result; how = c.how_of.result }) c.open_room-room.result)
+        (c.open_room-room.ensures (open_effect fs.volume.tree c.in-Ok.number c.args.named.name.now (type_of c.how_of.result))
+        ∙ ap (λ (of : OpenType). has_opened_room request (set_by (open_effect fs.volume.tree c.in-Ok.number c.args.named.name.now of) how)) c.how_of.ensures.is))
         g.D.Device.keeps_word _ new _ _ c.requires.up _ table opens c.in-Err-open_file.fault
         (λ state there known. c.in-Err-open_file.ensures.step state arguments (is_on fs request c.in-Ok.number state c.requires.run c.in-Ok.ensures.ok.0 c.in-Ok.ensures.ok.1 there)
         ((named_opening c.args.engine.now.moment fs request arguments opens _ c.requires.run c.in-Ok.ensures.ok.0 c.file_to_open-number.ensures.0 c.file_to_open-number.result c.limits.result.now.opens c.is_full-is_full.result (open_of c.in_ok-asked.asked)
@@ -352,12 +272,9 @@ returns-in_ok-too_big-in-Err-open_file g c = record {
         (record { directory = c.in-Ok.number; name = c.args.named.name; share = c.share_of.result; how = c.how_of.result }) c.in-Ok.ensures.ok.1 (sym c.share_of.ensures.access) (sym c.share_of.ensures.deny)
         (c.args.named.opening ∙ ap (λ (of : OpenType). Opens_as of (ByName c.args.named.name.now)) (sym c.how_of.ensures.is))
         c.file_to_open-number.ensures.1)
-        (has_open_room fs (record { directory = c.in-Ok.number; name = c.args.named.name; share = c.share_of.result; how = c.how_of.result }) c.open_room-room.result) big (sized c.args.engine.now.moment fs request arguments how c.args.named.name.now c.in-Ok.number c.args.named.opening c.in-Ok.ensures.ok.1 (has_open_room fs (record { directory = c.in-Ok.number; name = c.args.named.name; share = c.share_of.result; how = c.how_of.result }) c.open_room-room.result) big
-        (record {
-          has_is = c.open_room-room.ensures (open_effect fs.volume.tree c.in-Ok.number c.args.named.name.now (type_of c.how_of.result))
-              ∙ ap (λ (of : OpenType). has_opened_room request (set_by (open_effect fs.volume.tree c.in-Ok.number c.args.named.name.now of) how)) c.how_of.ensures.is;
-          reason_is = refl;
-        })))
+        (has_open_room fs (record { directory = c.in-Ok.number; name = c.args.named.name; share = c.share_of.result; how = c.how_of.result }) c.open_room-room.result) (sized c.args.engine.now.moment fs request arguments how c.args.named.name.now c.in-Ok.number c.args.named.opening c.in-Ok.ensures.ok.1 (has_open_room fs (record { directory = c.in-Ok.number; name = c.args.named.name; share = c.share_of.result; how = c.how_of.result }) c.open_room-room.result)
+        (c.open_room-room.ensures (open_effect fs.volume.tree c.in-Ok.number c.args.named.name.now (type_of c.how_of.result))
+        ∙ ap (λ (of : OpenType). has_opened_room request (set_by (open_effect fs.volume.tree c.in-Ok.number c.args.named.name.now of) how)) c.how_of.ensures.is)))
         c.in-Err-open_file.ensures.volume);
   };
 }

@@ -1,12 +1,12 @@
-use Rattle.std.proofs.Common.{refl}
+use Rattle.std.proofs.Common.{ap, refl}
 use Rattle.fs.specs.Views.{fs_of, fs_failures}
 use Rattle.opens.specs.Views.{opens_of}
-use Rattle.session.specs.Views.{table_of}
+use Rattle.session.specs.Views.{table_of, reply_kept}
 use Rattle.wire.specs.ArgumentView.{argument_view}
 use Rattle.compound.specs.States.{shared_of}
 use Rattle.compound.specs.Views.{in_progress_of}
 use Rattle.compound.proofs.Operating.{changes_run, operated_kept, quiet_runs, reads_or, reads_run, table_or}
-use Rattle.compound.proofs.OwnResults.{result_answered, result_joins, result_kept}
+use Rattle.compound.proofs.OwnResults.{result_answered, result_kept}
 use Rattle.compound.proofs.running.Running.operate.Goals as goal
 
 -- It changes the tree
@@ -79,8 +79,7 @@ returns-in-Close g c =
       state = quiet_runs g.D.Device.keeps_word engine.moment (shared_of engine.fs.now engine.table.now engine.opens.now) (fs_failures engine.fs.now) request (argument_view c.args.argument.now)
           (rw c.in-Close.is refl) c.requires.agrees (rw c.in-Close.is refl) c.requires.ready.up
           table (opens_of c.close.new.opens) c.close.result (rw c.in-Close.is (c.close.ensures.gives engine.moment table))
-          (rw c.in-Close.is (result_answered request 4 c.close.result c.close.ensures.answered)) (result_kept request 4 table c.close.result c.close.ensures.answered)
-          (result_joins table.settings request 4 c.close.result c.close.ensures.answered) refl;
+          (result_answered request c.close.result c.close.ensures.answered) (result_kept request table c.close.result c.close.ensures.answered);
     }
 
 -- It changes the table
@@ -95,8 +94,7 @@ returns-in-ReclaimComplete g c =
       state = quiet_runs g.D.Device.keeps_word engine.moment (shared_of engine.fs.now engine.table.now engine.opens.now) (fs_failures engine.fs.now) request (argument_view c.args.argument.now)
           (rw c.in-ReclaimComplete.is refl) c.requires.agrees (rw c.in-ReclaimComplete.is refl) c.requires.ready.up
           table (opens_of engine.opens.now) c.reclaim.result (rw c.in-ReclaimComplete.is (c.reclaim.ensures.gives engine.moment (opens_of engine.opens.now)))
-          (rw c.in-ReclaimComplete.is (result_answered request 58 c.reclaim.result c.reclaim.ensures.answered)) (result_kept request 58 table c.reclaim.result c.reclaim.ensures.answered)
-          (result_joins (table_of engine.table.now).settings request 58 c.reclaim.result c.reclaim.ensures.answered) c.reclaim.ensures.settings;
+          (result_answered request c.reclaim.result c.reclaim.ensures.answered) (result_kept request table c.reclaim.result c.reclaim.ensures.answered);
     }
 
 pub returns-in-Sequence : goal.returns-in-Sequence
@@ -110,8 +108,7 @@ returns-in-Sequence g c =
       state = quiet_runs g.D.Device.keeps_word engine.moment (shared_of engine.fs.now engine.table.now engine.opens.now) (fs_failures engine.fs.now) request (argument_view c.args.argument.now)
           (rw c.in-Sequence.is refl) c.requires.agrees (rw c.in-Sequence.is refl) c.requires.ready.up
           table (opens_of engine.opens.now) c.sequence.result (rw c.in-Sequence.is gives)
-          (rw c.in-Sequence.is (c.sequence.ensures.answered 53)) (operated_kept engine.moment _ _ request _ c.sequence.result gives)
-          c.sequence.ensures.joins c.sequence.ensures.settings;
+          c.sequence.ensures.answered (operated_kept engine.moment _ _ request _ c.sequence.result gives);
     }
 
 pub returns-in-ExchangeId : goal.returns-in-ExchangeId

@@ -8,7 +8,6 @@ use Rattle.model.specs.Operations.Answer.{Answer, Refused}
 use Rattle.model_tree.specs.Trees.Tree.{bytes_at}
 use Rattle.model.specs.Operations.Operation.{Argument}
 use Rattle.model_tree.specs.declared.status.Status.{Status}
-use Rattle.model_tree.specs.declared.status.Status.TheVariants as status
 use Rattle.opens.specs.Views.{opens_of}
 use Rattle.wire.specs.ArgumentViews.{read_view}
 use Rattle.compound.specs.Operates.{Operates, GivesIn, ChangesTreeAndOpens, HasResult}
@@ -19,14 +18,14 @@ use Rattle.compound.specs.declared.fault.Fault.{Fault}
 use Rattle.compound.specs.declared.executed.Executed.{Executed}
 use Rattle.compound.proofs.Changing.{fault_is_encoded}
 use Rattle.compound.proofs.QuietLaws.{left_all}
-use Rattle.compound.proofs.ReadLaws.{read_wants, read_ok, read_up, read_nothing, read_ended, told_reads, told_changes}
+use Rattle.compound.proofs.ReadLaws.{read_wants, read_ok, read_up, read_nothing, read_quietly, told_reads, told_changes}
 use Rattle.compound.proofs.Rooms.{gives_refusal}
 use Rattle.compound.proofs.Trees.{is_on}
 use Rattle.compound.proofs.VolumeLaws.{memory_changes, quiet_changes}
 use Rattle.volume.proofs.ServeLaws.{is_err_of}
 use Rattle.compound.specs.declared.fault.Fault.TheVariants as fault
 use Rattle.session.specs.Views.{table_of}
-use Rattle.compound.proofs.Outcomes.{or_if, changed_if, on_err, if_not}
+use Rattle.compound.proofs.Outcomes.{changed_if, on_err, if_not}
 use Rattle.compound.proofs.running.Running.read.Goals as goal
 
 pub returns-in-Err : goal.returns-in-Err
@@ -45,7 +44,7 @@ returns-in-Err g c = record {
         c.refuse.ensures.gives now (shared fs table opens) (shared fs table opens) kind
         (subst (λ (reason : Status). GivesIn now (shared fs table opens) (shared fs table opens) request request kind (Refused 25 reason)) (sym c.in-Err.ensures.err.0)
         (gives_refusal now (shared fs table opens) (shared fs table opens) request kind 25 _ (read_wants now fs table opens request arguments c.in-Err.ensures.err.1)));
-    answered = c.refuse.ensures.answered 25;
+    answered = c.refuse.ensures.answered;
     table = refl;
     opens = tt;
     volume =
@@ -68,7 +67,7 @@ returns-in_err-values g c = record {
         let now = c.args.engine.now.moment in
         let table = table_of c.args.engine.now.table.now in
         memory_changes g.D.Device.keeps_word _ (fs_of c.args.engine.now.fs.now) (fs_failures c.args.engine.now.fs.now) c.from_residual.result c.in_err-values.field-0.0
-        c.from_residual.ensures.1 (rw c.in_err-values.was at c.memory_for.ensures.values);
+        c.from_residual.ensures.1 (rw c.in_err-values.was at c.room_for.ensures.values);
   };
 }
 
@@ -92,21 +91,21 @@ returns-in_ok-finish-in-Ok-read g c = record {
         let few : length part < 2 ^ 32 =
         omega (arith, c.in_ok-values.ensures.count, length-take (min arguments.count fs.volume.limits.transfer_bytes) (drop arguments.offset (bytes_at fs.volume.tree c.in-Ok.number))) in
         let answer = Answer.Read (record { is_end = c.in-Ok-read.is_end; data_bytes = part }) in
-        subst (λ (one : FileSystem). IfOk c.settle_encoded.result (Operates now (shared fs table opens) (shared one table opens) request kind))
+        subst (λ (one : FileSystem). Operates now (shared fs table opens) (shared one table opens) request kind c.settle_encoded.result)
         (sym (left_all g.D.Device.keeps_word (IsTree fs.volume fs.volume.tree) fs new (fs_failures c.args.engine.now.fs.now) (fs_failures c.read.new.self) c.in-Ok-read.ensures.volume))
-        (or_if _ c.settle_encoded.result (c.settle_encoded.ensures.gives now (shared fs table opens) kind answer
+        (c.settle_encoded.ensures.gives now (shared fs table opens) kind answer
         (record { number_is = refl; values_are = sym (c.in_ok-finish-in-Ok-read.ensures c.in_ok-values.values.items part (c.in-Ok-read.ensures.bytes keeps) c.in_ok-values.ensures.values few) }) refl
         (read_ok now fs opens request arguments table answer
         (λ state there known. c.in-Ok-read.ensures.step state now arguments.state (is_on fs request c.in-Ok.number state c.requires.run c.in-Ok.ensures.ok.0 c.in-Ok.ensures.ok.1 there)
-        (c.verdict-verdict.ensures.is state known there.context_is)))));
-    answered = or_if _ c.settle_encoded.result c.settle_encoded.ensures.answered;
+        (c.verdict-verdict.ensures.is state known there.context_is))));
+    answered = c.settle_encoded.ensures.answered;
     table = refl;
-    opens = on_err _ refl;
+    opens = tt;
     volume =
         let now = c.args.engine.now.moment in
         let table = table_of c.args.engine.now.table.now in
-        read_ended now (fs_of c.args.engine.now.fs.now) (opens_of c.args.engine.now.opens.now) (in_progress_of c.args.self.now) (read_view c.args.arguments.now) g.D.Device.keeps_word
-        (fs_of c.read.new.self) _ _ _ c.settle_encoded.result c.settle_encoded.ensures.answered table c.requires.up c.in-Ok-read.ensures.volume;
+        read_quietly now (fs_of c.args.engine.now.fs.now) (opens_of c.args.engine.now.opens.now) (in_progress_of c.args.self.now) (read_view c.args.arguments.now) g.D.Device.keeps_word
+        (fs_of c.read.new.self) _ _ table c.requires.up c.in-Ok-read.ensures.volume;
   };
 }
 
@@ -131,9 +130,9 @@ returns-in_err-finish-in-Ok-read g c = record {
 
 -- If it is not
 
-pub tell_fault-requires-clause-up : goal.tell_fault-requires-clause-up
+pub tell_fault-requires : goal.tell_fault-requires
 unfolding in_progress_of
-tell_fault-requires-clause-up g c =
+tell_fault-requires g c =
     let fs = fs_of c.args.engine.now.fs.now in
     let request = in_progress_of c.args.self.now in
     let arguments = read_view c.args.arguments.now in
@@ -162,8 +161,8 @@ returns-in-Err-read g c = record {
         let fs = fs_of c.args.engine.now.fs.now in
         let request = in_progress_of c.args.self.now in
         let arguments = read_view c.args.arguments.now in
-        subst (λ (r : Result Executed Fault). IfOk r (HasResult request 25)) (sym c.tell_fault.ensures)
-        (fault_is_encoded request 25 25 status.RepTooBig c.in-Err-read.fault (omega arith) (λ zero. omega (arith, zero))
+        subst (λ (r : Result Executed Fault). IfOk r (HasResult request)) (sym c.tell_fault.ensures)
+        (fault_is_encoded request 25 c.in-Err-read.fault (omega arith)
         (read_up 0 fs (opens_of c.args.engine.now.opens.now) request arguments c.in-Err-read.fault c.requires.up
         (λ state there known. c.in-Err-read.ensures.step state 0 arguments.state (is_on fs request c.in-Ok.number state c.requires.run c.in-Ok.ensures.ok.0 c.in-Ok.ensures.ok.1 there)
         (c.verdict-verdict.ensures.is state known there.context_is))));

@@ -20,6 +20,3 @@ returns-in-Err-clause-gives c = λ now fs opens.
     (gives_refusal now (shared fs old opens) (shared fs old opens) request kind 58 c.in-Err.status
     (table_runs now fs opens old old request request kind (Refused 58 c.in-Err.status)
     (λ world rest on. ran_reclaim world (with_rest request rest) now _ _ on (reclaim_refused request.context.client old c.in-Err.status (sym c.in-Err.ensures.answered)))))
-
-pub returns-in-Err-clause-answered : goal.returns-in-Err-clause-answered
-returns-in-Err-clause-answered c = c.refuse.ensures.answered 58

@@ -1,18 +1,18 @@
-use Rattle.std.proofs.Common.{true, Result, refl, sym, subst, arith, IfOk}
+use Rattle.std.proofs.Common.{true, Result, refl, sym, subst, ◌∙◌, arith, IfOk}
 use Rattle.fs.specs.Views.{fs_of, fs_failures}
 use Rattle.fs.proofs.ChangeLaws.{changes_by}
-use Rattle.model.specs.Operations.Answer.{Outcome, Done}
+use Rattle.model.specs.Operations.Answer.{Outcome}
 use Rattle.model.specs.Operations.Operation.{Argument}
 use Rattle.opens.specs.Views.{opens_of}
-use Rattle.compound.specs.Operates.{GivesIn, HasRoom, room_of, ChangesTreeAndOpens, HasResult}
+use Rattle.compound.specs.Operates.{GivesIn, HasRoom, ChangesTreeAndOpens, HasResult}
 use Rattle.compound.specs.States.{shared}
 use Rattle.compound.specs.Volumes.{OperationGives, ending}
 use Rattle.compound.specs.Views.{in_progress_of}
 use Rattle.compound.specs.declared.fault.Fault.{Fault}
 use Rattle.compound.specs.declared.executed.Executed.{Executed}
 use Rattle.fs.specs.Changes.{FsChanges}
-use Rattle.compound.proofs.Changing.{done_runs, told_gives, told_changes, fault_is_encoded, refused_gives}
-use Rattle.compound.proofs.Rooms.{fits_by_room, gives_in_room, with_room}
+use Rattle.compound.proofs.Changing.{done_runs, told_gives, told_changes, fault_is_encoded, is_short, refused_gives}
+use Rattle.compound.proofs.Rooms.{gives_in_room}
 use Rattle.wire.specs.ArgumentViews.{rename_view}
 use Rattle.compound.specs.Trees.{no_change, renamed_answer}
 use Rattle.fs.specs.Renaming.{is_itself, opens_after}
@@ -37,7 +37,7 @@ returns-in-Err g c = record {
         c.refuse.ensures.gives c.args.engine.now.moment (shared fs table opens) (shared fs table opens) (Argument.Rename arguments)
         (refused_gives c.args.engine.now.moment fs request (Argument.Rename arguments) (on_tree c.args.engine.now.moment fs request arguments) table opens c.in-Err.status
         (λ state there known. c.in-Err.ensures.err state c.args.engine.now.moment arguments there));
-    answered = c.refuse.ensures.answered 29;
+    answered = c.refuse.ensures.answered;
     table = refl;
     opens = tt;
     volume =
@@ -72,14 +72,20 @@ returns-in-Ok-rename g c = record {
         subst (λ (after : Opens). GivesIn c.args.engine.now.moment (shared fs table opens) (shared new table after) request request (Argument.Rename arguments) (outcome_view c.renamed.result)) (sym c.end_replaced.ensures)
         (subst (λ (outcome : Outcome). GivesIn c.args.engine.now.moment (shared fs table opens) (shared new table left) request request (Argument.Rename arguments) outcome) (sym c.renamed.ensures.is)
         (gives_in_room c.args.engine.now.moment (shared fs table opens) (shared new table left) request request (Argument.Rename arguments) (renamed_answer made.source made.target)
-        (renamed_room request no_change no_change made.source made.target true _ (with_room c.in-Ok-rename.ensures.room.done c.renamed_room-room.ensures)).has_is
+        (renamed_room request no_change no_change made.source made.target true (sym c.in-Ok-rename.ensures.room.done ∙ c.has_renamed_room-has_room.ensures))
         (done_runs c.args.engine.now.moment fs request (Argument.Rename arguments) (on_tree c.args.engine.now.moment fs request arguments) new table opens left request.context (renamed_answer made.source made.target)
         (λ state there known. does_rename c.args.engine.now.moment fs request arguments new made opens same state there known (same_name c.args.engine.now.moment fs request arguments c.in-Ok.numbers c.in-Ok.ensures.ok state there)
         (c.in-Ok-rename.ensures.step state (is_on_both c.args.engine.now.moment fs request arguments c.in-Ok.numbers c.requires.run c.in-Ok.ensures.ok state there) keeps)))));
     answered =
         let request = in_progress_of c.args.self.now in
         let made = c.in-Ok-rename.made in
-        (record { fits = c.renamed.ensures.fits; small = c.renamed.ensures.small; room = subst (HasRoom (room_of request 29) request) (sym c.renamed.ensures.is) (fits_by_room request 29 (Done (renamed_answer made.source made.target)) (renamed_room request no_change no_change made.source made.target true _ (with_room c.in-Ok-rename.ensures.room.done c.renamed_room-room.ensures)).has_is) }, tt);
+        record {
+          fits = c.renamed.ensures.fits;
+          small = c.renamed.ensures.small;
+          room = subst (HasRoom request) (sym c.renamed.ensures.is)
+              (is_short request (renamed_answer made.source made.target)
+              (renamed_room request no_change no_change made.source made.target true (sym c.in-Ok-rename.ensures.room.done ∙ c.has_renamed_room-has_room.ensures)));
+        };
     table = refl;
     opens = tt;
     volume =
@@ -88,16 +94,16 @@ returns-in-Ok-rename g c = record {
         let fs = fs_of c.args.engine.now.fs.now in
         let request = in_progress_of c.args.self.now in
         changes_by g.D.Device.keeps_word _ _
-        (rename_makes c.args.engine.now.moment fs request (rename_view c.args.arguments.now) table opens c.in-Ok.numbers c.requires.run c.in-Ok.ensures.ok _ _ c.renamed_room-room.ensures c.in-Ok-rename.ensures.room.done)
+        (rename_makes c.args.engine.now.moment fs request (rename_view c.args.arguments.now) table opens c.in-Ok.numbers c.requires.run c.in-Ok.ensures.ok _ c.has_renamed_room-has_room.ensures c.in-Ok-rename.ensures.room.done)
         _ _ _ _ _ c.in-Ok-rename.ensures.volume;
   };
 }
 
 -- If it is not
 
-pub tell_fault-requires-clause-up : goal.tell_fault-requires-clause-up
+pub tell_fault-requires : goal.tell_fault-requires
 unfolding in_progress_of
-tell_fault-requires-clause-up g c =
+tell_fault-requires g c =
     let fs = fs_of c.args.engine.now.fs.now in
     let request = in_progress_of c.args.self.now in
     rename_up c.args.engine.now.moment fs request (rename_view c.args.arguments.now) c.in-Ok.numbers c.in-Err-rename.fault c.requires.up c.requires.run c.in-Ok.ensures.ok c.in-Err-rename.ensures.step
@@ -114,15 +120,15 @@ returns-in-Err-rename g c = record {
         let arguments = rename_view c.args.arguments.now in
         changed_if c.args.engine.now.moment fs new (table_of c.args.engine.now.table.now) (opens_of c.args.engine.now.opens.now) (opens_of c.args.engine.now.opens.now) request (Argument.Rename arguments) c.tell_fault.result
         (subst (λ (r : Result Executed Fault). IfOk r (ChangesTreeAndOpens fs new (opens_of c.args.engine.now.opens.now) (opens_of c.args.engine.now.opens.now) c.args.engine.now.moment request (Argument.Rename arguments))) (sym c.tell_fault.ensures)
-        (told_gives c.args.engine.now.moment fs request (Argument.Rename arguments) (on_tree c.args.engine.now.moment fs request arguments) _ _ (sized c.args.engine.now.moment fs request arguments _ _ c.renamed_room-room.ensures)
+        (told_gives c.args.engine.now.moment fs request (Argument.Rename arguments) (on_tree c.args.engine.now.moment fs request arguments) _ (sized c.args.engine.now.moment fs request arguments _ c.has_renamed_room-has_room.ensures)
         g.D.Device.keeps_word _ new _ _ c.requires.up _ (opens_of c.args.engine.now.opens.now) (opens_of c.args.engine.now.opens.now) c.in-Err-rename.fault refl
         (λ state there known. c.in-Err-rename.ensures.step state (is_on_both c.args.engine.now.moment fs request arguments c.in-Ok.numbers c.requires.run c.in-Ok.ensures.ok state there))
         c.in-Err-rename.ensures.room.refused c.in-Err-rename.ensures.volume));
     answered =
         let fs = fs_of c.args.engine.now.fs.now in
         let request = in_progress_of c.args.self.now in
-        subst (λ (r : Result Executed Fault). IfOk r (HasResult request 29)) (sym c.tell_fault.ensures)
-        (fault_is_encoded request 29 29 _ c.in-Err-rename.fault (omega arith) c.renamed_room-room.result.refuses (rename_up c.args.engine.now.moment fs request (rename_view c.args.arguments.now) c.in-Ok.numbers c.in-Err-rename.fault c.requires.up c.requires.run c.in-Ok.ensures.ok c.in-Err-rename.ensures.step));
+        subst (λ (r : Result Executed Fault). IfOk r (HasResult request)) (sym c.tell_fault.ensures)
+        (fault_is_encoded request 29 c.in-Err-rename.fault (omega arith) (rename_up c.args.engine.now.moment fs request (rename_view c.args.arguments.now) c.in-Ok.numbers c.in-Err-rename.fault c.requires.up c.requires.run c.in-Ok.ensures.ok c.in-Err-rename.ensures.step));
     table = refl;
     opens = on_err _ refl;
     volume =
@@ -134,11 +140,11 @@ returns-in-Err-rename g c = record {
         let arguments = rename_view c.args.arguments.now in
         subst (λ (r : Result Executed Fault). FsChanges g.D.Device.keeps_word (OperationGives (shared fs table opens) request c.args.engine.now.moment (Argument.Rename arguments)) fs new (fs_failures c.args.engine.now.fs.now) (fs_failures c.rename.new.self) (ending r))
         (sym c.tell_fault.ensures)
-        (told_changes c.args.engine.now.moment fs request (Argument.Rename arguments) (on_tree c.args.engine.now.moment fs request arguments) _ _ (sized c.args.engine.now.moment fs request arguments _ _ c.renamed_room-room.ensures)
+        (told_changes c.args.engine.now.moment fs request (Argument.Rename arguments) (on_tree c.args.engine.now.moment fs request arguments) _ (sized c.args.engine.now.moment fs request arguments _ c.has_renamed_room-has_room.ensures)
         g.D.Device.keeps_word _ new _ _ c.requires.up _ table opens c.in-Err-rename.fault
         (λ state there known. c.in-Err-rename.ensures.step state (is_on_both c.args.engine.now.moment fs request arguments c.in-Ok.numbers c.requires.run c.in-Ok.ensures.ok state there))
         (rename_up c.args.engine.now.moment fs request (rename_view c.args.arguments.now) c.in-Ok.numbers c.in-Err-rename.fault c.requires.up c.requires.run c.in-Ok.ensures.ok c.in-Err-rename.ensures.step) c.in-Err-rename.ensures.room.refused c.in-Err-rename.ensures.room.device
-        (rename_makes c.args.engine.now.moment fs request arguments table opens c.in-Ok.numbers c.requires.run c.in-Ok.ensures.ok _ _ c.renamed_room-room.ensures)
+        (rename_makes c.args.engine.now.moment fs request arguments table opens c.in-Ok.numbers c.requires.run c.in-Ok.ensures.ok _ c.has_renamed_room-has_room.ensures)
         c.in-Err-rename.ensures.volume);
   };
 }

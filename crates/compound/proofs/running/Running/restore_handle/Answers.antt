@@ -19,7 +19,7 @@ returns-in-Ok c = λ files. record {
 
 pub returns-in-Err : goal.returns-in-Err
 returns-in-Err c = λ files. record {
-  answered = c.refuse.ensures.answered 31;
+  answered = c.refuse.ensures.answered;
   gives = λ now table opens.
       let request = in_progress_of c.args.self.now in
       c.refuse.ensures.gives now (shared files table opens) (shared files table opens) Argument.RestoreFh

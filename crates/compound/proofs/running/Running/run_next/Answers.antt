@@ -1,13 +1,8 @@
-use Rattle.std.proofs.Common.{◌≡◌, ◌&&◌, ℕ, true, false, refl, sym, subst, ap₂, ◌∙◌}
+use Rattle.std.proofs.Common.{◌≡◌, ℕ, false, refl, sym, subst, ap₂, ◌∙◌}
 use Rattle.std.specs.Prelude.{drop}
 use Rattle.wire.specs.ArgumentView.{argument_view}
-use Rattle.compound.specs.Operates.{IsAnsweredIn, IsReplyKept, JoinsBy}
-use Rattle.model.specs.Operations.Operation.{operation_of}
-use Rattle.model.specs.Server.World.{may_alter}
-use Rattle.std.proofs.lemmas.Bool.{and_parts}
-use Rattle.compound.specs.Runs.{gives_done, makes_change}
-use Rattle.compound.proofs.Leaving.{altered_short, answered_within}
-use Rattle.compound.proofs.Rooms.{room_after}
+use Rattle.compound.specs.Operates.{IsAnswered, IsReplyKept}
+use Rattle.compound.specs.Runs.{makes_change}
 use Rattle.compound.specs.States.{shared_of}
 use Rattle.compound.specs.Turns.{TurnsExecuted}
 use Rattle.compound.specs.Views.{in_progress_of}
@@ -31,13 +26,11 @@ operate-requires-clause-agrees g c = c.requires.agrees
 pub operate-requires-clause-first : goal.operate-requires-clause-first
 operate-requires-clause-first g c =
     let next = rw c.in-Reads.is at c.in_ok-operation.ensures.ok in
-    λ comes. let none = first_alone (in_progress_of c.args.self.now) (argument_view c.in-Reads.argument) (drop c.in-Reads.position c.args.self.now.compound.operations.now) next comes in
-    (none, c.requires.suits.first none)
+    first_alone (in_progress_of c.args.self.now) (argument_view c.in-Reads.argument) (drop c.in-Reads.position c.args.self.now.compound.operations.now) next
 
 -- It ran
 
 pub returns-in_ok-done-in-Reads : goal.returns-in_ok-done-in-Reads
-unfolding in_progress_of
 returns-in_ok-done-in-Reads g c =
     let moment = c.args.engine.now.moment in
     let old = shared_of c.args.engine.now.fs.now c.args.engine.now.table.now c.args.engine.now.opens.now in
@@ -47,24 +40,13 @@ returns-in_ok-done-in-Reads g c =
     let rest = drop c.in-Reads.position c.args.self.now.compound.operations.now in
     let next = rw c.in-Reads.is at c.in_ok-operation.ensures.ok in
     let runs = rw c.in_ok-done-in-Reads.was at c.operate.ensures.state in
-    let done = c.in_ok-done-in-Reads.done in
-    let may = may_alter (operation_of argument) && gives_done done in
-    let altered : c.makes_change-altered.result ≡ (makes_change old.files.changes new.files.changes argument && may) =
-    c.makes_change-altered.ensures ∙ ap₂ (λ (before after : ℕ). makes_change before after argument && may) c.change_count-before.ensures c.change_count-after.ensures in
-    let both = λ (so : c.makes_change-altered.result ≡ true). and_parts (may_alter (operation_of argument)) (gives_done done)
-    (and_parts (makes_change old.files.changes new.files.changes argument) may (sym altered ∙ so)).1 in
-    let least = c.args.self.now.progress.least_room in
+    let altered : c.makes_change-altered.result ≡ makes_change old.files.changes new.files.changes argument =
+    c.makes_change-altered.ensures ∙ ap₂ (λ (before after : ℕ). makes_change before after argument) c.change_count-before.ensures c.change_count-after.ensures in
     record {
       same = c.operate.ensures.same;
       turns = λ keeps. turns_read moment old new request argument rest _ c.in_ok-done-in-Reads.done c.requires.more next altered (runs.gives keeps);
       within = rw c.in-Reads.is at c.in_ok-operation.ensures.within;
-      left = record {
-        answered = answered_within _ _ request done (room_after request (operation_of argument) c.makes_change-altered.result least (λ so. (both so).0)) runs.answered;
-        memory = c.in_ok-spare.ensures;
-        short = λ so. altered_short request (operation_of argument) done (both so).0 (both so).1 runs.answered;
-        joins = runs.joins;
-      };
-      settings = runs.settings;
+      answered = runs.answered;
       kept = runs.kept;
       table = tt;
       opens = tt;
@@ -87,8 +69,7 @@ returns-in_err-done-in-Reads g c =
       same = c.operate.ensures.same;
       turns = λ keeps. if_not _ _ _ residual.ensures.1;
       within = if_not _ _ _ residual.ensures.1;
-      left = if_not _ _ _ residual.ensures.1;
-      settings = runs.settings;
+      answered = if_not _ _ _ residual.ensures.1;
       kept = if_not _ _ _ residual.ensures.1;
       table = on_err _ runs.table;
       opens = on_err _ runs.opens;
@@ -100,15 +81,14 @@ returns-in_err-done-in-Reads g c =
 pub returns-in_err-operation : goal.returns-in_err-operation
 returns-in_err-operation g c =
     let reason = c.in_err-operation.field-0.0 in
-    let told = is_err_of c.from_residual-in_err-operation.result reason c.from_residual-in_err-operation.ensures.1 in
+    let told = is_err_of c.from_residual.result reason c.from_residual.ensures.1 in
     let memory : reason ≡ fault.Memory = rw c.in_err-operation.was at c.next_operation.ensures.ok in
     record {
       same = record { fs = refl; table = refl; opens = refl };
-      turns = λ keeps. if_not _ _ _ c.from_residual-in_err-operation.ensures.1;
-      within = if_not _ _ _ c.from_residual-in_err-operation.ensures.1;
-      left = if_not _ _ _ c.from_residual-in_err-operation.ensures.1;
-      settings = refl;
-      kept = if_not _ _ _ c.from_residual-in_err-operation.ensures.1;
+      turns = λ keeps. if_not _ _ _ c.from_residual.ensures.1;
+      within = if_not _ _ _ c.from_residual.ensures.1;
+      answered = if_not _ _ _ c.from_residual.ensures.1;
+      kept = if_not _ _ _ c.from_residual.ensures.1;
       table = on_err _ refl;
       opens = on_err _ refl;
       volume = rw (told, memory) (leaves_all g.D.Device.keeps_word _ _ _ _ _ refl refl);
@@ -129,13 +109,7 @@ returns-in-Refuses g c =
       turns = λ keeps. subst (TurnsExecuted moment state state request rest false) (sym c.refused.ensures.gives)
           (turns_refused moment state request rest c.in-Refuses.operation c.in-Refuses.status c.requires.more next refl);
       within = c.args.self.now.within;
-      left = record {
-        answered = subst (IsAnsweredIn _ request) (sym c.refused.ensures.gives) (refused_encoded request c.in-Refuses.operation c.in-Refuses.status next c.refused.ensures.number _);
-        memory = c.in_ok-spare.ensures;
-        short = λ so. let never : ⊥ = cc in absurd never;
-        joins = subst (JoinsBy state.table.settings request) (sym c.refused.ensures.gives) tt;
-      };
-      settings = refl;
+      answered = subst (IsAnswered request) (sym c.refused.ensures.gives) (refused_encoded request c.in-Refuses.operation c.in-Refuses.status next c.refused.ensures.number);
       kept = subst (IsReplyKept state.table) (sym c.refused.ensures.gives) tt;
       table = tt;
       opens = tt;
@@ -144,24 +118,4 @@ returns-in-Refuses g c =
           (λ world number has. refused_keeps world number moment request c.in-Refuses.operation c.in-Refuses.status c.requires.more next)
           (c.requires.agrees keeps).seats)
           (λ keeps. refused_turn state request moment c.in-Refuses.operation c.in-Refuses.status c.requires.more next);
-    }
-
--- There is no memory for a short result
-
-pub returns-in_err-spare : goal.returns-in_err-spare
-returns-in_err-spare g c =
-    let reason = c.in_err-spare.field-0.0 in
-    let residual = c.from_residual in
-    let told = is_err_of residual.result reason residual.ensures.1 in
-    let memory : reason ≡ fault.Memory = rw c.in_err-spare.was at c.larger_for_short.ensures in
-    record {
-      same = record { fs = refl; table = refl; opens = refl };
-      turns = λ keeps. if_not _ _ _ residual.ensures.1;
-      within = if_not _ _ _ residual.ensures.1;
-      left = if_not _ _ _ residual.ensures.1;
-      settings = refl;
-      kept = if_not _ _ _ residual.ensures.1;
-      table = on_err _ refl;
-      opens = on_err _ refl;
-      volume = rw (told, memory) (leaves_all g.D.Device.keeps_word _ _ _ _ _ refl refl);
     }

@@ -1,8 +1,8 @@
-use Rattle.std.proofs.Common.{ℕ, ◌-◌, ap, ◌∙◌}
+use Rattle.std.proofs.Common.{ap, ◌∙◌}
 use Rattle.model.specs.Operations.Answer.{Answer, Done, Refused}
 use Rattle.model.specs.Operations.Operation.{Argument}
 use Rattle.model.specs.Server.World.{in_room}
-use Rattle.model.specs.Sessions.Session.{Table, started}
+use Rattle.model.specs.Sessions.Session.{Table}
 use Rattle.session.specs.Views.{table_of}
 use Rattle.wire.specs.AnswerViews as answers
 use Rattle.wire.specs.ArgumentViews.{sequence_view}
@@ -22,9 +22,9 @@ returns-in-Ok-Runs-clause-gives c = λ now fs opens.
     let arguments = sequence_view c.args.arguments.now in
     let e = rw c.in-Ok-Runs.field-0-is at c.in-Ok-Runs.ensures.answered in
     c.answer_first.ensures.gives now (shared fs (table_of c.args.table.now) opens) (shared fs (table_of c.begin.new.self) opens) (Argument.Sequence arguments)
-    (table_runs now fs opens (table_of c.args.table.now) (table_of c.begin.new.self) request (taken_on request arguments c.in-Ok-Runs.client (c.in-Ok-Runs.reply_bytes - 16) c.in-Ok-Runs.cached_bytes) (Argument.Sequence arguments) (Done (Answer.Sequence (answers.sequence_view c.in-Ok-Runs.answer)))
+    (table_runs now fs opens (table_of c.args.table.now) (table_of c.begin.new.self) request (taken_on request arguments c.in-Ok-Runs.client) (Argument.Sequence arguments) (Done (Answer.Sequence (answers.sequence_view c.in-Ok-Runs.answer)))
     (λ world rest on. ran_sequence world (with_rest request rest) now arguments _ _ on e.3
-    ∙ begun_ok world (with_rest request rest) arguments _ _ e.0 _ _ _ _ on.table_is e.1 e.2.0 (ap (λ (bytes : ℕ). bytes - 16) e.2.1) e.2.2 e.2.3 e.4))
+    ∙ begun_ok world (with_rest request rest) arguments _ _ e.0 _ _ on.table_is e.1 e.2.0 e.2.1 e.4))
 
 pub returns-in-Ok-Replays-clause-gives : goal.returns-in-Ok-Replays-clause-gives
 unfolding in_progress_of
@@ -51,13 +51,7 @@ returns-in-Err-clause-gives c = λ now fs opens.
     ∙ begun_err world (with_rest request rest) arguments _ _ _ on.table_is e.1)))
 
 pub returns-in-Ok-Runs-clause-answered : goal.returns-in-Ok-Runs-clause-answered
-returns-in-Ok-Runs-clause-answered c = c.answer_first.ensures.answered
+returns-in-Ok-Runs-clause-answered c = result_answered (in_progress_of c.args.self.now) _ c.answer_first.ensures.answered
 
 pub returns-in-Err-clause-answered : goal.returns-in-Err-clause-answered
-returns-in-Err-clause-answered c = λ operation. result_answered (in_progress_of c.args.self.now) operation _ (c.refuse.ensures.answered operation)
-
-pub returns-in-Ok-Runs-clause-settings : goal.returns-in-Ok-Runs-clause-settings
-unfolding started
-returns-in-Ok-Runs-clause-settings c =
-    let e = rw c.in-Ok-Runs.field-0-is at c.in-Ok-Runs.ensures.answered in
-    ap (λ (t : Table). t.settings) e.4
+returns-in-Err-clause-answered c = result_answered (in_progress_of c.args.self.now) _ c.refuse.ensures.answered

@@ -14,4 +14,4 @@ store-requires-clause-ended g c = c.in-Some.is
 
 pub run-requires : goal.run-requires
 unfolding in_progress_of
-run-requires g c = record { up = c.requires.up; run = c.requires.run; more = c.in-None.is; agrees = c.requires.agrees; suits = c.requires.suits }
+run-requires g c = record { up = c.requires.up; run = c.requires.run; more = c.in-None.is; agrees = c.requires.agrees }

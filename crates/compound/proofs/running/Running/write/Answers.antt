@@ -1,24 +1,24 @@
-use Rattle.std.proofs.Common.{◌≡◌, true, Result, refl, sym, subst, arith, IfOk}
+use Rattle.std.proofs.Common.{◌≡◌, true, Result, refl, sym, subst, ◌∙◌, arith, IfOk}
 use Rattle.fs.proofs.ChangeLaws.{changes_by}
 use Rattle.fs.specs.Changes.{FsChanges}
 use Rattle.fs.specs.Views.{fs_of, fs_failures}
 use Rattle.fs.specs.Writing.{IsWriting}
-use Rattle.model.specs.Operations.Answer.{Outcome, Refused, Done}
+use Rattle.model.specs.Operations.Answer.{Outcome, Refused}
 use Rattle.model.specs.Operations.Operation.{Argument}
 use Rattle.model.specs.Operations.Step.{State}
 use Rattle.model_tree.specs.declared.status.Status.{Status}
 use Rattle.opens.specs.Views.{opens_of}
 use Rattle.wire.specs.ArgumentViews.{write_view}
 use Rattle.compound.specs.Files.{written_answer}
-use Rattle.compound.specs.Operates.{GivesIn, HasRoom, room_of, ChangesTreeAndOpens, HasResult}
+use Rattle.compound.specs.Operates.{GivesIn, HasRoom, ChangesTreeAndOpens, HasResult}
 use Rattle.compound.specs.States.{shared}
 use Rattle.compound.specs.Trees.{IsHere}
 use Rattle.compound.specs.Volumes.{OperationGives, ending}
 use Rattle.compound.specs.Views.{in_progress_of}
 use Rattle.compound.specs.declared.fault.Fault.{Fault}
 use Rattle.compound.specs.declared.executed.Executed.{Executed}
-use Rattle.compound.proofs.Changing.{done_runs, told_gives, told_changes, fault_is_encoded}
-use Rattle.compound.proofs.Rooms.{fits_by_room, gives_in_room, gives_refusal, with_room}
+use Rattle.compound.proofs.Changing.{done_runs, told_gives, told_changes, fault_is_encoded, is_short}
+use Rattle.compound.proofs.Rooms.{gives_in_room, gives_refusal}
 use Rattle.compound.proofs.Trees.{is_on}
 use Rattle.compound.proofs.VolumeLaws.{refusal_changes}
 use Rattle.compound.proofs.WriteLaws.{wants_file, write_on_tree, write_sized, does_write, write_makes, write_up, written_room}
@@ -40,7 +40,7 @@ returns-in-Err g c = record {
         c.refuse.ensures.gives c.args.engine.now.moment (shared fs table opens) (shared fs table opens) kind
         (subst (λ (reason : Status). GivesIn c.args.engine.now.moment (shared fs table opens) (shared fs table opens) request request kind (Refused 38 reason)) (sym c.in-Err.ensures.err.0)
         (gives_refusal c.args.engine.now.moment (shared fs table opens) (shared fs table opens) request kind 38 _ (wants_file c.args.engine.now.moment fs table opens request arguments c.tell_bytes.ensures c.in-Err.ensures.err.1)));
-    answered = c.refuse.ensures.answered 38;
+    answered = c.refuse.ensures.answered;
     table = refl;
     opens = tt;
     volume =
@@ -74,7 +74,7 @@ returns-in-Ok-write g c = record {
         let answer = written_answer request.context.run arguments.stable c.in-Ok-write.count in
         subst (λ (outcome : Outcome). GivesIn c.args.engine.now.moment (shared fs table opens) (shared new table opens) request request kind outcome) (sym c.written.ensures.is)
         (gives_in_room c.args.engine.now.moment (shared fs table opens) (shared new table opens) request request kind answer
-        (written_room request request.context.run arguments.stable c.in-Ok-write.count true _ (with_room c.in-Ok-write.ensures.room.done c.written_room-room.ensures)).has_is
+        (written_room request request.context.run arguments.stable c.in-Ok-write.count true (sym c.in-Ok-write.ensures.room.done ∙ c.has_written_room-has_room.ensures))
         (done_runs c.args.engine.now.moment fs request kind (write_on_tree c.args.engine.now.moment fs request arguments) new table opens opens request.context answer
         (λ state there known. does_write c.args.engine.now.moment fs request arguments new opens c.in-Ok-write.count state there known
         (c.in-Ok-write.ensures.step state arguments (is_on fs request _ state c.requires.run c.in-Ok.ensures.ok.0 c.in-Ok.ensures.ok.1 there)
@@ -82,7 +82,13 @@ returns-in-Ok-write g c = record {
     answered =
         let request = in_progress_of c.args.self.now in
         let arguments = write_view c.args.arguments.now in
-        (record { fits = c.written.ensures.fits; small = c.written.ensures.small; room = subst (HasRoom (room_of request 38) request) (sym c.written.ensures.is) (fits_by_room request 38 (Done (written_answer request.context.run arguments.stable c.in-Ok-write.count)) (written_room request request.context.run arguments.stable c.in-Ok-write.count true _ (with_room c.in-Ok-write.ensures.room.done c.written_room-room.ensures)).has_is) }, tt);
+        record {
+          fits = c.written.ensures.fits;
+          small = c.written.ensures.small;
+          room = subst (HasRoom request) (sym c.written.ensures.is)
+              (is_short request (written_answer request.context.run arguments.stable c.in-Ok-write.count)
+              (written_room request request.context.run arguments.stable c.in-Ok-write.count true (sym c.in-Ok-write.ensures.room.done ∙ c.has_written_room-has_room.ensures)));
+        };
     table = refl;
     opens = tt;
     volume =
@@ -94,16 +100,16 @@ returns-in-Ok-write g c = record {
         changes_by g.D.Device.keeps_word _ _
         (write_makes c.args.engine.now.moment fs request arguments table opens _ _ _ c.requires.run c.in-Ok.ensures.ok.0 c.in-Ok.ensures.ok.1
         (λ state there known. record { verdict_is = c.verdict-verdict.ensures.is state known there.context_is; offset_is = refl; bytes_are = refl; stable_is = c.is_to_be_stable.ensures })
-        _ _ c.written_room-room.ensures c.in-Ok-write.ensures.room.done)
+        _ c.has_written_room-has_room.ensures c.in-Ok-write.ensures.room.done)
         _ _ _ _ _ c.in-Ok-write.ensures.volume;
   };
 }
 
 -- If it is not
 
-pub tell_fault-requires-clause-up : goal.tell_fault-requires-clause-up
+pub tell_fault-requires : goal.tell_fault-requires
 unfolding in_progress_of
-tell_fault-requires-clause-up g c =
+tell_fault-requires g c =
     let opens = opens_of c.args.engine.now.opens.now in
     let fs = fs_of c.args.engine.now.fs.now in
     let request = in_progress_of c.args.self.now in
@@ -126,7 +132,7 @@ returns-in-Err-write g c = record {
         let kind = Argument.Write arguments in
         changed_if c.args.engine.now.moment fs new (table_of c.args.engine.now.table.now) opens opens request kind c.tell_fault.result
         (subst (λ (r : Result Executed Fault). IfOk r (ChangesTreeAndOpens fs new opens opens c.args.engine.now.moment request kind)) (sym c.tell_fault.ensures)
-        (told_gives c.args.engine.now.moment fs request kind (write_on_tree c.args.engine.now.moment fs request arguments) _ _ (write_sized c.args.engine.now.moment fs request arguments _ _ c.written_room-room.ensures)
+        (told_gives c.args.engine.now.moment fs request kind (write_on_tree c.args.engine.now.moment fs request arguments) _ (write_sized c.args.engine.now.moment fs request arguments _ c.has_written_room-has_room.ensures)
         g.D.Device.keeps_word _ new _ _ c.requires.up _ opens opens c.in-Err-write.fault refl
         (λ state there known. c.in-Err-write.ensures.step state arguments (is_on fs request _ state c.requires.run c.in-Ok.ensures.ok.0 c.in-Ok.ensures.ok.1 there)
         (record { verdict_is = c.verdict-verdict.ensures.is state known there.context_is; offset_is = refl; bytes_are = refl; stable_is = c.is_to_be_stable.ensures }))
@@ -136,8 +142,8 @@ returns-in-Err-write g c = record {
         let fs = fs_of c.args.engine.now.fs.now in
         let request = in_progress_of c.args.self.now in
         let arguments = write_view c.args.arguments.now in
-        subst (λ (r : Result Executed Fault). IfOk r (HasResult request 38)) (sym c.tell_fault.ensures)
-        (fault_is_encoded request 38 38 _ c.in-Err-write.fault (omega arith) c.written_room-room.result.refuses (write_up c.args.engine.now.moment fs request arguments opens c.in-Err-write.fault c.requires.up
+        subst (λ (r : Result Executed Fault). IfOk r (HasResult request)) (sym c.tell_fault.ensures)
+        (fault_is_encoded request 38 c.in-Err-write.fault (omega arith) (write_up c.args.engine.now.moment fs request arguments opens c.in-Err-write.fault c.requires.up
         (λ state there known. c.in-Err-write.ensures.step state arguments (is_on fs request _ state c.requires.run c.in-Ok.ensures.ok.0 c.in-Ok.ensures.ok.1 there)
         (record { verdict_is = c.verdict-verdict.ensures.is state known there.context_is; offset_is = refl; bytes_are = refl; stable_is = c.is_to_be_stable.ensures }))));
     table = refl;
@@ -154,11 +160,11 @@ returns-in-Err-write g c = record {
         let step = λ (state : State) (there : IsHere fs request state) (known : state.opens ≡ opens). c.in-Err-write.ensures.step state arguments (is_on fs request _ state c.requires.run c.in-Ok.ensures.ok.0 c.in-Ok.ensures.ok.1 there) (writing state there known) in
         subst (λ (r : Result Executed Fault). FsChanges g.D.Device.keeps_word (OperationGives (shared fs table opens) request c.args.engine.now.moment kind) fs new (fs_failures c.args.engine.now.fs.now) (fs_failures c.write.new.self) (ending r))
         (sym c.tell_fault.ensures)
-        (told_changes c.args.engine.now.moment fs request kind (write_on_tree c.args.engine.now.moment fs request arguments) _ _ (write_sized c.args.engine.now.moment fs request arguments _ _ c.written_room-room.ensures)
+        (told_changes c.args.engine.now.moment fs request kind (write_on_tree c.args.engine.now.moment fs request arguments) _ (write_sized c.args.engine.now.moment fs request arguments _ c.has_written_room-has_room.ensures)
         g.D.Device.keeps_word _ new _ _ c.requires.up _ table opens c.in-Err-write.fault
         step
         (write_up c.args.engine.now.moment fs request arguments opens c.in-Err-write.fault c.requires.up step) c.in-Err-write.ensures.room.refused c.in-Err-write.ensures.room.device
-        (write_makes c.args.engine.now.moment fs request arguments table opens _ _ _ c.requires.run c.in-Ok.ensures.ok.0 c.in-Ok.ensures.ok.1 writing _ _ c.written_room-room.ensures)
+        (write_makes c.args.engine.now.moment fs request arguments table opens _ _ _ c.requires.run c.in-Ok.ensures.ok.0 c.in-Ok.ensures.ok.1 writing _ c.has_written_room-has_room.ensures)
         c.in-Err-write.ensures.volume);
   };
 }

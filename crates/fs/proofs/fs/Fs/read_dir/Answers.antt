@@ -30,7 +30,7 @@ unfolding fs_of
 returns-then-bytes-lt-EMPTY_PAGE-clause-step g c state now dir_count on =
     let held = (fs_of c.args.self.now).volume in
     let arguments = list_arguments c.args.listing dir_count in
-    let bytes : page_bytes held.limits arguments < 16 = omega (arith, c.min-bytes.ensures, c.min-most.ensures, ap (λ (l : Limits). l.transfer_bytes) c.limits.ensures.limits, c.if-bytes-lt-EMPTY_PAGE.true) in
+    let bytes : page_bytes held.limits arguments < 16 = omega (arith, c.min-bytes.ensures, ap (λ (l : Limits). l.transfer_bytes) c.limits.ensures.limits, c.if-bytes-lt-EMPTY_PAGE.true) in
     list_small held.limits held.tree c.args.cred.now c.args.listing.directory state now on.is_state arguments (c.in_ok-cached.ensures.tests dir_count) (lt-ltb (page_bytes held.limits arguments) 16 bytes)
 
 pub fill-requires : goal.fill-requires
@@ -46,7 +46,7 @@ returns-then-not-page-clause-step g c state now dir_count on =
     let listing = c.args.listing in
     let arguments = list_arguments listing dir_count in
     let shows = shown_entry held.limits held.tree c.args.cred.now c.hides_unreadable-hides.result listing.asked.now in
-    let bytes : c.min-bytes.result ≡ page_bytes held.limits arguments = omega (arith, c.min-bytes.ensures, c.min-most.ensures, ap (λ (l : Limits). l.transfer_bytes) c.limits.ensures.limits) in
+    let bytes : c.min-bytes.result ≡ page_bytes held.limits arguments = omega (arith, c.min-bytes.ensures, ap (λ (l : Limits). l.transfer_bytes) c.limits.ensures.limits) in
     let enough : 16 ≤ page_bytes held.limits arguments = omega (arith, bytes, c.if-bytes-lt-EMPTY_PAGE.false) in
     let behind : rest_of c.list_after-names.result ≡ names_after listing.cookie (names_at held.tree listing.directory) =
     c.list_after-names.ensures ∙ ap (λ (it : CachedNode). after listing.cookie (by_stamp it.names)) c.cached.view_is ∙ ap (names_after listing.cookie) c.in_ok-cached.ensures.names in
@@ -67,7 +67,7 @@ returns-clause-step g c state now dir_count on =
     let listing = c.args.listing in
     let arguments = list_arguments listing dir_count in
     let shows = shown_entry held.limits held.tree c.args.cred.now c.hides_unreadable-hides.result listing.asked.now in
-    let bytes : c.min-bytes.result ≡ page_bytes held.limits arguments = omega (arith, c.min-bytes.ensures, c.min-most.ensures, ap (λ (l : Limits). l.transfer_bytes) c.limits.ensures.limits) in
+    let bytes : c.min-bytes.result ≡ page_bytes held.limits arguments = omega (arith, c.min-bytes.ensures, ap (λ (l : Limits). l.transfer_bytes) c.limits.ensures.limits) in
     let enough : 16 ≤ page_bytes held.limits arguments = omega (arith, bytes, c.if-bytes-lt-EMPTY_PAGE.false) in
     let behind : rest_of c.list_after-names.result ≡ names_after listing.cookie (names_at held.tree listing.directory) =
     c.list_after-names.ensures ∙ ap (λ (it : CachedNode). after listing.cookie (by_stamp it.names)) c.cached.view_is ∙ ap (names_after listing.cookie) c.in_ok-cached.ensures.names in

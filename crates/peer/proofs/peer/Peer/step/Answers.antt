@@ -1,4 +1,4 @@
-use Rattle.std.proofs.Common.{Ok, Err, inl, inr, refl}
+use Rattle.std.proofs.Common.{Ok, Err, refl}
 use Rattle.peer.specs.declared.peer.Parting.TheVariants as partings
 use Rattle.peer.proofs.Carried.{ends_again, ends_peer, err_pace, ok_pace, paused, serves_as}
 use Rattle.peer.proofs.peer.Peer.step.Goals as goal
@@ -19,12 +19,12 @@ returns-in-Ok-clause-stays g c = λ on.
 pub returns-in-Err-Memory-clause-stays : goal.returns-in-Err-Memory-clause-stays
 returns-in-Err-Memory-clause-stays g c = λ on.
     serves_as c.args.self.now c.advance.new.self (Err partings.Memory) _ (rw c.in-Err-Memory.field-0-is at c.in-Err-Memory.ensures.does) (λ pace is awake. paused pace _ is awake)
-    (λ unfed. inr (refl, unfed))
+    (λ unfed. absurd unfed)
 
 pub returns-in-Err-Device-clause-stays : goal.returns-in-Err-Device-clause-stays
 returns-in-Err-Device-clause-stays g c = λ on.
     serves_as c.args.self.now c.advance.new.self (Err partings.Device) _ (rw c.in-Err-Device.field-0-is at c.in-Err-Device.ensures.does) (λ pace is awake. err_pace _ pace _ is)
-    (λ unfed. inl refl)
+    (λ unfed. refl)
 
 pub returns-in-Err-Clock-clause-stays : goal.returns-in-Err-Clock-clause-stays
 returns-in-Err-Clock-clause-stays g c = λ on.

@@ -3,4 +3,5 @@ use Rattle.rpc.proofs.assembler.Assembler.new.Goals as goal
 
 pub invariant_of-result : goal.invariant_of-result
 invariant_of-result c =
-    stands_empty c.args.max_bytes c.in_ok-new.field-0.bytes.items c.requires c.in_ok-new.ensures
+    let buffer = c.in_ok-with_capacity.field-0 in
+    stands_empty buffer.items buffer.spare c.in_ok-with_capacity.ensures.items c.in_ok-with_capacity.ensures.spare

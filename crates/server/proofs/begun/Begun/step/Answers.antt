@@ -1,5 +1,5 @@
 use Rattle.std.proofs.Common.{ap, sym, subst, ◌∙◌}
-use Rattle.compound.specs.States.{Suits, shared_of}
+use Rattle.compound.specs.States.{shared_of}
 use Rattle.compound.specs.Steps as compound
 use Rattle.compound.specs.Steps.{stepped_on}
 use Rattle.compound.specs.Views.{Asked, asked_of, in_progress_of}
@@ -11,10 +11,9 @@ use Rattle.model.specs.Server.World.{InProgress}
 use Rattle.server.specs.declared.begun.Begun.{Begun}
 use Rattle.server.specs.declared.begun.TurnEnd.{TurnEnd}
 use Rattle.server.specs.Connections.{RecordGoesOn, RecordSteps}
-use Rattle.server.specs.Runs.{run_by}
 use Rattle.server.specs.Stages.{in_progress_at}
 use Rattle.session.specs.Views.{table_of}
-use Rattle.server.proofs.Resumptions.{stands_within, steps_on, suits_by}
+use Rattle.server.proofs.Resumptions.{stands_within, steps_on}
 use Rattle.server.proofs.ServedTurns.{agrees_after}
 use Rattle.server.proofs.Turning.{same_changes, step_leads}
 use Rattle.server.proofs.begun.Begun.step.Goals as goal
@@ -23,13 +22,7 @@ pub step-requires-clause-agrees : goal.step-requires-clause-agrees
 step-requires-clause-agrees g c = λ keeps. c.args.engine.now.agrees keeps c.requires.up
 
 pub step-requires-clause-run : goal.step-requires-clause-run
-step-requires-clause-run g c = ap (λ (r : InProgress). r.context.run) c.resume.ensures.request ∙ c.requires.goes_on.of_run.began
-
-pub step-requires-clause-suits : goal.step-requires-clause-suits
-step-requires-clause-suits g c =
-    let table = table_of c.args.engine.now.table.now in
-    subst (Suits table) (sym c.resume.ensures.request)
-    (suits_by (fs_of c.args.engine.now.fs.now) table (in_progress_at c.args.request.now c.args.self) c.requires.goes_on.of_run)
+step-requires-clause-run g c = ap (λ (r : InProgress). r.context.run) c.resume.ensures.request ∙ c.requires.goes_on.began_in
 
 pub returns-in-Ok-clause-step : goal.returns-in-Ok-clause-step
 returns-in-Ok-clause-step g c = λ keeps.
@@ -44,13 +37,11 @@ returns-in-Ok-clause-step g c = λ keeps.
 pub returns-in-Ok-clause-goes_on : goal.returns-in-Ok-clause-goes_on
 returns-in-Ok-clause-goes_on g c =
     let request = c.args.request.now in
-    let files = fs_of c.args.engine.now.fs.now in
-    let old = table_of c.args.engine.now.table.now in
-    let new = table_of c.step.new.table in
-    subst (λ (left : TurnEnd). RecordGoesOn (run_by files old) request c.args.self left) (sym c.left.ensures)
-    (steps_on files old new request c.args.self c.in-Ok.done c.step.ensures.settings (stands_within request c.args.self c.requires.goes_on.can)
-    (subst (λ (asked : Asked). compound.RequestGoesOn files.volume.run new asked (in_progress_at request c.args.self) c.in-Ok.done) c.resume.ensures.asked
-    (subst (λ (r : InProgress). compound.RequestGoesOn files.volume.run new (asked_of c.resume.result) r c.in-Ok.done) c.resume.ensures.request c.in-Ok.ensures.goes_on)))
+    let run = (fs_of c.args.engine.now.fs.now).volume.run in
+    subst (λ (left : TurnEnd). RecordGoesOn run request c.args.self left) (sym c.left.ensures)
+    (steps_on run request c.args.self c.in-Ok.done (stands_within request c.args.self c.requires.goes_on.can)
+    (subst (λ (asked : Asked). compound.RequestGoesOn run asked (in_progress_at request c.args.self) c.in-Ok.done) c.resume.ensures.asked
+    (subst (λ (r : InProgress). compound.RequestGoesOn run (asked_of c.resume.result) r c.in-Ok.done) c.resume.ensures.request c.in-Ok.ensures.goes_on)))
 
 pub returns-in-Ok-clause-volume : goal.returns-in-Ok-clause-volume
 returns-in-Ok-clause-volume g c =

@@ -15,11 +15,11 @@ returns-in-Begun-clause-turn c = ap turn_of_end (sym c.in-Begun.is)
 
 pub returns-in-Begun-clause-state : goal.returns-in-Begun-clause-state
 unfolding connection_view
-returns-in-Begun-clause-state c = ap (left_by_turn (held_record c.args.self.now.assembler.assembly)) (sym c.in-Begun.is)
+returns-in-Begun-clause-state c = ap (left_by_turn (held_record c.args.self.now.assembler)) (sym c.in-Begun.is)
 
 pub returns-in-Answered-clause-turn : goal.returns-in-Answered-clause-turn
 returns-in-Answered-clause-turn c = ap turn_of_end (sym c.in-Answered.is)
 
 pub returns-in-Answered-clause-state : goal.returns-in-Answered-clause-state
 unfolding connection_view
-returns-in-Answered-clause-state c = ap (left_by_turn (held_record c.args.self.now.assembler.assembly)) (sym c.in-Answered.is)
+returns-in-Answered-clause-state c = ap (left_by_turn (held_record c.args.self.now.assembler)) (sym c.in-Answered.is)

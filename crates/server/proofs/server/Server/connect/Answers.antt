@@ -1,8 +1,4 @@
-use Rattle.std.proofs.Common.{◌<◌, [], refl, sym, ap, ◌∙◌, subst, arith}
-use Rattle.rpc.specs.Assembly.{record_limits}
-use Rattle.server.specs.Records.{records_by, record_bytes_by}
-use Rattle.server.specs.Runs.{run_by}
-use Rattle.session.specs.Views.{table_of}
+use Rattle.std.proofs.Common.{◌<◌, [], refl, sym, ap, subst, arith}
 use Rattle.slab.specs.Slab.{slab_len}
 use Rattle.compound.specs.States.{shared_of}
 use Rattle.fs.specs.Views.{fs_of}
@@ -14,7 +10,7 @@ use Rattle.model.proofs.Server.ServedOnceLaws.{connects_table}
 use Rattle.server.proofs.Moves.{does_quietly}
 use Rattle.server.proofs.Refusals.{told_by}
 use Rattle.server.proofs.SlabLaws.{count_of, with_slot, stands_none, grew}
-use Rattle.server.proofs.Worlds.{may_be, quiet_of_run, can_connect_by, connected, inserted_of_run, inserted_limited, inserted_count}
+use Rattle.server.proofs.Worlds.{may_be, quiet_of_run, can_connect_by, connected, inserted_of_run, inserted_count}
 use Rattle.server.proofs.server.Server.connect.Goals as goal
 
 pub returns-then-len-ge-MAX_CONNECTIONS-clause-full : goal.returns-then-len-ge-MAX_CONNECTIONS-clause-full
@@ -24,14 +20,12 @@ returns-then-len-ge-MAX_CONNECTIONS-clause-full g c = λ is. omega (arith, count
 pub invariant_of-self : goal.invariant_of-self
 invariant_of-self g c =
     let s = c.args.self.now in
-    let run = run_by (fs_of s.fs) (table_of s.table) in
+    let run = (fs_of s.fs).volume.run in
     record {
       few = omega (arith, inserted_count s.connections c.insert.new.self c.insert.result c.insert.ensures.len c.insert.ensures.err);
       agrees = s.agrees;
       of_run = inserted_of_run run s.connections c.insert.new.self c.in_ok-connection.connection c.insert.result c.insert.ensures.updates c.insert.ensures.err
-          (subst (IsOfRun run) (sym c.in_ok-connection.ensures.quiet) (quiet_of_run run [])) s.of_run;
-      limited = inserted_limited (records_by (fs_of s.fs).volume.version) s.connections c.insert.new.self c.in_ok-connection.connection c.insert.result c.insert.ensures.updates c.insert.ensures.err
-          (c.in_ok-connection.ensures.limits ∙ ap record_limits (c.max_record_bytes.ensures.value ∙ ap record_bytes_by c.version.ensures.version)) s.limited;
+          (subst (IsOfRun run) (sym c.in_ok-connection.ensures) (quiet_of_run run [])) s.of_run;
     }
 
 pub returns-in_err-insert-clause-is_full : goal.returns-in_err-insert-clause-is_full
@@ -69,7 +63,7 @@ returns-clause-ok g c =
     let up = sym c.if-is_down.ensures in
     λ keeps. does_quietly (fs_of s.fs).volume _ _ _ _ (runs.Connects conn) _ refl up
     (connected (shared_of s.fs s.table s.opens) (connections_of s.connections) _ conn (connection_view c.in_ok-connection.connection) can
-    (with_slot s.connections c.insert.new.self conn c.in_ok-connection.connection updates) c.in_ok-connection.ensures.quiet)
+    (with_slot s.connections c.insert.new.self conn c.in_ok-connection.connection updates) c.in_ok-connection.ensures)
     (connects_table _ conn) refl (may_be _ (runs.Connects conn) tt)
 
 pub returns-clause-is_full : goal.returns-clause-is_full

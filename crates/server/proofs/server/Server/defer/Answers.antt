@@ -1,14 +1,13 @@
-use Rattle.std.proofs.Common.{sym, ap, ◌∙◌, subst}
-use Rattle.compound.specs.States.{shared}
+use Rattle.std.proofs.Common.{◌≡◌, ℕ, refl, sym, ap, ◌∙◌, subst}
+use Rattle.compound.specs.States.{Agrees, shared}
 use Rattle.fs.specs.FileSystem.{FileSystem}
 use Rattle.fs.specs.Views.{fs_of}
 use Rattle.opens.specs.Views.{opens_of}
 use Rattle.session.specs.Views.{table_of}
 use Rattle.server.specs.Connections.{connections_of}
-use Rattle.server.specs.Records.{records_by, AreLimited}
 use Rattle.server.specs.Views.{world_of, volume_of, waits_of, files_of, world_by}
 use Rattle.server.proofs.Turning.{agrees_on}
-use Rattle.server.proofs.Worlds.{all_of_run_on}
+use Rattle.server.proofs.Worlds.{AllOfRun}
 use Rattle.server.proofs.server.Server.defer.Goals as goal
 
 pub invariant_of-self : goal.invariant_of-self
@@ -19,8 +18,7 @@ invariant_of-self g c =
       few = s.few;
       agrees = λ keeps up. agrees_on (fs_of s.fs) (fs_of c.set_deferring.new.self) (table_of s.table) (ap (λ (f : FileSystem). f.volume.run) is) (ap (λ (f : FileSystem). f.volume.seats) is)
           (s.agrees keeps (sym (ap (λ (f : FileSystem). f.volume.is_down) is) ∙ up));
-      of_run = all_of_run_on (fs_of s.fs) (fs_of c.set_deferring.new.self) (table_of s.table) (connections_of s.connections) (ap (λ (f : FileSystem). f.volume.run) is) s.of_run;
-      limited = subst (λ (f : FileSystem). AreLimited (records_by f.volume.version) s.connections) (sym is) s.limited;
+      of_run = subst (λ (r : ℕ). AllOfRun r (connections_of s.connections)) (sym (ap (λ (f : FileSystem). f.volume.run) is)) s.of_run;
     }
 
 pub returns-clause-world : goal.returns-clause-world

@@ -1,15 +1,13 @@
-use Rattle.std.proofs.Common.{◌≡◌, true, Err, inl, inr, refl, sym, ap, ◌∙◌, subst, true≢false, arith}
+use Rattle.std.proofs.Common.{◌≡◌, ℕ, true, false, Err, inl, inr, refl, sym, ap, ◌∙◌, subst, true≢false, arith}
 use Rattle.fs.specs.Views.{fs_of}
 use Rattle.fs.specs.declared.fault.FsFault.TheVariants as fault
 use Rattle.opens.specs.Views.{opens_of}
 use Rattle.session.specs.Views.{table_of}
-use Rattle.layout.specs.declared.versions.VersionNumber.{VersionNumber}
 use Rattle.server.specs.Connections.{connections_of}
-use Rattle.server.specs.Records.{records_by, AreLimited}
 use Rattle.server.specs.Views.{world_of, volume_of, waits_of, server_failures}
 use Rattle.volume.specs.VolumeState.{kept_of}
 use Rattle.server.proofs.Checkpoints.{agrees_flushed, flushed_all, checkpoint_fails, keeps_world, only_device}
-use Rattle.server.proofs.Worlds.{all_of_run_on}
+use Rattle.server.proofs.Worlds.{AllOfRun}
 use Rattle.server.proofs.server.Server.flush.Goals as goal
 
 pub returns-then-is_down-clause-refused : goal.returns-then-is_down-clause-refused
@@ -27,8 +25,7 @@ invariant_of-self g c =
     record {
       few = s.few;
       agrees = λ keeps up. agrees_flushed g.D.Device.keeps_word (fs_of s.fs) (fs_of c.flush.new.self) _ _ (table_of s.table) c.flush.result c.flush.ensures.flushes keeps (s.agrees keeps (sym c.if-is_down.ensures)) up;
-      of_run = all_of_run_on (fs_of s.fs) (fs_of c.flush.new.self) (table_of s.table) (connections_of s.connections) c.flush.ensures.flushes.volume_changes.same.run s.of_run;
-      limited = subst (λ (v : VersionNumber). AreLimited (records_by v) s.connections) (sym c.flush.ensures.flushes.volume_changes.same.version) s.limited;
+      of_run = subst (λ (r : ℕ). AllOfRun r (connections_of s.connections)) (sym c.flush.ensures.flushes.volume_changes.same.run) s.of_run;
     }
 
 pub returns-in-Ok-clause-ok : goal.returns-in-Ok-clause-ok

@@ -5,9 +5,6 @@ use Rattle.model.specs.Server.Runs as runs
 use Rattle.model_tree.specs.Trees.Keyed.{at}
 use Rattle.model_tree.proofs.Trees.KeyedLaws.{at-without_other}
 use Rattle.server.specs.Connections.{connections_of}
-use Rattle.server.specs.Records.{records_by}
-use Rattle.server.specs.Runs.{run_by}
-use Rattle.session.specs.Views.{table_of}
 use Rattle.server.specs.declared.fault.ServerFault.TheVariants as faults
 use Rattle.server.specs.Refused.{view, IsUntouched, RefusesTurn}
 use Rattle.server.specs.Seen.{Stays}
@@ -17,7 +14,7 @@ use Rattle.server.proofs.HangUps.{turned_on, once_on, fewer_left}
 use Rattle.model.proofs.Server.ServedOnceLaws.{hangs_up_table}
 use Rattle.server.proofs.Moves.{does_quietly, same_seen}
 use Rattle.server.proofs.SlabLaws.{stands_none, without_slot, absent, present, removed_count}
-use Rattle.server.proofs.Worlds.{AllOfRun, all_of_run_without, limited_without, hung_up, may_be}
+use Rattle.server.proofs.Worlds.{AllOfRun, all_of_run_without, hung_up, may_be}
 use Rattle.server.proofs.server.Server.hangup.Goals as goal
 
 pub returns-then-is_down-clause-refused : goal.returns-then-is_down-clause-refused
@@ -84,9 +81,8 @@ invariant_of-self g c =
     record {
       few = omega (arith, removed_count mid.connections c.try_remove.new.self c.try_remove.result c.try_remove.ensures.len c.try_remove.ensures.absent, mid.few);
       agrees = mid.agrees;
-      of_run = subst (AllOfRun (run_by (fs_of mid.fs) (table_of mid.table))) (sym (without_slot mid.connections c.try_remove.new.self c.args.conn c.try_remove.ensures.updates))
-          (all_of_run_without (run_by (fs_of mid.fs) (table_of mid.table)) (connections_of mid.connections) c.args.conn mid.of_run);
-      limited = limited_without (records_by (fs_of mid.fs).volume.version) mid.connections c.try_remove.new.self c.args.conn c.try_remove.ensures.updates mid.limited;
+      of_run = subst (AllOfRun (fs_of mid.fs).volume.run) (sym (without_slot mid.connections c.try_remove.new.self c.args.conn c.try_remove.ensures.updates))
+          (all_of_run_without (fs_of mid.fs).volume.run (connections_of mid.connections) c.args.conn mid.of_run);
     }
 
 pub returns-clause-ok : goal.returns-clause-ok

@@ -7,14 +7,12 @@ use Rattle.model.specs.Server.Runs as runs
 use Rattle.model.specs.Server.World.{reply_in}
 use Rattle.session.specs.Views.{table_of}
 use Rattle.server.specs.Connections.{connections_of, connection_view, IsOfRun}
-use Rattle.server.specs.Records.{records_by}
-use Rattle.server.specs.Runs.{run_by}
 use Rattle.server.specs.Seen.{Gave}
 use Rattle.server.specs.Views.{world_of, volume_of, waits_of}
 use Rattle.model.proofs.Server.ServedOnceLaws.{takes_table}
 use Rattle.server.proofs.Moves.{moves_none, does_quietly}
 use Rattle.server.proofs.SlabLaws.{absent, present, stands, stands_none, wrote, wrote_count}
-use Rattle.server.proofs.Worlds.{AllOfRun, all_of_run_with, taken_of_run, limited_wrote, took, stays_down, may_take}
+use Rattle.server.proofs.Worlds.{AllOfRun, all_of_run_with, taken_of_run, took, stays_down, may_take}
 use Rattle.server.proofs.server.Server.take_output.Goals as goal
 
 pub invariant_of-self : goal.invariant_of-self
@@ -22,7 +20,7 @@ invariant_of-self g c =
     let s = c.args.self.now in
     let before = c.in-Some.connection.now in
     let after = c.take_output.new.self in
-    let run = run_by (fs_of s.fs) (table_of s.table) in
+    let run = (fs_of s.fs).volume.run in
     record {
       few = omega (arith, wrote_count s.connections c.args.conn before after c.in-Some.ensures.value, s.few);
       agrees = s.agrees;
@@ -30,7 +28,6 @@ invariant_of-self g c =
           (all_of_run_with run (connections_of s.connections) c.args.conn (connection_view after) s.of_run
           (subst (IsOfRun run) (sym c.take_output.ensures.left)
           (taken_of_run run (connection_view before) (s.of_run c.args.conn (connection_view before) (stands s.connections c.args.conn before c.in-Some.ensures.value)))));
-      limited = limited_wrote (records_by (fs_of s.fs).volume.version) s.connections c.args.conn before after c.in-Some.ensures.value c.take_output.ensures.limits s.limited;
     }
 
 pub returns-in-Some-clause-ok : goal.returns-in-Some-clause-ok

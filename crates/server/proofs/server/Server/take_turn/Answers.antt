@@ -1,4 +1,4 @@
-use Rattle.std.proofs.Common.{◌≡◌, Some, true, inl, inr, refl, sym, ap, ap₂, ◌∙◌, subst, arith}
+use Rattle.std.proofs.Common.{◌≡◌, ℕ, Some, true, inl, inr, refl, sym, ap, ap₂, ◌∙◌, subst, arith}
 use Rattle.std.specs.Prelude.{map}
 use Rattle.compound.specs.declared.fault.Fault.TheVariants as turns
 use Rattle.slab.specs.Slab.{with_value}
@@ -9,9 +9,6 @@ use Rattle.fs.specs.Views.{fs_of}
 use Rattle.model.specs.Server.Runs as runs
 use Rattle.model.specs.Server.World.{Closed}
 use Rattle.session.specs.Views.{table_of}
-use Rattle.layout.specs.declared.versions.VersionNumber.{VersionNumber}
-use Rattle.server.specs.Records.{records_by, AreLimited}
-use Rattle.server.specs.Runs.{Run, run_by}
 use Rattle.server.specs.Connections.{connections_of, connection_view}
 use Rattle.server.specs.Faults.{turn_fault}
 use Rattle.server.specs.declared.fault.ServerFault.TheVariants as faults
@@ -25,7 +22,7 @@ use Rattle.server.proofs.Pairs.{recent_left}
 use Rattle.server.proofs.Refusals.{told_by, device_told, turn_refused}
 use Rattle.server.proofs.SlabLaws.{stands, stands_none, wrote, wrote_count, rewrote, numbers_rise}
 use Rattle.server.proofs.ServedTurns.{turned, turn_of, failed, broken, gone_on_at, gives_deferred, gives_waiting, turning_moments}
-use Rattle.server.proofs.Worlds.{may_be, AllOfRun, all_of_run_with, limited_wrote, happened_leaving, failed_from}
+use Rattle.server.proofs.Worlds.{may_be, AllOfRun, all_of_run_with, happened_leaving, failed_from}
 use Rattle.server.proofs.server.Server.take_turn.Goals as goal
 
 pub returns-in_default-clause-refused : goal.returns-in_default-clause-refused
@@ -49,8 +46,7 @@ invariant_of-self-then-is_closed g c =
     record {
       agrees = s.agrees;
       few = omega (arith, wrote_count s.connections c.args.conn before before c.in-Some.ensures.value, s.few);
-      of_run = subst (AllOfRun (run_by (fs_of s.fs) (table_of s.table))) (sym (rewrote s.connections c.args.conn before before c.in-Some.ensures.value refl)) s.of_run;
-      limited = limited_wrote (records_by (fs_of s.fs).volume.version) s.connections c.args.conn before before c.in-Some.ensures.value refl s.limited;
+      of_run = subst (AllOfRun (fs_of s.fs).volume.run) (sym (rewrote s.connections c.args.conn before before c.in-Some.ensures.value refl)) s.of_run;
     }
 
 pub returns-then-is_closed-clause-is_none : goal.returns-then-is_closed-clause-is_none
@@ -79,15 +75,14 @@ invariant_of-self-2 g c =
     let s = c.args.self.now in
     let before = c.in-Some.connection.now in
     let after = c.turn.new.self in
-    let run = run_by (fs_of s.fs) (table_of s.table) in
+    let run = (fs_of s.fs).volume.run in
+    let same_run : (fs_of c.turn.new.engine.fs.now).volume.run ≡ run = c.turn.ensures.volume.volume_changes.same.run in
     record {
       agrees = c.turn.new.engine.agrees;
       few = omega (arith, wrote_count s.connections c.args.conn before after c.in-Some.ensures.value, s.few);
-      of_run = subst (λ (r : Run). AllOfRun r (connections_of (with_value s.connections c.args.conn after))) (sym c.turn.ensures.run.0)
+      of_run = subst (λ (r : ℕ). AllOfRun r (connections_of (with_value s.connections c.args.conn after))) (sym same_run)
           (subst (AllOfRun run) (sym (wrote s.connections c.args.conn before after c.in-Some.ensures.value))
-          (all_of_run_with run (connections_of s.connections) c.args.conn (connection_view after) s.of_run c.turn.ensures.run.1));
-      limited = subst (λ (v : VersionNumber). AreLimited (records_by v) (with_value s.connections c.args.conn after)) (sym c.turn.ensures.volume.volume_changes.same.version)
-          (limited_wrote (records_by (fs_of s.fs).volume.version) s.connections c.args.conn before after c.in-Some.ensures.value c.turn.ensures.limits s.limited);
+          (all_of_run_with run (connections_of s.connections) c.args.conn (connection_view after) s.of_run c.turn.ensures.run));
     }
 
 pub returns-in_err-turn-clause-fails : goal.returns-in_err-turn-clause-fails

@@ -1,4 +1,4 @@
-use Rattle.std.proofs.Common.{false, OnOk, IfErr, ap, ◌∙◌, subst}
+use Rattle.std.proofs.Common.{◌≡◌, Bool, false, OnOk, OnErr, IfErr, ap, sym, refl, ◌∙◌, subst}
 use Rattle.model.specs.Server.Runs as runs
 use Rattle.server.specs.Connections.{turn_view}
 use Rattle.server.specs.declared.turn.Turn.{Turn}
@@ -6,7 +6,7 @@ use Rattle.volume.specs.VolumeState.{call_cost}
 use Rattle.server.specs.Refused.{View, view, connection_at, IsUntouched, HasTurned, RefusesTurn, UsesDevice}
 use Rattle.volume.specs.VolumeState.{VolumeState}
 use Rattle.server.specs.Seen.{Turned}
-use Rattle.server.specs.Views.{files_of, Serves, ServesAs}
+use Rattle.server.specs.Views.{files_of, waits_of, server_failures, Serves, ServesLater, ServesAs}
 use Rattle.server.proofs.Deferring.{if_ok, same_view, serves_so, fails_so}
 use Rattle.server.proofs.server.Server.turn.Goals as goal
 

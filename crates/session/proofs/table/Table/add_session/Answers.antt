@@ -7,7 +7,6 @@ use Rattle.wire.specs.AnswerViews.{create_session_view}
 use Rattle.session.specs.Given.{AreGiven}
 use Rattle.session.specs.Views.{settings_of, table_of, table_by, roll_of, book_of, clients_of, sessions_of, session_of}
 use Rattle.session.proofs.Giving.{given_moved}
-use Rattle.session.proofs.Shortness.{short_added}
 use Rattle.session.proofs.table.Table.add_session.Goals as goal
 
 pub add-requires-clause-later : goal.add-requires-clause-later
@@ -25,8 +24,6 @@ invariant_of-self c =
       counted = subst (λ (n : ℕ). 1 ≤ n) (sym run) old.counted;
       given = subst (λ (n : ℕ). AreGiven n c.add.new.self.serial (seats_view c.edit_seats.new.seats)) (sym run)
           (given_moved old.clients.run c.args.plan.session.serial c.add.new.self.serial _ _ (ap (λ (book : ℕ × List Session). book.0) c.add.ensures) c.edit_seats.ensures opens.given);
-      short = λ all.
-          short_added old.sessions.list.items c.add.new.self.list.items (is_of_clients c.deref-2.result.now) (session_of c.args.plan.session) (ap (λ (book : ℕ × List Session). book.1) c.add.ensures) (opens.short all) (old.short all);
     }
 
 pub returns : goal.returns

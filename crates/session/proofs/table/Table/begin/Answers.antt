@@ -1,17 +1,13 @@
-use Rattle.std.proofs.Common.{ℕ, ◌≤◌, List, Some, Ok, refl, sym, ap, ◌∙◌, rules, tests}
+use Rattle.std.proofs.Common.{Some, Ok, refl, sym, ap, ◌∙◌}
 use Rattle.std.specs.Option.{option_map, option_copied}
 use Rattle.std.proofs.lemmas.Result.{err_from_is_err_and}
 use Rattle.std.specs.Result.{result_err}
 use Rattle.model_tree.specs.Seats.Seats.{seat_of}
 use Rattle.model_tree.specs.Seats.SeatViews.{seats_view}
-use Rattle.model.specs.Sessions.Session.{begin, begin_by, is_session, started, with_slot, Session as Known}
+use Rattle.model.specs.Sessions.Session.{begin, begin_by, started, Session as Known}
 use Rattle.wire.specs.ArgumentViews.{sequence_view}
-use Rattle.session.specs.Slots.{running_slot}
 use Rattle.session.specs.Views.{table_of, table_by, roll_of, seating_of, session_of, reply_kept, kept_reply_in}
 use Rattle.session.proofs.Beginning.{refuses, replays, runs, replays_kept, dead_refuses, dead_replays}
-use Rattle.session.proofs.Giving.{given_moved}
-use Rattle.session.proofs.Lists.{find_all}
-use Rattle.session.proofs.Shortness.{short_changed}
 use Rattle.session.proofs.table.Table.begin.Goals as goal
 
 pub returns-in_err-check_dead-clause-answered : goal.returns-in_err-check_dead-clause-answered
@@ -74,8 +70,6 @@ returns-clause-answered c =
       found,
       (
         refl,
-        refl,
-        search (rules, tests),
         ap (λ highest. record {
           session = c.args.arguments.now.session;
           sequence = c.args.arguments.now.sequence;
@@ -87,30 +81,4 @@ returns-clause-answered c =
       ),
       ap (begin_by c.args.uid c.args.count arguments (seats_view c.args.self.now.seats)) found ∙ next,
       ap (λ book. table_by (roll_of c.args.self.now.clients) book (seating_of c.args.self.now)) c.start.ensures,
-    )
-
-pub invariant_of-self-clause-given : goal.invariant_of-self-clause-given
-unfolding table_of
-invariant_of-self-clause-given c =
-    let old = c.args.self.now in
-    given_moved old.clients.run old.sessions.serial _ _ _ (ap (λ (book : ℕ × List Known). book.0) c.start.ensures) refl old.given
-
-pub invariant_of-self-clause-short : goal.invariant_of-self-clause-short
-unfolding table_of
-invariant_of-self-clause-short c all =
-    let old = c.args.self.now in
-    let arguments = c.args.arguments.now in
-    short_changed old.sessions.list.items c.start.new.self.list.items (is_session arguments.session) (with_slot arguments.slot (running_slot arguments.sequence c.args.uid)) (λ session. refl) (ap (λ (book : ℕ × List Known). book.1) c.start.ensures) (old.short all)
-
-pub returns-clause-room : goal.returns-clause-room
-unfolding table_of
-returns-clause-room c =
-    let old = c.args.self.now in
-    let session : Known = session_of c.in-Some.session.now in
-    let found = sym c.find.ensures ∙ ap (λ r. option_map session_of (option_copied r)) c.in-Some.is in (
-      c.in-Some.session.now.short,
-      (
-        c.in-Some.session.now.long,
-        λ all. find_all session_of (is_session c.args.arguments.now.session) (λ (known : Known). known.reply_bytes ≤ 16384) old.sessions.list.items (old.short all) session found,
-      ),
     )

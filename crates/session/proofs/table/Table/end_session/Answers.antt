@@ -5,7 +5,6 @@ use Rattle.model.specs.Sessions.Session.{Session, is_session, without_where}
 use Rattle.session.specs.Views.{settings_of, table_of, table_by, roll_of, sessions_of}
 use Rattle.session.proofs.Giving.{given_freed, given_moved}
 use Rattle.session.proofs.Holding.{destroyed}
-use Rattle.session.proofs.Shortness.{short_kept}
 use Rattle.session.proofs.table.Table.end_session.Goals as goal
 
 pub invariant_of-self : goal.invariant_of-self
@@ -16,7 +15,6 @@ invariant_of-self c =
     record {
       counted = old.counted;
       given = given_moved old.clients.run old.sessions.serial _ (freed gone (seats_view old.seats)) _ (ap (λ (book : ℕ × List Session). book.0) c.remove.ensures) (c.edit_seats.ensures ∙ c.requires) (given_freed gone _ _ _ old.given);
-      short = λ all. short_kept old.sessions.list.items c.remove.new.self.list.items (is_session c.args.id.now) (ap (λ (book : ℕ × List Session). book.1) c.remove.ensures) (old.short all);
     }
 
 pub returns : goal.returns

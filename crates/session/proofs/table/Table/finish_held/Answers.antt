@@ -1,10 +1,8 @@
-use Rattle.std.proofs.Common.{ℕ, List, find, refl, ap, ◌∙◌}
+use Rattle.std.proofs.Common.{ℕ, List, find, ap, ◌∙◌}
 use Rattle.model_tree.specs.Seats.SeatViews.{seats_view}
-use Rattle.model.specs.Sessions.Session.{Session, Kept, is_session}
-use Rattle.session.specs.Slots.{with_state}
+use Rattle.model.specs.Sessions.Session.{Session, is_session}
 use Rattle.session.specs.Views.{table_of, sessions_of}
 use Rattle.session.proofs.Giving.{given_held, given_moved}
-use Rattle.session.proofs.Shortness.{short_changed}
 use Rattle.session.proofs.table.Table.finish_held.Goals as goal
 
 pub invariant_of-self : goal.invariant_of-self
@@ -15,5 +13,4 @@ invariant_of-self c =
       counted = old.counted;
       given = given_moved old.clients.run old.sessions.serial _ _ _ (ap (λ (book : ℕ × List Session). book.0) c.keep-former.ensures) (c.edit_seats.ensures ∙ c.requires.planned)
           (given_held c.args.id.now c.args.slot c.args.reply.items _ _ (seats_view old.seats) (find (is_session c.args.id.now) (sessions_of old.sessions)) old.given);
-      short = λ all. short_changed old.sessions.list.items c.keep-former.new.self.list.items (is_session c.args.id.now) (with_state c.args.slot (Kept c.args.reply.items)) (λ session. refl) (ap (λ (book : ℕ × List Session). book.1) c.keep-former.ensures) (old.short all);
     }

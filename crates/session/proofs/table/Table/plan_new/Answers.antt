@@ -1,11 +1,11 @@
-use Rattle.std.proofs.Common.{ℕ, ◌+◌, Bool, if◌then◌else◌, List, Option, is_some, min, arith, Ok, refl, sym, ap, ◌∙◌, subst}
-use Rattle.model.specs.declared.holding.Holding.{Holding}
+use Rattle.std.proofs.Common.{ℕ, ◌+◌, ◌<◌, Bool, if◌then◌else◌, List, IfSome, is_some, Ok, refl, sym, ap, ◌∙◌, subst}
+use Rattle.std.proofs.lemmas.List.{length-map}
 use Rattle.model.specs.Operations.Operation.{Channel, CreateSessionArguments}
 use Rattle.model.specs.Operations.Answer.{CreateSessionAnswer}
 use Rattle.model_tree.specs.Seats.Seats.{Seats}
 use Rattle.model_tree.specs.Seats.SeatEdits.{SeatEdit, CanEditAll, edited_all}
-use Rattle.model_tree.specs.Seats.SeatViews.{seats_view}
-use Rattle.model.specs.Sessions.Session.{Client, Session, Table, limits_for, most_reply, fore_channel, gives_way}
+use Rattle.model_tree.specs.Seats.SeatViews.{place_view, seats_view}
+use Rattle.model.specs.Sessions.Session.{Client, Session, Table, limits_for, fore_channel, gives_way}
 use Rattle.wire.specs.ArgumentViews.{create_session_view}
 use Rattle.wire.specs.SmallViews.{channel_view}
 use Rattle.session.specs.Given.{AreGiven}
@@ -13,7 +13,7 @@ use Rattle.session.specs.Limits.{limits_of}
 use Rattle.session.specs.Seating.{edits_with, gives_way_if, place_for, seat_with}
 use Rattle.session.specs.Views.{table_of, client_of}
 use Rattle.session.proofs.Giving.{given_moved, given_runs, run_told, serial_told}
-use Rattle.session.proofs.Opening.{answer_at, session_at, most_long, seat_at, seat_few, created_is, seats_is, table_is}
+use Rattle.session.proofs.Opening.{answer_at, seat_at, seat_few, created_is, seats_is, table_is}
 use Rattle.session.proofs.Taking.{can_edit, found_first, given_edited, place_within}
 use Rattle.session.proofs.table.Table.plan_new.Goals as goal
 
@@ -38,14 +38,13 @@ returns-clause-planned c =
     let place = c.place_for-place.result in
     let placed = c.place_for-place.ensures ∙ ap (λ (lacks : Bool). place_for lacks arguments client table) c.lacks_seat-lacks.ensures in
     let fore : Channel = channel_view c.fore_channel-fore.result in
-    let channel = c.fore_channel-fore.ensures ∙ ap (λ (b : Bool). fore_channel (limits_for (limits_of c.args.limits) b) c.most_reply-most_reply.result arguments.fore) c.is_some.ensures
-    ∙ ap (λ (most : ℕ). fore_channel (limits_for (limits_of c.args.limits) (is_some place)) most arguments.fore) c.most_reply-most_reply.ensures in
+    let channel = c.fore_channel-fore.ensures ∙ ap (λ (b : Bool). fore_channel (limits_for (limits_of c.args.limits) b) arguments.fore) c.is_some.ensures in
     let flags = c.answered_flags.ensures ∙ ap (λ (b : Bool). if b then 1 else 0) c.is_some-2.ensures in
     let wanted : CreateSessionAnswer = answer_at arguments serial client.number (is_some place) fore in
     let answered =
     ap (λ (id : List ℕ). record wanted { session = id; flags = c.answered_flags.result }) c.session_id-id.ensures
     ∙ ap (λ (n : ℕ). record wanted { flags = n }) flags in
-    let made = c.in_ok-session.ensures ∙ ap (λ (cached : Option ℕ). record (session_at (limits_of c.args.limits) serial client.number fore) { cached_bytes = cached }) c.cached_bytes-cached.ensures in
+    let made = c.in_ok-session.ensures in
     let gone = gives_way arguments client table in
     let seat = seat_at (limits_of c.args.limits) arguments client table place placed fore channel in
     let edits = c.in_ok-edits.ensures
@@ -69,9 +68,6 @@ returns-clause-planned c =
         ends = c.in_ok-ended.ensures;
         serial = later;
         given = given_moved run (serial + 1) _ _ _ later refl given;
-        short = λ all.
-            let bytes = ap (λ (s : Session). s.reply_bytes) made ∙ ap (λ (c : Channel). c.max_response_size) channel ∙ ap (λ (h : Holding). min arguments.fore.max_response_size (most_reply (limits_of c.args.limits) h)) all in
-            omega (arith, bytes);
         table = table_is (limits_of c.args.limits) arguments client table place placed fore channel _ _ _ _ _ _ named later answered c.in_ok-ended.ensures made after;
       };
     }
@@ -90,8 +86,7 @@ returns-clause-edits c =
     let place = c.place_for-place.result in
     let placed = c.place_for-place.ensures ∙ ap (λ (lacks : Bool). place_for lacks arguments client table) c.lacks_seat-lacks.ensures in
     let fore : Channel = channel_view c.fore_channel-fore.result in
-    let channel = c.fore_channel-fore.ensures ∙ ap (λ (b : Bool). fore_channel (limits_for limits b) c.most_reply-most_reply.result arguments.fore) c.is_some.ensures
-    ∙ ap (λ (most : ℕ). fore_channel (limits_for limits (is_some place)) most arguments.fore) c.most_reply-most_reply.ensures in
+    let channel = c.fore_channel-fore.ensures ∙ ap (λ (b : Bool). fore_channel (limits_for limits b) arguments.fore) c.is_some.ensures in
     let gone = gives_way arguments client table in
     let seat = seat_at limits arguments client table place placed fore channel in
     let edits = c.in_ok-edits.ensures
@@ -107,10 +102,3 @@ returns-clause-edits c =
           (can_edit gone seat limits.seat_slots seats place (seat_few limits arguments client table place placed fore channel) found);
       of_runs = given_runs run (serial + 1) _ given;
     }
-
-pub new-requires-clause-long : goal.new-requires-clause-long
-unfolding table_of
-new-requires-clause-long c =
-    let long = most_long (limits_of c.args.limits) c.args.self.now.settings.holding c.args.limits.least in
-    let bytes = ap (λ (c : Channel). c.max_response_size) c.fore_channel-fore.ensures in
-    omega (arith, long, bytes, c.most_reply-most_reply.ensures, c.requires.long)

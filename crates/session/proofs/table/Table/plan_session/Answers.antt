@@ -1,7 +1,5 @@
-use Rattle.std.proofs.Common.{ℕ, List, ap, ◌∙◌}
-use Rattle.model.specs.Sessions.Session.{Session}
+use Rattle.std.proofs.Common.{ap, ◌∙◌}
 use Rattle.session.specs.Views.{table_of, table_by, roll_of, seating_of}
-use Rattle.session.proofs.Shortness.{short_same}
 use Rattle.session.proofs.table.Table.plan_session.Goals as goal
 use Rattle.session.proofs.table.Table.plan_session.Goals.{in-New+in_ok-reserve, in_default}
 
@@ -16,7 +14,3 @@ returns-clause-same c =
       | in-New+in_ok-reserve w ↦ ap table_of w.self-is ∙ ap (λ book. table_by (roll_of c.args.self.now.clients) book (seating_of c.args.self.now)) w.reserve.ensures.same
       | in_default w ↦ ap table_of w.self-is
     ]
-
-pub invariant_of-self-clause-short : goal.invariant_of-self-clause-short
-invariant_of-self-clause-short c all =
-    short_same c.args.self.now.sessions.list.items c.reserve.new.self.list.items (ap (λ (book : ℕ × List Session). book.1) c.reserve.ensures.same) (c.args.self.now.short all)

@@ -7,9 +7,10 @@ use Rattle.tree_edits.proofs.BlankLaws.{each_outline}
 use Rattle.disk.specs.Moments.{moment}
 use Rattle.journal.specs.Calls.{IsSafe, HasApplied}
 use Rattle.journal.specs.Journal.{log_of, journal_failures}
-use Rattle.journal.specs.Layout.{AreTargets, max_updates, targets}
+use Rattle.journal.specs.Layout.{AreTargets, targets}
 use Rattle.journal.specs.declared.layout.LogArea.{LogArea}
 use Rattle.journal.specs.Log.{Log, AnswersByDevice, MakesAtMost, contents}
+use Rattle.journal.proofs.Journals.{takes_enough}
 use Rattle.layout.specs.CachedNodes.{CachedNode}
 use Rattle.layout.specs.Health.{Health}
 use Rattle.layout.specs.declared.versions.Marking.{Marking}
@@ -25,10 +26,10 @@ use Rattle.volume.specs.Refusals.{fault_of}
 use Rattle.volume.specs.Views.{volume_state_by, volume_state, volume_failures}
 use Rattle.volume.specs.VolumeState.{with_tree}
 use Rattle.volume.proofs.ApplyLaws.{applied_serves, applied_tree, apply_done, apply_refused, refused_up}
-use Rattle.volume.proofs.ChangeLaws.{behind_serving, ends_below, few_enough, formed_after, journal_targets, known_after, log_same, may_settle, outline_after, parents_behind, whole_now, whole_volume}
+use Rattle.volume.proofs.ChangeLaws.{behind_serving, ends_below, few_bitmap, formed_after, journal_targets, known_after, log_same, may_settle, outline_after, parents_behind, whole_now, whole_volume}
 use Rattle.volume.proofs.EditLaws.{prefix_room, outline_doable, outline_few}
 use Rattle.volume.proofs.ServeLaws.{flush_costs, is_err_of}
-use Rattle.volume.proofs.StandLaws.{is_number, placed_on}
+use Rattle.volume.proofs.StandLaws.{placed_on}
 use Rattle.model_tree.specs.Trees.Stamp.{stamp}
 use Rattle.tree_edits.specs.Outlines.{tree_without_data}
 use Rattle.volume.proofs.KeepLaws.{left}
@@ -108,12 +109,11 @@ returns-in_err-apply-clause-volume g c =
     let failed : journal_failures c.outcome_of.new.base.journal ≡ journal_failures volume.store.journal = ap (λ (h : Health). h.failed) health in
     let told = is_err_of c.from_residual-in_err-apply.result (fault_of fault) c.from_residual-in_err-apply.ensures.1 in
     let up : old.is_down ≡ false = sym c.is_down.ensures ∙ c.if-is_down.false in
-    let short : length c.in_ok-outcome.outcome.updates.items ≤ max_updates old.area =
-    few_enough volume.version old.area old.size _ (is_number volume.version volume.served) volume.placed
-    (omega (arith, c.requires.change.few, c.in_ok-outcome.ensures.done.count, ap bitmap_sectors c.marking.ensures)) in
+    let short : length c.in_ok-outcome.outcome.updates.items ≤ 48 =
+    omega (arith, c.requires.change.few, c.in_ok-outcome.ensures.done.count, ap bitmap_sectors c.marking.ensures, few_bitmap volume.version) in
     rw told (apply_refused word volume.version volume.limits volume.run volume.table old new (with_tree (volume_state_by volume.version volume.limits volume.run volume.table old) (edited_by (volume_state_by volume.version volume.limits volume.run volume.table old) c.args.edits.now)) _ _ fault
     (subst (λ (log : Log). IsSafe word log new) same c.in_err-apply.ensures.safe) volume.placed up
-    (λ many. (let bound = (c.in_err-apply.ensures.too_many (ap (λ (log : Log). log.is_down) same ∙ up)).0 (ap (λ x. Err x) many) in omega (arith, bound, short, ap (λ (log : Log). max_updates log.area) same)))
+    (λ many. (let bound = (c.in_err-apply.ensures.too_many (ap (λ (log : Log). log.is_down) same ∙ up)).0 (ap (λ x. Err x) many) in omega (arith, bound, short, takes_enough c.outcome_of.new.base.journal)))
     (subst (λ (log : Log). AnswersByDevice {T = Unit {0}} log new (journal_failures volume.store.journal) (journal_failures c.apply.new.self) (Err fault)) same
     (subst (λ (n : ℕ). AnswersByDevice {T = Unit {0}} mid new n (journal_failures c.apply.new.self) (Err fault)) failed c.in_err-apply.ensures.answers))
     c.in_err-apply.ensures.refuses)
